@@ -1,0 +1,5 @@
+pub mod Texts
+pub mod Order
+pub mod Updates
+pub mod Grammar
+pub mod Judging

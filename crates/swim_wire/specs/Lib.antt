@@ -1,0 +1,6 @@
+pub mod Numbers
+pub mod Codes
+pub mod Spelling
+pub mod Faults
+pub mod Reading
+pub mod Decoding

@@ -1,0 +1,149 @@
+//! A datagram as plain data.
+
+ghost use Rattle.std.specs.Prelude.{◌≡◌, ◌≢◌, ◌↔◌, IsTrue, Some, None, IfSome, IfNone};
+ghost use Rattle.swim_wire.specs.Codes.{kind_code, MayHaveZero};
+ghost use Rattle.swim_wire.specs.declared.datagram.Kind.{Kind as Kinds};
+
+use crate::cursor::Cursor;
+use crate::endpoint::Endpoint;
+use crate::update::{NUMBER_MAX, Update};
+use arrayvec::ArrayVec;
+
+/// The most updates that a datagram holds.
+pub const UPDATES_MAX: usize = 30;
+
+/// The greatest length of a datagram, in bytes.
+pub const DATAGRAM_MAX: usize = 512;
+
+/// The bytes that begin each datagram.
+pub(crate) const MAGIC: [u8; 4] = *b"SWIM";
+
+/// The version of the format.
+pub(crate) const VERSION: u8 = 1;
+
+/// Offsets in the head, in bytes.
+pub(crate) const VERSION_AT: usize = 4;
+
+pub(crate) const KIND_AT: usize = 5;
+
+pub(crate) const COUNT_AT: usize = 6;
+
+pub(crate) const RESERVED_AT: usize = 7;
+
+pub(crate) const GROUP_AT: usize = 8;
+
+pub(crate) const SEQ_AT: usize = 16;
+
+pub(crate) const SENDER_AT: usize = 20;
+
+pub(crate) const SUBJECT_AT: usize = 26;
+
+/// The length of the head, in bytes, which is where the updates begin.
+pub(crate) const HEAD_LEN: usize = 32;
+
+/// The length of an update, in bytes, and offsets in it.
+pub(crate) const UPDATE_LEN: usize = 16;
+
+pub(crate) const UPDATE_KIND_AT: usize = 0;
+
+pub(crate) const UPDATE_RESERVED_AT: usize = 1;
+
+pub(crate) const UPDATE_WHO_AT: usize = 2;
+
+pub(crate) const UPDATE_NUMBER_AT: usize = 8;
+
+/// The port's offset in the six bytes of an endpoint.
+pub(crate) const PORT_AT: usize = 4;
+
+/// The codes of the two kinds whose subject is a cursor.
+pub(crate) const JOIN: u8 = 4;
+
+pub(crate) const PAGE: u8 = 5;
+
+/// What a datagram asks or tells (SWIM, sections 3.1 and 4.1; join and page are this format's own).
+#[derive(Clone, Copy, Debug, PartialEq, Eq)]
+pub enum Kind {
+    /// Asks the subject whether it is there.
+    Ping,
+    /// Asks the receiver to ping the subject.
+    PingReq,
+    /// Vouches for the subject.
+    Ack,
+    /// Asks for the updates about the members after the subject, a cursor.
+    Join,
+    /// Answers a join with the same cursor.
+    Page,
+}
+
+impl Kind {
+    /// The kind with this code, or none: 1 ping, 2 ping-req, 3 ack, 4 join, 5 page.
+    pub fn from_code(code: u8) -> Option<Kind>
+        ensures some { IfSome result (λ kind. code ≡ kind_code kind) }
+        ensures none { IfNone result ((kind : Kinds) → code ≢ kind_code kind) }
+    {
+        match code {
+            1 => Some(Kind::Ping),
+            2 => Some(Kind::PingReq),
+            3 => Some(Kind::Ack),
+            JOIN => Some(Kind::Join),
+            PAGE => Some(Kind::Page),
+            _ => None,
+        }
+    }
+
+    /// The byte that spells the kind.
+    pub fn code(self) -> u8
+        ensures { result ≡ kind_code self }
+    {
+        match self {
+            Kind::Ping => 1,
+            Kind::PingReq => 2,
+            Kind::Ack => 3,
+            Kind::Join => JOIN,
+            Kind::Page => PAGE,
+        }
+    }
+
+    /// Whether the subject may be the zero cursor, as in a join or a page.
+    pub fn may_have_zero(self) -> bool
+        ensures { IsTrue result ↔ MayHaveZero self }
+    {
+        matches!(self, Kind::Join | Kind::Page)
+    }
+}
+
+/// A datagram: a head and up to 30 updates.
+#[derive(Debug, Drop)]
+pub struct Datagram {
+    /// What the datagram asks or tells.
+    pub kind: Kind,
+    /// The number of the group that the sender belongs to.
+    pub group: u64,
+    /// The sequence number, which an answer repeats.
+    pub seq: u32,
+    /// The member that sends the datagram.
+    pub sender: Endpoint,
+    /// The pinged member in a ping, the target in a ping-req, the member vouched for in an ack, the
+    /// cursor in a join, the answered cursor in a page.
+    pub subject: Cursor,
+    /// In the order of their bytes. Several may be about one member.
+    pub updates: ArrayVec<Update, UPDATES_MAX>,
+}
+
+impl Datagram {
+    ghost use Rattle.swim_wire.specs.Spelling.{HasText};
+
+    /// Whether the datagram has a text: only a join or a page may have the zero cursor for its
+    /// subject, and no number of an update is over `NUMBER_MAX`.
+    pub fn has_text(&self) -> bool
+        ensures { IsTrue result ↔ HasText self.now }
+    {
+        if self.subject.number() == 0 && !self.kind.may_have_zero() {
+            return false;
+        }
+        self.updates
+            .as_slice()
+            .iter()
+            .all(|update| update.number <= NUMBER_MAX)
+    }
+}
