@@ -1,0 +1,9 @@
+pub mod Order
+pub mod Examples
+pub mod Top
+pub mod Tables
+pub mod Told
+pub mod Places
+pub mod Changes
+pub mod Hearing
+pub mod Calling

@@ -1,0 +1,352 @@
+//! The table of the other members.
+
+ghost use Rattle.std.specs.Prelude.{◌≡◌, ◌≢◌, ℕ, ◌+◌, ◌<◌, ◌≤◌, IsTrue, List, length, MatchResult, slice_get, slice_set, nat_le, []};
+ghost use Rattle.std.specs.List.{find, filter, position_or_len};
+ghost use Rattle.std.specs.Option.{option_map, option_copied};
+ghost use Rattle.swim_rules.specs.Rules.{Told, row, rows};
+ghost use Rattle.swim_rules.specs.Rows.{AreInOrder, row_of, answer_to, hear_rows, told_with, is_due, is_eligible, is_of_kind, expired, hear_option, forgotten, remove_option, remove_row, confirmed, is_after, told_option, untold_option, IsTable};
+ghost use Rattle.swim_rules.specs.Places.{IsRowAt, IsGapAt, place, is_there};
+
+use crate::overriding::overrides;
+use arrayvec::ArrayVec;
+use std::marker::Model;
+use swim_wire::{Cursor, Endpoint, Update, UpdateKind};
+
+/// The most rows of a table.
+pub const ROWS_MAX: usize = 256;
+
+/// A row of the table: the update that was accepted last, and when.
+#[derive(Clone, Copy, Debug, PartialEq, Eq)]
+pub struct Row {
+    pub update: Update,
+    /// The tick at which the update was heard.
+    pub since: u64,
+}
+
+impl Default for Row {
+    fn default() -> Row {
+        Row {
+            update: Update::default(),
+            since: 0,
+        }
+    }
+}
+
+/// What became of an update that a table was told.
+#[derive(Clone, Copy, Debug, PartialEq, Eq)]
+pub enum Heard {
+    /// It is the member's row now.
+    Accepted,
+    /// It does not override the member's row, which stays.
+    Kept,
+    /// It is a Confirm about a member without a row, and was ignored.
+    Unknown,
+    /// It is about a member without a row, and was ignored since the table has no room.
+    Full,
+}
+
+/// The rows of the other members, at most `ROWS_MAX`, in the order of their endpoints.
+#[derive(Drop)]
+pub struct Table {
+    me: Endpoint,
+    suspect: u64,
+    forget: u64,
+    rows: ArrayVec<Row, ROWS_MAX>,
+}
+
+impl Model for Table {
+    ghost use Rattle.std.specs.Prelude.{◌≤◌, length};
+    ghost use Rattle.swim_rules.specs.Rows.{Members, AreInOrder, LacksRow};
+
+    ghost Value = { Members };
+
+    ghost view = { λ t. record { me = t.me; suspect = t.suspect; forget = t.forget; rows = t.rows.items } };
+
+    ghost invariant = { λ t. AreInOrder t.rows.items × LacksRow t.me t.rows.items };
+}
+
+/// How many rows stand before `who`.
+fn place_of(rows: &[Row], who: Endpoint) -> usize
+    requires { AreInOrder rows.now }
+    ensures { result ≡ place who rows.now }
+{
+    rows.partition_point(|row| row.update.who < who)
+}
+
+/// Whether the row at this place is that of `who`.
+fn is_row_of(rows: &[Row], place: usize, who: Endpoint) -> bool
+    ensures { result ≡ is_there (slice_get rows.now place) who }
+{
+    match rows.get(place) {
+        Some(row) => row.update.who == who,
+        None => false,
+    }
+}
+
+/// Where the row of `who` stands, or else where it would.
+fn find_row(rows: &[Row], who: Endpoint) -> Result<usize, usize>
+    requires { AreInOrder rows.now }
+    ensures { MatchResult result (IsRowAt rows.now who) (IsGapAt rows.now who) }
+{
+    let place = place_of(rows, who);
+    if is_row_of(rows, place, who) {
+        Ok(place)
+    } else {
+        Err(place)
+    }
+}
+
+/// The row of a member, or none.
+fn row_in(rows: &[Row], who: Endpoint) -> Option<Row>
+    requires { AreInOrder rows.now }
+    ensures { result ≡ row_of rows.now who }
+{
+    match find_row(rows, who) {
+        Ok(place) => Some(rows[place]),
+        Err(_) => None,
+    }
+}
+
+/// Whether a row is of this kind and has stood for so many ticks.
+fn is_row_due(row: &Row, kind: UpdateKind, ticks: u64, now: u64) -> bool
+    ensures { result ≡ is_due kind ticks now row.now }
+{
+    row.update.kind == kind && ticks <= now.saturating_sub(row.since)
+}
+
+/// The Confirm that a Suspect becomes.
+fn confirm(row: &Row) -> Update
+    ensures { result ≡ confirmed row.now }
+{
+    Update {
+        kind: UpdateKind::Confirm,
+        who: row.update.who,
+        number: row.update.number,
+    }
+}
+
+fn member_of(row: &Row) -> Endpoint
+    ensures { result ≡ row.now.update.who }
+{
+    row.update.who
+}
+
+/// The first row of this kind that has stood for so many ticks.
+fn first_due(rows: &[Row], kind: UpdateKind, ticks: u64, now: u64) -> Option<Row>
+    ensures { result ≡ find (is_due kind ticks now) rows.now }
+{
+    for row in rows {
+        if is_row_due(row, kind, ticks, now) {
+            return Some(*row);
+        }
+    }
+    None
+}
+
+/// Puts a row in the place of another.
+fn replace(rows: &mut ArrayVec<Row, ROWS_MAX>, place: usize, row: Row)
+    requires { place < length rows.old.items }
+    ensures { rows.new.items ≡ slice_set rows.old.items place row }
+{
+    rows[place] = row;
+}
+
+/// Hears an update about the member of one of these rows, or about a new one.
+fn hear_in(rows: &mut ArrayVec<Row, ROWS_MAX>, update: Update, now: u64) -> Heard
+    requires { AreInOrder rows.old.items }
+    ensures answer { result ≡ answer_to rows.old.items update }
+    ensures rows { rows.new.items ≡ hear_rows rows.old.items update now }
+    ensures most { length rows.new.items ≤ 256 }
+{
+    let row = Row { update, since: now };
+    match find_row(rows, update.who) {
+        Ok(place) => {
+            if !overrides(&update, &rows[place].update) {
+                return Heard::Kept;
+            }
+            replace(rows, place, row);
+            Heard::Accepted
+        }
+        Err(place) => {
+            if update.kind == UpdateKind::Confirm {
+                return Heard::Unknown;
+            }
+            if rows.is_full() {
+                return Heard::Full;
+            }
+            rows.insert(place, row);
+            Heard::Accepted
+        }
+    }
+}
+
+/// Removes the row of a member, if there is one.
+fn remove_in(rows: &mut ArrayVec<Row, ROWS_MAX>, who: Endpoint)
+    requires { AreInOrder rows.old.items }
+    ensures rows { rows.new.items ≡ remove_row rows.old.items who }
+    ensures most { length rows.new.items ≤ 256 }
+{
+    if let Ok(place) = find_row(rows, who) {
+        rows.remove(place);
+    }
+}
+
+/// Whether a row is Alive or Suspect.
+fn is_row_eligible(row: &Row) -> bool
+    ensures { result ≡ is_eligible row.now }
+{
+    row.update.kind != UpdateKind::Confirm
+}
+
+/// The row at this place, or none past the end.
+fn row_at(rows: &[Row], place: usize) -> Option<Row>
+    ensures { result ≡ slice_get rows.now place }
+{
+    rows.get(place).copied()
+}
+
+/// The first row after a cursor.
+fn first_after(rows: &[Row], cursor: Cursor) -> Option<Row>
+    requires { AreInOrder rows.now }
+    ensures { result ≡ find (is_after cursor) rows.now }
+{
+    let place = rows.partition_point(|row| row.update.who.number() <= cursor.number());
+    row_at(rows, place)
+}
+
+/// The row with this number, from 0, among those that are Alive or Suspect.
+fn nth_eligible(rows: &[Row], number: usize) -> Option<Row>
+    ensures { result ≡ slice_get (filter is_eligible rows.now) number }
+{
+    let mut left = number;
+    for row in rows {
+        if is_row_eligible(row) {
+            if left == 0 {
+                return Some(*row);
+            }
+            left -= 1;
+        }
+    }
+    None
+}
+
+impl Table {
+    /// A table with no rows. It is that of the member `me`, which never gets a row. A Suspect becomes
+    /// Confirm after `suspect` ticks, and a Confirm is forgotten after `forget` ticks.
+    pub fn new(me: Endpoint, suspect: u64, forget: u64) -> Table
+        ensures { result ≡ record { me = me; suspect = suspect; forget = forget; rows = [] } }
+    {
+        Table {
+            me,
+            suspect,
+            forget,
+            rows: ArrayVec::new(),
+        }
+    }
+
+    /// Hears an update about another member at the tick `now`, and answers what became of it.
+    pub fn hear(&mut self, update: Update, now: u64) -> Heard
+        requires { update.who ≢ self.old.me }
+        ensures answer { result ≡ answer_to self.old.rows update }
+        ensures rows { self.new ≡ record self.old { rows = hear_rows self.old.rows update now } }
+        ensures kept { IsTable self.new }
+        // rows that are the tops of what was told stay so
+        ensures tops { (base : List Row) (told : List Told) → rows base told ≡ self.old.rows
+            → rows base (told_with result told update now) ≡ self.new.rows }
+    {
+        hear_in(&mut self.rows, update, now)
+    }
+
+    /// Turns the first Suspect that is due at the tick `now`, in the order of the members, into a
+    /// Confirm with its number, and gives that, or none where no Suspect is due.
+    pub fn expire(&mut self, now: u64) -> Option<Update>
+        ensures answer { result ≡ expired self.old now }
+        ensures rows { self.new ≡ record self.old { rows = hear_option self.old.rows (expired self.old now) now } }
+        ensures kept { IsTable self.new }
+        ensures tops { (base : List Row) (told : List Told) → rows base told ≡ self.old.rows
+            → rows base (told_option told result now) ≡ self.new.rows }
+    {
+        match first_due(&self.rows, UpdateKind::Suspect, self.suspect, now) {
+            None => None,
+            Some(row) => {
+                hear_in(&mut self.rows, confirm(&row), now);
+                Some(confirm(&row))
+            }
+        }
+    }
+
+    /// Forgets the first member whose Confirm is due at the tick `now`, in the order of the members,
+    /// and gives it, or none where no Confirm is due.
+    pub fn forget(&mut self, now: u64) -> Option<Endpoint>
+        ensures answer { result ≡ forgotten self.old now }
+        ensures rows { self.new ≡ record self.old { rows = remove_option self.old.rows (forgotten self.old now) } }
+        ensures kept { IsTable self.new }
+        ensures tops { (base : List Row) (told : List Told) → rows base told ≡ self.old.rows
+            → rows base (untold_option told result) ≡ self.new.rows }
+    {
+        match first_due(&self.rows, UpdateKind::Confirm, self.forget, now) {
+            None => None,
+            Some(row) => {
+                let who = member_of(&row);
+                remove_in(&mut self.rows, who);
+                Some(who)
+            }
+        }
+    }
+
+    /// The row of a member, or none.
+    pub fn get(&self, who: Endpoint) -> Option<Row>
+        ensures row { result ≡ row_of self.now.rows who }
+        // it is the top of what was heard of the member
+        ensures top { (base : List Row) (told : List Told) → rows base told ≡ self.now.rows
+            → result ≡ row base told who }
+        ensures kept { IsTable self.now }
+    {
+        row_in(&self.rows, who)
+    }
+
+    /// The rows, in the order of the members.
+    pub fn rows(&self) -> &[Row]
+        ensures rows { result.now ≡ self.now.rows }
+        ensures kept { IsTable self.now }
+    {
+        &self.rows
+    }
+
+    /// How many rows are of this kind.
+    pub fn count_of(&self, kind: UpdateKind) -> usize
+        ensures count { result ≡ length (filter (is_of_kind kind) self.now.rows) }
+        ensures bound { result ≤ 256 }
+    {
+        self.rows
+            .iter()
+            .filter(|row| row.update.kind == kind)
+            .count()
+    }
+
+    /// The first row after a cursor, in the order of the members, or none.
+    pub fn row_after(&self, cursor: Cursor) -> Option<Row>
+        ensures { result ≡ find (is_after cursor) self.now.rows }
+    {
+        first_after(&self.rows, cursor)
+    }
+
+    /// How many rows are Alive or Suspect.
+    pub fn count(&self) -> usize
+        ensures count { result ≡ length (filter is_eligible self.now.rows) }
+        ensures bound { result ≤ 256 }
+    {
+        self.rows
+            .iter()
+            .filter(|row| row.update.kind != UpdateKind::Confirm)
+            .count()
+    }
+
+    /// The row with this number, from 0, among those that are Alive or Suspect, in the order of the
+    /// members, or none where there are not so many.
+    pub fn eligible(&self, number: usize) -> Option<Row>
+        ensures { result ≡ slice_get (filter is_eligible self.now.rows) number }
+    {
+        nth_eligible(&self.rows, number)
+    }
+}
