@@ -1,0 +1,177 @@
+-- What each change of a member keeps.
+use Rattle.std.proofs.Common.{◌≡◌, ◌≢◌, ℕ, ◌<◌, ◌≤◌, ◌^◌, Bool, true, false, cond, ◌==◌, refl, sym, ◌∙◌, ap, List, [], ◌∷◌, map, length, Option, Some, None, arith}
+use Rattle.std.specs.List.{find, filter, list_all}
+use Rattle.std.specs.Option.{option_map}
+use Rattle.std.proofs.lemmas.Bool.{and_parts, false≢true}
+use Rattle.swim_wire.specs.declared.update.Update.{Update}
+use Rattle.swim_wire.specs.declared.update.UpdateKind.{UpdateKind}
+use Rattle.swim_wire.specs.declared.update.UpdateKind.TheVariants.{Alive, Suspect, Confirm}
+use Rattle.swim_rules.specs.declared.table.Row.{Row}
+use Rattle.swim_rules.specs.declared.table.Heard.TheVariants.{Accepted, Kept}
+use Rattle.swim_rules.specs.Rules.{beats}
+use Rattle.swim_rules.specs.Rows.{Members, IsTable, AreInOrder, answer_to, heard_as, rows_after, hear_rows, put_row, remove_row, row_of, is_due, is_kind, confirmed, expired, forgotten, heard_row, remove_option}
+use Rattle.swim_rules.proofs.Changes.{found_here, found_other, hear-found}
+use Rattle.swim_gossip.specs.declared.buffer.Waiting.{Waiting}
+use Rattle.swim_gossip.specs.Queue.{offered, without, raise_all}
+use Rattle.swim_member.specs.declared.settings.Settings.{Settings}
+use Rattle.swim_member.specs.declared.state.Relay.{Relay}
+use Rattle.swim_member.specs.State.{State}
+use Rattle.swim_member.specs.Fit.{may_say, may_wait, may_stand}
+use Rattle.swim_member.proofs.Lows.{all-raised, all-without, say-offered, say-spoken, stand-put, stand-remove, low-found}
+use Rattle.swim_member.specs.Events.{expire_first}
+use Rattle.swim_member.specs.Steps.{apply_all, is_live}
+use Rattle.swim_member.specs.Kept.{AllWait, IsKept, is_row}
+use Rattle.swim_member.proofs.Waits.{wait-put, wait-own, wait-room, wait-forgotten, wait-raised}
+
+-- another queue in which all wait
+pub keep-queue : (s : Settings) (n t : ℕ) (members : Members) (q p : List Waiting) (made : List Relay) → IsKept s n t members q made → AllWait s.me members.rows p → list_all (may_wait s.me n) p ≡ true → IsKept s n t members p made
+keep-queue s n t members q p made h w low = record { me = h.me; suspect = h.suspect; forget = h.forget; sound = h.sound; table = h.table; wait = w; number = h.number; time = h.time; stand = h.stand; say = low; live = h.live }
+
+-- the own update begins to wait, with the own number as it then is
+pub keep-own : (s : Settings) (n m t : ℕ) (members : Members) (q : List Waiting) (made : List Relay) (u : Update) → u.who ≡ s.me → u.number ≡ m → m ≤ 2 ^ 62 → IsKept s n t members q made → IsKept s m t members (offered q u) made
+keep-own s n m t members q made u e same l h = record { me = h.me; suspect = h.suspect; forget = h.forget; sound = h.sound; table = h.table; wait = wait-own s.me members.rows q u e h.wait; number = l; time = h.time; stand = h.stand; say = say-spoken s.me n m q u e same l h.say; live = h.live }
+
+pub room-own : (s : Settings) (n t : ℕ) (members : Members) (q : List Waiting) (made : List Relay) (u : Update) → u.who ≡ s.me → IsKept s n t members q made → length (without u.who q) < 257
+room-own s n t members q made u e h = wait-room s.me members.rows q u (wait-own s.me members.rows q u e h.wait) h.table.most
+
+-- sends are counted
+pub keep-raised : (s : Settings) (n t : ℕ) (members : Members) (q : List Waiting) (made : List Relay) (sent : List Update) → IsKept s n t members q made → IsKept s n t members (map (raise_all sent) q) made
+keep-raised s n t members q made sent h = keep-queue s n t members q (map (raise_all sent) q) made h (wait-raised s.me members.rows q sent h.wait) (all-raised (may_say s.me n) sent q h.say)
+
+-- an update is accepted
+pub keep-heard : (s : Settings) (n t : ℕ) (members after : Members) (q : List Waiting) (made : List Relay) (u : Update) (now : ℕ) → u.who ≢ s.me → u.number ≤ 2 ^ 62 → answer_to members.rows u ≡ Accepted → after ≡ record members { rows = hear_rows members.rows u now } → IsTable after → IsKept s n t members q made → IsKept s n t after (offered q u) made
+keep-heard s n t members after q made u now other l e k table h =
+    let rows : after.rows ≡ put_row members.rows (record { update = u; since = now }) =
+    ap (λ (m : Members). m.rows) k ∙ ap (λ a. rows_after a members.rows (record { update = u; since = now })) e in
+    let me : after.me ≡ s.me = ap (λ (m : Members). m.me) k ∙ h.me in
+    let suspect : after.suspect ≡ s.suspect = ap (λ (m : Members). m.suspect) k ∙ h.suspect in
+    let forget : after.forget ≡ s.forget = ap (λ (m : Members). m.forget) k ∙ h.forget in
+    record {
+      me = me;
+      suspect = suspect;
+      forget = forget;
+      sound = h.sound;
+      table = table;
+      wait = rw rows (wait-put s.me members.rows q u now h.table.order other h.wait);
+      number = h.number;
+      time = h.time;
+      stand = rw rows (stand-put s.me members.rows (record { update = u; since = now }) other l h.stand);
+      say = say-offered s.me n q u other l h.say;
+      live = h.live;
+    }
+
+pub room-heard : (s : Settings) (n t : ℕ) (members after : Members) (q : List Waiting) (made : List Relay) (u : Update) (now : ℕ) → u.who ≢ s.me → u.number ≤ 2 ^ 62 → answer_to members.rows u ≡ Accepted → after ≡ record members { rows = hear_rows members.rows u now } → IsTable after → IsKept s n t members q made → length (without u.who q) < 257
+room-heard s n t members after q made u now other l e k table h =
+    wait-room s.me after.rows q u (IsKept.wait (keep-heard s n t members after q made u now other l e k table h)) table.most
+
+-- what a search finds passes its test
+pub find-passes : (test : Row → Bool) (rows : List Row) (r : Row) → find test rows ≡ Some r → test r ≡ true
+find-passes test [] r e = absurd (cc)
+find-passes test (x ∷ rows) r e = at (test x) refl e (λ k. find-passes test rows r k)
+  where
+    at : (b : Bool) → test x ≡ b → cond b (Some x) (find test rows) ≡ Some r → (find test rows ≡ Some r → test r ≡ true) → test r ≡ true
+    at true t k f = let same : x ≡ r = cc in rw (sym same) t
+    at false t k f = f k
+
+-- a Suspect that is due is overridden by its Confirm
+pub due-accepted : (ticks now : ℕ) (rows : List Row) (r : Row) → AreInOrder rows → find (is_due Suspect ticks now) rows ≡ Some r → answer_to rows (confirmed r) ≡ Accepted
+due-accepted ticks now rows r order e =
+    ap (λ o. heard_as o (length rows == 256) (confirmed r)) (found_here (is_due Suspect ticks now) rows r order e)
+    ∙ ap (λ b. cond b Accepted Kept) (over r.update.kind (due_kind rows e))
+  where
+    over : (k : UpdateKind) → is_kind Suspect k ≡ true → beats Confirm r.update.number k r.update.number ≡ true
+    over Alive h = refl
+    over Suspect h = refl
+    over Confirm h = absurd (false≢true h)
+
+    passes : (rows : List Row) → find (is_due Suspect ticks now) rows ≡ Some r → is_due Suspect ticks now r ≡ true
+    passes rows e = find-passes (is_due Suspect ticks now) rows r e
+
+    due_kind : (rows : List Row) → find (is_due Suspect ticks now) rows ≡ Some r → is_kind Suspect r.update.kind ≡ true
+    due_kind rows e = (and_parts (is_kind Suspect r.update.kind) _ (passes rows e)).0
+
+-- the row that became Confirm
+pub record ExpiredRow (members : Members) (now : ℕ) (u : Update) : Type 0 where
+  pub row : Row
+  pub found : find (is_due Suspect members.suspect now) members.rows ≡ Some row
+  pub update : confirmed row ≡ u
+
+pub expired-row : (members : Members) (now : ℕ) (u : Update) → expired members now ≡ Some u → ExpiredRow members now u
+expired-row members now u e = by_row (find (is_due Suspect members.suspect now) members.rows) refl e
+  where
+    by_row : (o : Option Row) → find (is_due Suspect members.suspect now) members.rows ≡ o → option_map confirmed o ≡ Some u → ExpiredRow members now u
+    by_row None f k = absurd (cc)
+    by_row (Some r) f k = record { row = r; found = f; update = cc }
+
+pub expired-accepted : (members : Members) (now : ℕ) (u : Update) → IsTable members → expired members now ≡ Some u → answer_to members.rows u ≡ Accepted
+expired-accepted members now u h e =
+    let x : ExpiredRow members now u = expired-row members now u e in
+    ap (answer_to members.rows) (sym x.update) ∙ due-accepted members.suspect now members.rows x.row h.order x.found
+
+pub expired-other : (members : Members) (now : ℕ) (u : Update) → IsTable members → expired members now ≡ Some u → u.who ≢ members.me
+expired-other members now u h e k =
+    let x : ExpiredRow members now u = expired-row members now u e in
+    found_other (is_due Suspect members.suspect now) members.me members.rows x.row x.found h.others (ap (λ (v : Update). v.who) x.update ∙ k)
+
+-- its number is that of the row
+pub expired-low : (me : ℕ) (members : Members) (now : ℕ) (u : Update) → list_all (may_stand me) members.rows ≡ true → expired members now ≡ Some u → u.number ≤ 2 ^ 62
+expired-low me members now u h e =
+    let x : ExpiredRow members now u = expired-row members now u e in
+    let low : x.row.update.number ≤ 2 ^ 62 = low-found me (is_due Suspect members.suspect now) members.rows x.row h x.found in
+    let same : x.row.update.number ≡ u.number = ap (λ (v : Update). v.number) x.update in
+    omega arith
+
+-- the state after a Suspect expired
+pub expired-state : (s : State) (members after : Members) (queue : List Waiting) (u : Update) → members.rows ≡ s.rows → members.suspect ≡ s.settings.suspect → IsTable members → expired members s.time ≡ Some u → after.rows ≡ hear_rows members.rows u s.time → queue ≡ offered s.queue u → record s { rows = after.rows; queue = queue } ≡ apply_all (expire_first (find (is_due Suspect s.settings.suspect s.time) s.rows)) s
+expired-state s members after queue u same ticks h e k q =
+    let x : ExpiredRow members s.time u = expired-row members s.time u e in
+    let found : find (is_due Suspect s.settings.suspect s.time) s.rows ≡ Some x.row =
+    ap (λ n. find (is_due Suspect n s.time) s.rows) (sym ticks) ∙ ap (λ rows. find (is_due Suspect members.suspect s.time) rows) (sym same) ∙ x.found in
+    let heard : after.rows ≡ heard_row (row_of s.rows x.row.update.who) s.rows (record { update = confirmed x.row; since = s.time }) =
+    k ∙ ap (λ v. hear_rows members.rows v s.time) (sym x.update)
+    ∙ hear-found (is_due Suspect members.suspect s.time) members.rows x.row s.time h.order x.found
+    ∙ ap (λ rows. heard_row (row_of rows x.row.update.who) rows (record { update = confirmed x.row; since = s.time })) same in
+    ap (λ rows. record s { rows = rows; queue = queue }) heard
+    ∙ ap (λ w. record s { rows = heard_row (row_of s.rows x.row.update.who) s.rows (record { update = confirmed x.row; since = s.time }); queue = w }) (q ∙ ap (offered s.queue) (sym x.update))
+    ∙ ap (λ o. apply_all (expire_first o) s) (sym found)
+
+-- the row that was forgotten
+pub record ForgottenRow (members : Members) (now x : ℕ) : Type 0 where
+  pub row : Row
+  pub found : find (is_due Confirm members.forget now) members.rows ≡ Some row
+  pub name : row.update.who ≡ x
+
+pub forgotten-row : (members : Members) (now x : ℕ) → forgotten members now ≡ Some x → ForgottenRow members now x
+forgotten-row members now x e = by_row (find (is_due Confirm members.forget now) members.rows) refl e
+  where
+    by_row : (o : Option Row) → find (is_due Confirm members.forget now) members.rows ≡ o → option_map (λ (r : Row). r.update.who) o ≡ Some x → ForgottenRow members now x
+    by_row None f k = absurd (cc)
+    by_row (Some r) f k = record { row = r; found = f; name = cc }
+
+pub keep-forgotten : (s : Settings) (n t : ℕ) (members after : Members) (q : List Waiting) (made : List Relay) (now x : ℕ) → forgotten members now ≡ Some x → after ≡ record members { rows = remove_option members.rows (forgotten members now) } → IsTable after → IsKept s n t members q made → IsKept s n t after (without x q) made
+keep-forgotten s n t members after q made now x e k table h =
+    let f : ForgottenRow members now x = forgotten-row members now x e in
+    let rows : after.rows ≡ remove_row members.rows x = ap (λ (m : Members). m.rows) k ∙ ap (remove_option members.rows) e in
+    let there : row_of members.rows x ≡ Some f.row = ap (row_of members.rows) (sym f.name) ∙ found_here (is_due Confirm members.forget now) members.rows f.row h.table.order f.found in
+    let me : after.me ≡ s.me = ap (λ (m : Members). m.me) k ∙ h.me in
+    let suspect : after.suspect ≡ s.suspect = ap (λ (m : Members). m.suspect) k ∙ h.suspect in
+    let forget : after.forget ≡ s.forget = ap (λ (m : Members). m.forget) k ∙ h.forget in
+    record {
+      me = me;
+      suspect = suspect;
+      forget = forget;
+      sound = h.sound;
+      table = table;
+      wait = rw rows (wait-forgotten s.me members.rows q x h.table.order
+          (λ i. found_other (is_due Confirm members.forget now) members.me members.rows f.row f.found h.table.others (f.name ∙ i ∙ sym h.me))
+          (ap is_row there) h.wait);
+      number = h.number;
+      time = h.time;
+      stand = rw rows (stand-remove s.me members.rows x h.stand);
+      say = all-without (may_say s.me n) x q h.say;
+      live = h.live;
+    }
+
+-- other relays, all of them live at this time
+pub keep-made : (s : Settings) (n t now : ℕ) (members : Members) (q : List Waiting) (made left : List Relay) → now ≤ 2 ^ 62 → filter (is_live now s.period) left ≡ left → IsKept s n t members q made → IsKept s n now members q left
+keep-made s n t now members q made left l live h = record { me = h.me; suspect = h.suspect; forget = h.forget; sound = h.sound; table = h.table; wait = h.wait; number = h.number; time = l; stand = h.stand; say = h.say; live = live }

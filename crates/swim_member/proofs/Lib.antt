@@ -1,0 +1,13 @@
+pub mod Lows
+pub mod Logs
+pub mod Moves
+pub mod Waits
+pub mod Keeping
+pub mod Pages
+pub mod Parts
+pub mod Received
+pub mod Examples
+pub mod Asking
+pub mod Ticking
+pub mod Showing
+pub mod Bases

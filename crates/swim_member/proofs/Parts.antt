@@ -1,0 +1,58 @@
+-- Rows that are eligible, relays that are the same, the last update, at most one datagram.
+use Rattle.std.proofs.Common.{◌≡◌, ℕ, ◌<◌, ◌≤◌, ◌==◌, Bool, true, false, cond, refl, sym, ◌∙◌, ap, List, [], ◌∷◌, length, suc, Option, Some, None, arith}
+use Rattle.std.specs.List.{filter, list_any, remove}
+use Rattle.std.proofs.lemmas.Bool.{eqb-true, ne_eqb}
+use Rattle.swim_rules.specs.declared.table.Row.{Row}
+use Rattle.swim_rules.specs.Rows.{AreAbove, AreInOrder, row_of, is_eligible}
+use Rattle.swim_rules.proofs.Tables.{order-above}
+use Rattle.std.specs.Option.{option_to_list}
+use Rattle.swim_member.specs.declared.answer.Out.{Out}
+use Rattle.swim_member.specs.declared.state.Relay.{Relay}
+use Rattle.swim_member.specs.Events.{name}
+use Rattle.swim_member.specs.Readings.{is_relay, without_relay}
+use Rattle.swim_member.specs.Steps.{relay_place}
+
+abbrev pub is_eligible_row : Option Row → Bool
+is_eligible_row None = false
+is_eligible_row (Some r) = is_eligible r
+
+none-eligible : (x y : ℕ) (rows : List Row) → AreAbove y rows → x ≤ y → list_any (λ r. name r == x) (filter is_eligible rows) ≡ false
+none-eligible x y [] h l = refl
+none-eligible x y (s ∷ rows) h l = at (is_eligible s) (ne_eqb s.update.who x (λ e. omega arith)) (none-eligible x s.update.who rows h.1 (omega arith))
+  where
+    at : (b : Bool) → (s.update.who == x) ≡ false → list_any (λ r. name r == x) (filter is_eligible rows) ≡ false → list_any (λ r. name r == x) (cond b (s ∷ filter is_eligible rows) (filter is_eligible rows)) ≡ false
+    at true f k = rw f k
+    at false f k = k
+
+-- an eligible row of x is the row of x
+pub eligible-row_of : (rows : List Row) (x : ℕ) → AreInOrder rows → list_any (λ r. name r == x) (filter is_eligible rows) ≡ is_eligible_row (row_of rows x)
+eligible-row_of [] x h = refl
+eligible-row_of (s ∷ rows) x h =
+    at (is_eligible s) (s.update.who == x) refl refl (eligible-row_of rows x (order-above s.update.who rows h))
+  where
+    at : (a b : Bool) → is_eligible s ≡ a → (s.update.who == x) ≡ b → list_any (λ r. name r == x) (filter is_eligible rows) ≡ is_eligible_row (row_of rows x) → list_any (λ r. name r == x) (cond a (s ∷ filter is_eligible rows) (filter is_eligible rows)) ≡ is_eligible_row (cond b (Some s) (row_of rows x))
+    at true true p q k = rw q (sym p)
+    at true false p q k = rw q k
+    at false true p q k = none-eligible x s.update.who rows h (let e : s.update.who ≡ x = eqb-true s.update.who x q in omega arith) ∙ sym p
+    at false false p q k = k
+
+-- a relay is removed at its place
+pub remove-place : (r : Relay) (relays : List Relay) → relay_place r relays < length relays → remove relays (relay_place r relays) ≡ without_relay r relays
+remove-place r [] h = absurd (omega arith)
+remove-place r (q ∷ relays) h = at (is_relay r q) h (λ k. remove-place r relays k)
+  where
+    at : (b : Bool) → cond b 0 (suc (relay_place r relays)) < length (q ∷ relays) → (relay_place r relays < length relays → remove relays (relay_place r relays) ≡ without_relay r relays) → remove (q ∷ relays) (cond b 0 (suc (relay_place r relays))) ≡ cond b relays (q ∷ without_relay r relays)
+    at true k f = refl
+    at false k f = ap (λ rest. q ∷ rest) (f (omega arith))
+
+pub without-place : (r : Relay) (relays : List Relay) → length relays ≤ relay_place r relays → relays ≡ without_relay r relays
+without-place r [] h = refl
+without-place r (q ∷ relays) h = at (is_relay r q) h (λ k. without-place r relays k)
+  where
+    at : (b : Bool) → length (q ∷ relays) ≤ cond b 0 (suc (relay_place r relays)) → (length relays ≤ relay_place r relays → relays ≡ without_relay r relays) → q ∷ relays ≡ cond b relays (q ∷ without_relay r relays)
+    at true k f = absurd (omega arith)
+    at false k f = ap (λ rest. q ∷ rest) (f (omega arith))
+
+pub length-option : (o : Option Out) → length (option_to_list o) ≤ 1
+length-option None = omega arith
+length-option (Some out) = omega arith

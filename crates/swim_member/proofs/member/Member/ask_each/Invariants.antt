@@ -1,0 +1,15 @@
+use Rattle.std.proofs.Common.{◌≡◌, ◌+◌, ◌++◌, drop, length, true}
+use Rattle.std.specs.List.{list_all}
+use Rattle.swim_member.specs.Fit.{is_fit}
+use Rattle.swim_member.specs.Steps.{after_asks, outs_of_asks}
+use Rattle.swim_member.proofs.member.Member.ask_each.Given as goal
+
+-- the asks that were made and those that are left give what all give
+abbrev pub invariant-loop-helper : goal.invariant-loop-helper
+invariant-loop-helper l =
+    record {
+      state : after_asks l.self l.probe (drop l.helper-index l.helpers) ≡ after_asks l.initial.self l.probe l.helpers;
+      outs : l.outs.items ++ outs_of_asks l.self l.probe (drop l.helper-index l.helpers) ≡ l.initial.outs.items ++ outs_of_asks l.initial.self l.probe l.helpers;
+      fit : list_all (is_fit l.initial.self.settings.me l.initial.self.number) l.initial.outs.items ≡ true → list_all (is_fit l.self.settings.me l.self.number) l.outs.items ≡ true;
+      count : length l.outs.items ≡ length l.initial.outs.items + l.helper-index;
+    }

@@ -1,0 +1,22 @@
+use Rattle.std.proofs.Common.{◌≡◌, ◌<◌, ◌+◌, ◌-◌, [], ap, sym, ◌∙◌, replicate, arith, rules}
+use Rattle.swim_member.specs.Events.{Forget, perform}
+use Rattle.swim_member.specs.State.{State}
+use Rattle.swim_member.specs.Steps.{after, apply_all}
+use Rattle.swim_member.proofs.Moves.{after-next, after-idle}
+use Rattle.swim_member.proofs.member.Member.forget_all.Goals as goal
+
+pub loop-preserved : goal.loop-preserved
+loop-preserved c =
+    let below : c.loop.counter < 256 = search (arith, rules) in
+    ap (λ (s : State). after s (replicate (256 - (c.loop.counter + 1)) Forget)) c.forget_one.ensures.state
+    ∙ sym (after-next 256 c.loop.counter c.loop.self Forget below) ∙ c.loop.invariant
+
+pub returns-then-not-forget_one : goal.returns-then-not-forget_one
+returns-then-not-forget_one c =
+    let idle : perform c.loop.self Forget ≡ [] = c.forget_one.ensures.none (search rules) in
+    c.forget_one.ensures.state ∙ ap (λ p. apply_all p c.loop.self) idle ∙ sym (after-idle (256 - c.loop.counter) c.loop.self Forget idle) ∙ c.loop.invariant
+
+pub returns : goal.returns
+returns c =
+    let done : c.loop.counter ≡ 256 = search (arith, rules) in
+    ap (λ k. after c.loop.self (replicate (256 - k) Forget)) (sym done) ∙ c.loop.invariant

@@ -1,0 +1,469 @@
+-- What a member does at each event.
+use Rattle.std.specs.Prelude.{ℕ, ◌+◌, ◌-◌, ◌*◌, ◌%◌, ◌^◌, ◌==◌, ◌&&◌, ◌||◌, nat_lt, nat_le, max, Bool, true, false, not, List, [], ◌∷◌, ◌++◌, map, take, length, if◌then◌else◌, Option, Some, None, Result, Ok, Err, replicate, slice_get, zero, suc}
+use Rattle.std.specs.List.{filter, find, list_any}
+use Rattle.swim_wire.specs.declared.update.Update.{Update}
+use Rattle.swim_wire.specs.declared.update.UpdateKind.{UpdateKind}
+use Rattle.swim_wire.specs.declared.update.UpdateKind.TheVariants.{Alive, Suspect, Confirm}
+use Rattle.swim_rules.specs.declared.table.Row.{Row}
+use Rattle.swim_rules.specs.declared.table.Heard.TheVariants as heard
+use Rattle.swim_rules.specs.declared.table.Heard.{Heard as Hearing}
+use Rattle.swim_rules.specs.Rows.{answer_to, is_eligible, is_kind, is_of_kind, is_due, confirmed, row_of, put_row}
+use Rattle.swim_gossip.specs.Queue.{picked}
+use Rattle.swim_member.specs.declared.state.Phase.{Phase}
+use Rattle.swim_member.specs.declared.state.Phase.TheVariants.{Running, Left, Expelled}
+use Rattle.swim_member.specs.declared.note.Note.{Note}
+use Rattle.swim_member.specs.declared.note.Note.TheVariants as note
+use Rattle.swim_wire.specs.declared.datagram.Kind.{Kind}
+use Rattle.swim_wire.specs.declared.datagram.Kind.TheVariants.{Ping, PingReq, Ack, Join, Page}
+use Rattle.swim_wire.specs.declared.datagram.Datagram.{Datagram}
+use Rattle.swim_wire.specs.declared.fault.WireFault.{WireFault}
+use Rattle.swim_member.specs.declared.event.Event.{Event}
+use Rattle.swim_member.specs.declared.event.Event.TheVariants as event
+use Rattle.swim_member.specs.declared.answer.Out.{Out}
+use Rattle.swim_member.specs.declared.answer.Answer.{Answer}
+use Rattle.swim_member.specs.declared.settings.Settings.{Settings}
+use Rattle.swim_member.specs.declared.state.Probe.{Probe}
+use Rattle.swim_member.specs.declared.state.Relay.{Relay}
+use Rattle.swim_member.specs.declared.state.Joining.{Joining}
+use Rattle.swim_member.specs.declared.state.Counts.{Counts}
+use Rattle.swim_member.specs.State.{State, Happening, Heard, Forgot, Began, Sent, Numbered, Became, Ticked, Took, Probed, Relayed, Unrelayed, Joined, Paged, Noted}
+use Rattle.swim_member.specs.Readings.{state}
+use Rattle.swim_wire.specs.Decoding.{reading}
+
+-- NUMBER_MAX, LEAP and the last moment
+abbrev pub number_max : ℕ
+number_max = 2 ^ 62
+
+abbrev pub leap : ℕ
+leap = 1048576
+
+abbrev pub last_time : ℕ
+last_time = 2 ^ 62
+
+-- the number of binary digits of n, below 2 ^ 9
+abbrev pub bits : ℕ → ℕ
+bits n = if nat_lt n 2 then 1 else (if nat_lt n 4 then 2 else (if nat_lt n 8 then 3 else (if nat_lt n 16 then 4 else (if nat_lt n 32 then 5 else (if nat_lt n 64 then 6 else (if nat_lt n 128 then 7 else (if nat_lt n 256 then 8 else 9)))))))
+
+-- the rows that are Alive or Suspect, in the order of the members
+abbrev pub eligible : State → List Row
+eligible s = filter is_eligible s.rows
+
+abbrev pub name : Row → ℕ
+name row = row.update.who
+
+-- how often an update is sent
+abbrev pub limit : State → ℕ
+limit s = s.settings.lambda * bits (1 + length (eligible s))
+
+-- what a ping, a ping-req or an ack carries now
+abbrev pub carried : State → List Update
+carried s = picked (limit s) 30 s.queue
+
+abbrev pub own_kind : Phase → UpdateKind
+own_kind Running = Alive
+own_kind Left = Confirm
+own_kind Expelled = Confirm
+
+-- the own update of this kind and number
+abbrev pub own_with : State → UpdateKind → ℕ → Update
+own_with s kind n = record { kind = kind; who = s.settings.me; number = n }
+
+abbrev pub own : State → Update
+own s = own_with s (own_kind s.phase) s.number
+
+abbrev pub update_in : Row → Update
+update_in r = r.update
+
+-- the updates of these rows and the own one, in the order of the members
+abbrev pub updates_with : List Row → Update → List Update
+updates_with rows own = map update_in (put_row rows (record { update = own; since = 0 }))
+
+abbrev pub is_update_after : ℕ → Update → Bool
+is_update_after cursor u = nat_lt cursor u.who
+
+-- the next of these after a cursor, at most 30
+abbrev pub page_after : State → ℕ → List Update
+page_after s cursor = take 30 (filter (is_update_after cursor) (updates_with s.rows (own s)))
+
+-- a datagram of this member
+abbrev pub datagram : State → Kind → ℕ → ℕ → List Update → Datagram
+datagram s kind seq subject updates =
+    record { kind = kind; group = s.settings.group; seq = seq; sender = s.settings.me; subject = subject; updates = record { items = updates } }
+
+-- it goes out with what waits
+abbrev pub send : State → ℕ → Kind → ℕ → ℕ → Happening
+send s to kind seq subject = Sent to (datagram s kind seq subject (carried s))
+
+-- Hearing
+
+abbrev pub heard_with : Hearing → Update → List Happening
+heard_with heard.Accepted u = Began u ∷ Heard u ∷ []
+heard_with heard.Kept u = Heard u ∷ []
+heard_with heard.Unknown u = []
+heard_with heard.Full u = Noted note.TableFull ∷ []
+
+-- an update about another member
+abbrev pub hear_other : State → Update → List Happening
+hear_other s u = heard_with (answer_to s.rows u) u
+
+-- a Suspect about oneself that asks for too much is noted
+abbrev pub hear_own : ℕ → Update → List Happening
+hear_own old u =
+    if not (is_kind Suspect u.kind) || nat_lt u.number old then []
+    else (if nat_lt leap (u.number - old) then Noted note.Leap ∷ []
+    else (if u.number == number_max then Noted note.NoNumberLeft ∷ [] else []))
+
+-- The own number
+
+-- the number that an update asks for, or 0
+abbrev pub asked : ℕ → ℕ → Update → ℕ
+asked me old u =
+    if u.who == me && is_kind Suspect u.kind && nat_le old u.number && nat_le (u.number - old) leap && nat_lt u.number number_max
+    then u.number + 1
+    else 0
+
+-- the greatest number that is asked for, or 0
+abbrev pub most_asked : ℕ → ℕ → List Update → ℕ
+most_asked me old [] = 0
+most_asked me old (u ∷ updates) = max (asked me old u) (most_asked me old updates)
+
+-- one of them is a Confirm about me
+abbrev pub confirms : ℕ → List Update → Bool
+confirms me updates = list_any (λ u. u.who == me && is_kind Confirm u.kind) updates
+
+-- the number that the updates of a datagram want, or 0
+abbrev pub wanted_by : State → List Update → ℕ
+wanted_by s updates = if confirms s.settings.me updates then 0 else most_asked s.settings.me s.number updates
+
+abbrev pub settle : State → List Update → ℕ → List Happening
+settle s updates granted =
+    if confirms s.settings.me updates
+    then Noted note.Expelled ∷ Began (own_with s Confirm s.number) ∷ Became Expelled ∷ []
+    else (if wanted_by s updates == 0 then []
+    else (if nat_le (wanted_by s updates) granted
+    then Began (own_with s Alive (wanted_by s updates)) ∷ Numbered (wanted_by s updates) ∷ []
+    else Noted note.SaveFailed ∷ []))
+
+-- Replies
+
+-- x has a row that is Alive or Suspect
+abbrev pub is_eligible_name : State → ℕ → Bool
+is_eligible_name s x = list_any (λ r. name r == x) (eligible s)
+
+abbrev pub on_ping : State → Datagram → List Happening
+on_ping s p =
+    if p.subject == s.settings.me then send s p.sender Ack p.seq s.settings.me ∷ [] else Noted note.Misdirected ∷ []
+
+abbrev pub relay_for : State → Datagram → Relay
+relay_for s p = record { target = p.subject; seq = s.seq; asker = p.sender; asked = p.seq; made = s.time }
+
+-- the target is pinged for the one that asked
+abbrev pub relayed : State → Datagram → List Happening
+relayed s p = send s p.subject Ping s.seq p.subject ∷ Relayed (relay_for s p) ∷ Took ∷ []
+
+abbrev pub on_ping_req : State → Datagram → List Happening
+on_ping_req s p =
+    if p.subject == s.settings.me then send s p.sender Ack p.seq s.settings.me ∷ []
+    else (if not (is_eligible_name s p.subject) then Noted note.UnknownTarget ∷ []
+    else (if length s.relays == 16 then Noted note.RelaysFull ∷ []
+    else relayed s p))
+
+abbrev pub is_for : Datagram → ℕ → ℕ → Bool
+is_for p seq target = p.seq == seq && p.subject == target
+
+-- the ack answers the relay: it comes from the target itself
+abbrev pub is_answered : Datagram → Relay → Bool
+is_answered p r = is_for p r.seq r.target && p.subject == p.sender
+
+abbrev pub on_relayed_ack : State → Datagram → Option Relay → List Happening
+on_relayed_ack s p (Some r) = send s r.asker Ack r.asked r.target ∷ Unrelayed r ∷ []
+on_relayed_ack s p None = Noted note.Unasked ∷ []
+
+abbrev pub on_other_ack : State → Datagram → List Happening
+on_other_ack s p = on_relayed_ack s p (find (is_answered p) s.relays)
+
+abbrev pub on_ack : State → Datagram → Option Probe → List Happening
+on_ack s p (Some q) =
+    if is_for p q.seq q.target
+    then Probed (Some (record { target = q.target; seq = q.seq; answered = true })) ∷ []
+    else on_other_ack s p
+on_ack s p None = on_other_ack s p
+
+abbrev pub on_join : State → Datagram → List Happening
+on_join s p = Sent p.sender (datagram s Page p.seq p.subject (page_after s p.subject)) ∷ []
+
+-- the member of an update, or 0
+abbrev pub name_of : Option Update → ℕ
+name_of None = 0
+name_of (Some u) = u.who
+
+-- the member of the last update, or 0
+abbrev pub last_name : List Update → ℕ
+last_name updates = name_of (slice_get updates (length updates - 1))
+
+-- a join with the next sequence and this cursor
+abbrev pub join_to : State → ℕ → ℕ → List Happening
+join_to s peer cursor =
+    Joined (Some (record { peer = peer; seq = s.seq; cursor = cursor }))
+    ∷ Sent peer (datagram s Join s.seq cursor (own s ∷ [])) ∷ Took ∷ []
+
+abbrev pub on_page : State → Datagram → Option Joining → List Happening
+on_page s p (Some j) =
+    if p.sender == j.peer && p.seq == j.seq && p.subject == j.cursor
+    then (if length p.updates.items == 30 && nat_lt j.cursor (last_name p.updates.items) then join_to s j.peer (last_name p.updates.items) else Joined None ∷ [])
+    else Noted note.Unasked ∷ []
+on_page s p None = Noted note.Unasked ∷ []
+
+abbrev pub reply : State → Kind → Datagram → List Happening
+reply s Ping p = on_ping s p
+reply s PingReq p = on_ping_req s p
+reply s Ack p = on_ack s p s.probe
+reply s Join p = on_join s p
+reply s Page p = on_page s p s.joining
+
+-- Ticks
+
+-- the first row that is due becomes Confirm
+abbrev pub expire_first : Option Row → List Happening
+expire_first None = []
+expire_first (Some r) = Began (confirmed r) ∷ Heard (confirmed r) ∷ []
+
+-- the first row that is due is forgotten
+abbrev pub forget_first : Option Row → List Happening
+forget_first None = []
+forget_first (Some r) = Forgot (name r) ∷ []
+
+-- the moment is this far into a period
+abbrev pub is_at : State → ℕ → Bool
+is_at s moment = s.time % s.settings.period == moment
+
+-- the Suspect about the member of an Alive row
+abbrev pub suspect_of : Row → Update
+suspect_of r = record { kind = Suspect; who = r.update.who; number = r.update.number }
+
+-- an Alive target that did not answer is suspected
+abbrev pub suspected : State → Option Row → List Happening
+suspected s None = []
+suspected s (Some r) =
+    if is_kind Alive r.update.kind then hear_other s (suspect_of r) else []
+
+abbrev pub blame : State → Option Probe → List Happening
+blame s None = []
+blame s (Some q) = if q.answered then [] else suspected s (row_of s.rows q.target)
+
+-- a ping to x begins a probe
+abbrev pub probe_of : State → ℕ → List Happening
+probe_of s x =
+    send s x Ping s.seq x
+    ∷ Probed (Some (record { target = x; seq = s.seq; answered = false })) ∷ Took ∷ []
+
+-- the probe ends, and one of this row begins
+abbrev pub probe_row : State → Option Row → List Happening
+probe_row s None = Probed None ∷ []
+probe_row s (Some r) = probe_of s (name r)
+
+-- the eligible row that a word chooses
+abbrev pub chosen : State → ℕ → Option Row
+chosen s word = if length (eligible s) == 0 then None else slice_get (eligible s) (word % length (eligible s))
+
+-- the members to ask about x: those after it and then those before it
+abbrev pub helpers_about : State → ℕ → List ℕ
+helpers_about s x =
+    take s.settings.helpers (map name (filter (λ r. nat_lt x (name r)) (eligible s) ++ filter (λ r. nat_lt (name r) x) (eligible s)))
+
+abbrev pub ask_one : State → Probe → Option ℕ → List Happening
+ask_one s q None = []
+ask_one s q (Some helper) = send s helper PingReq q.seq q.target ∷ []
+
+abbrev pub ask : State → Option Probe → ℕ → List Happening
+ask s None k = []
+ask s (Some q) k =
+    if not q.answered && is_eligible_name s q.target then ask_one s q (slice_get (helpers_about s q.target) k) else []
+
+-- the k-th ping of a leave
+abbrev pub bye : State → Option Row → List Happening
+bye s None = []
+bye s (Some r) = send s (name r) Ping s.seq (name r) ∷ Took ∷ []
+
+-- Moves
+
+-- one part of what is done at an event; its datagrams carry what waits when it is done
+pub data Move : Type 0 where
+  Hear : Update → Move
+  Settle : List Update → ℕ → Move  -- with the granted ceiling
+  Reply : Datagram → Move
+  Advance : Move
+  Expire : Move
+  Forget : Move
+  Blame : Move
+  Probe_next : ℕ → Move  -- with the word
+  Ask : ℕ → Move
+  Depart : Move
+  Bye : ℕ → Move
+  Join_peer : ℕ → Move
+  Show : ℕ → Move
+  Take : Note → Move
+
+abbrev pub when_running : Phase → List Happening → List Happening
+when_running Running happened = happened
+when_running Left happened = []
+when_running Expelled happened = []
+
+-- what happens by a move, the newest first
+abbrev pub perform : State → Move → List Happening
+perform s (Hear u) = if u.who == s.settings.me then hear_own s.number u else hear_other s u
+perform s (Settle updates granted) = settle s updates granted
+perform s (Reply p) = when_running s.phase (reply s p.kind p)
+perform s Advance = Ticked ∷ []
+perform s Expire = expire_first (find (is_due Suspect s.settings.suspect s.time) s.rows)
+perform s Forget = forget_first (find (is_due Confirm s.settings.forget s.time) s.rows)
+perform s Blame = if is_at s 0 then blame s s.probe else []
+perform s (Probe_next word) = if is_at s 0 then probe_row s (chosen s word) else []
+perform s (Ask k) = if is_at s s.settings.direct then ask s s.probe k else []
+perform s Depart = Began (own_with s Confirm s.number) ∷ Became Left ∷ []
+perform s (Bye k) = if nat_le k s.settings.helpers then bye s (slice_get (eligible s) k) else []
+perform s (Join_peer peer) = if peer == s.settings.me then Noted note.Misdirected ∷ [] else join_to s peer 0
+perform s (Show cursor) = Paged (page_after s cursor) ∷ []
+perform s (Take n) = Noted n ∷ []
+
+-- a move for each of n numbers from k on, in order
+abbrev pub each_from : ℕ → ℕ → (ℕ → Move) → List Move
+each_from k zero f = []
+each_from k (suc n) f = f k ∷ each_from (k + 1) n f
+
+-- what is wrong with a datagram that is not accepted
+abbrev pub refused : Settings → ℕ → Result Datagram WireFault → Option Note
+refused settings from (Err fault) = Some (note.BadDatagram fault)
+refused settings from (Ok p) =
+    if not (p.group == settings.group) then Some note.OtherGroup
+    else (if not (p.sender == from) then Some note.NotSender
+    else (if p.sender == settings.me then Some note.FromSelf else None))
+
+-- what is done at a datagram that is read
+abbrev pub datagram_moves : Datagram → ℕ → List Move
+datagram_moves p granted = map (λ u. Hear u) p.updates.items ++ Settle p.updates.items granted ∷ Reply p ∷ []
+
+abbrev pub accepted_moves : Option Note → Result Datagram WireFault → ℕ → List Move
+accepted_moves (Some n) read granted = Take n ∷ []
+accepted_moves None (Err fault) granted = []
+accepted_moves None (Ok p) granted = datagram_moves p granted
+
+-- what is done at a tick that counts
+abbrev pub tick_moves : ℕ → List Move
+tick_moves word = Advance ∷ replicate 256 Expire ++ replicate 256 Forget ++ Blame ∷ Probe_next word ∷ each_from 0 8 (λ k. Ask k)
+
+abbrev pub moves_of_datagram : State → ℕ → List ℕ → ℕ → List Move
+moves_of_datagram s from bytes granted = accepted_moves (refused s.settings from (reading bytes)) (reading bytes) granted
+
+abbrev pub moves_of_tick : State → ℕ → List Move
+moves_of_tick s word = if s.time == last_time then Take note.TimeOver ∷ [] else tick_moves word
+
+-- what is done at an event while running
+abbrev pub running_moves : State → Event → ℕ → List Move
+running_moves s (event.Tick word) granted = moves_of_tick s word
+running_moves s (event.Datagram from bytes) granted = moves_of_datagram s from bytes.items granted
+running_moves s event.ReceiveFailed granted = Take note.ReceiveFailed ∷ []
+running_moves s (event.SendFailed count) granted = Take (note.SendFailed count) ∷ []
+running_moves s (event.Join peer) granted = Join_peer peer ∷ []
+running_moves s event.Leave granted = Depart ∷ each_from 0 9 (λ k. Bye k)
+running_moves s (event.Members cursor) granted = Show cursor ∷ []
+
+abbrev pub stopped_moves : Event → List Move
+stopped_moves (event.Members cursor) = Show cursor ∷ []
+stopped_moves _ = Take note.Stopped ∷ []
+
+abbrev pub moves_in : Phase → State → Event → ℕ → List Move
+moves_in Running s event granted = running_moves s event granted
+moves_in Left s event granted = stopped_moves event
+moves_in Expelled s event granted = stopped_moves event
+
+abbrev pub moves : State → Event → ℕ → List Move
+moves s event granted = moves_in s.phase s event granted
+
+-- Histories
+
+-- what happens by these moves after what happened before, the newest first
+abbrev pub news : State → List Happening → List Move → List Happening
+news base log [] = []
+news base log (m ∷ moves) = news base (perform (state base log) m ++ log) moves ++ perform (state base log) m
+
+-- an event with the ceiling that was granted for it
+pub record Step : Type 0 where
+  pub event : Event
+  pub granted : ℕ
+
+-- what an event adds to what happened
+abbrev pub news_of : State → List Happening → Event → ℕ → List Happening
+news_of base log event granted = news base log (moves (state base log) event granted)
+
+abbrev pub log_after : State → List Happening → List Step → List Happening
+log_after base log [] = log
+log_after base log (e ∷ steps) = log_after base (news_of base log e.event e.granted ++ log) steps
+
+-- everything that happened in a history
+abbrev pub log_of : State → List Step → List Happening
+log_of base steps = log_after base [] steps
+
+-- the state after a history
+abbrev pub state_of : State → List Step → State
+state_of base steps = state base (log_of base steps)
+
+-- the datagrams among what happened, each with its destination, in order
+abbrev pub outs : List Happening → List Out
+outs [] = []
+outs (Sent to p ∷ log) = outs log ++ record { to = to; datagram = p } ∷ []
+outs (_ ∷ log) = outs log
+
+abbrev pub notes : List Happening → List Note
+notes [] = []
+notes (Noted n ∷ log) = notes log ++ n ∷ []
+notes (_ ∷ log) = notes log
+
+-- the page that was answered, if any
+abbrev pub page : List Happening → List Update
+page [] = []
+page (Paged updates ∷ log) = updates
+page (_ ∷ log) = page log
+
+abbrev pub answer_in : List Happening → Answer
+answer_in happened = record { outs = record { items = outs happened }; notes = record { items = notes happened }; page = record { items = page happened } }
+
+-- what a member answers to an event after a history
+abbrev pub answer : State → List Step → Event → ℕ → Answer
+answer base steps event granted = answer_in (news_of base (log_of base steps) event granted)
+
+-- the number that an event wants, or none
+abbrev pub wanted_in : Option Note → Phase → State → Result Datagram WireFault → Option ℕ
+wanted_in None Running s (Ok p) = if wanted_by s p.updates.items == 0 then None else Some (wanted_by s p.updates.items)
+wanted_in _ _ s read = None
+
+abbrev pub wanted : State → Event → Option ℕ
+wanted s (event.Datagram from bytes) = wanted_in (refused s.settings from (reading bytes.items)) s.phase s (reading bytes.items)
+wanted s _ = None
+
+abbrev pub rows_of_kind : UpdateKind → State → ℕ
+rows_of_kind kind s = length (filter (is_of_kind kind) s.rows)
+
+-- how many rows are Alive, Suspect and Confirm
+abbrev pub counts : State → Counts
+counts s = record { alive = rows_of_kind Alive s; suspect = rows_of_kind Suspect s; confirmed = rows_of_kind Confirm s }
+
+-- the own number after an event that wants a number or none
+abbrev pub number_after : Option ℕ → ℕ → ℕ → ℕ
+number_after None granted n = n
+number_after (Some w) granted n = if nat_le w granted then w else n
+
+-- a new member
+abbrev pub fresh : Settings → ℕ → State
+fresh settings first = record {
+  settings = settings;
+  number = first;
+  phase = Running;
+  time = 0;
+  rows = [];
+  queue = record { update = record { kind = Alive; who = settings.me; number = first }; count = 0 } ∷ [];
+  seq = 1;
+  probe = None;
+  relays = [];
+  joining = None;
+}

@@ -1,0 +1,7 @@
+pub mod Checks
+pub mod State
+pub mod Readings
+pub mod Events
+pub mod Steps
+pub mod Kept
+pub mod Fit

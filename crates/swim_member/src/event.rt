@@ -1,0 +1,45 @@
+//! Events.
+
+ghost use Rattle.std.specs.Prelude.{◌≡◌};
+
+use arrayvec::ArrayVec;
+use swim_wire::{Cursor, Endpoint};
+
+/// The most bytes of a received datagram that are kept: one more than a datagram may have.
+pub const RECEIVED_MAX: usize = 513;
+
+/// What may happen to a member.
+#[derive(Drop)]
+pub enum Event {
+    /// Time goes on by one tick.
+    Tick {
+        /// A random word, which chooses whom to probe.
+        word: u32,
+    },
+    /// Bytes came.
+    Datagram {
+        /// Where they came from.
+        from: Endpoint,
+        /// The bytes. What passes `RECEIVED_MAX` is cut off.
+        bytes: ArrayVec<u8, RECEIVED_MAX>,
+    },
+    /// A receive failed.
+    ReceiveFailed,
+    /// Datagrams of earlier events were not sent.
+    SendFailed {
+        /// How many.
+        count: u32,
+    },
+    /// The member is to ask another for all that it knows.
+    Join {
+        /// Whom to ask.
+        peer: Endpoint,
+    },
+    /// The member is to leave the group.
+    Leave,
+    /// The next members are asked for, at most 30.
+    Members {
+        /// The cursor after which they begin.
+        after: Cursor,
+    },
+}

@@ -1,0 +1,95 @@
+//! Datagrams that are sent, with what they carry.
+
+ghost use Rattle.std.specs.Prelude.{◌≡◌, ℕ, ◌+◌, ◌*◌, ◌<◌, ◌≤◌, ◌%◌, ◌^◌, true, map, length};
+ghost use Rattle.std.specs.List.{filter, list_all};
+ghost use Rattle.swim_member.specs.Fit.{may_say, is_fit};
+ghost use Rattle.swim_rules.specs.Rows.{is_eligible};
+ghost use Rattle.swim_gossip.specs.Queue.{raise_all};
+ghost use Rattle.swim_member.specs.State.{Took};
+ghost use Rattle.swim_member.specs.Readings.{gossips};
+ghost use Rattle.swim_member.specs.Events.{bits, limit, carried, datagram, send};
+ghost use Rattle.swim_member.specs.Steps.{apply};
+
+use crate::answer::Out;
+use crate::member::Member;
+use arrayvec::ArrayVec;
+use swim_wire::{Cursor, Datagram, Endpoint, Kind, UPDATES_MAX, Update};
+
+/// The number of binary digits of `n`.
+fn bits_of(n: usize) -> u32
+    requires { n < 512 }
+    ensures value { result ≡ bits n }
+    ensures bound { result ≤ 9 }
+{
+    if n < 2 {
+        1
+    } else if n < 4 {
+        2
+    } else if n < 8 {
+        3
+    } else if n < 16 {
+        4
+    } else if n < 32 {
+        5
+    } else if n < 64 {
+        6
+    } else if n < 128 {
+        7
+    } else if n < 256 {
+        8
+    } else {
+        9
+    }
+}
+
+impl Member {
+    /// How often an update is sent.
+    fn limit(&self) -> u32
+        ensures { result ≡ limit self.now }
+    {
+        self.settings.lambda * bits_of(1 + self.table.count())
+    }
+
+    /// Gives what the next datagram carries, and counts the send.
+    fn carry(&mut self) -> ArrayVec<Update, UPDATES_MAX>
+        ensures carried { result.items ≡ carried self.old }
+        ensures said { list_all (may_say self.new.settings.me self.new.number) result.items ≡ true }
+        ensures state { self.new ≡ record self.old { queue = map (raise_all (carried self.old)) self.old.queue } }
+    {
+        let limit = self.limit();
+        self.buffer.pick(limit, UPDATES_MAX)
+    }
+
+    /// Takes the next sequence.
+    pub(crate) fn take_seq(&mut self) -> u32
+        ensures seq { result ≡ self.old.seq }
+        ensures state { self.new ≡ apply Took self.old }
+    {
+        let seq = self.seq;
+        self.seq = seq.wrapping_add(1);
+        seq
+    }
+
+    /// A ping, a ping-req or an ack, with what waits.
+    pub(crate) fn send(&mut self, to: Endpoint, kind: Kind, seq: u32, subject: Endpoint) -> Out
+        requires { gossips kind ≡ true }
+        ensures out { result ≡ record { to = to; datagram = datagram self.old kind seq subject (carried self.old) } }
+        ensures state { self.new ≡ apply (send self.old to kind seq subject) self.old }
+        ensures fit { is_fit self.new.settings.me self.new.number result ≡ true }
+    {
+        // an endpoint is not 0, so what is sent has a text
+        let _ = subject.number();
+        let updates = self.carry();
+        Out {
+            to,
+            datagram: Datagram {
+                kind,
+                group: self.settings.group,
+                seq,
+                sender: self.settings.me,
+                subject: Cursor::at(subject),
+                updates,
+            },
+        }
+    }
+}

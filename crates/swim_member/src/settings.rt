@@ -1,0 +1,82 @@
+//! The settings of a member.
+
+ghost use Rattle.std.specs.Prelude.{◌≡◌, Some, OnOk, IfErr};
+ghost use Rattle.swim_member.specs.Checks.{AreSound, fault_of};
+
+use swim_wire::Endpoint;
+use thiserror::Error;
+
+/// The most members that are asked about one target.
+pub const HELPERS_MAX: usize = 8;
+
+/// Which setting is out of its range: the first, in this order.
+#[derive(Clone, Copy, Debug, PartialEq, Eq, Error)]
+pub enum SettingsFault {
+    /// `lambda` is not 1 to 16.
+    #[error("1 Lambda")]
+    Lambda,
+    /// `period` is not 2 to 1,000.
+    #[error("2 Period")]
+    Period,
+    /// `direct` is not 1 to `period - 1`.
+    #[error("3 Direct")]
+    Direct,
+    /// `suspect` is not 1 to 100,000.
+    #[error("4 Suspect")]
+    Suspect,
+    /// `forget` is not 1 to 1,000,000.
+    #[error("5 Forget")]
+    Forget,
+    /// `helpers` is over 8.
+    #[error("6 Helpers")]
+    Helpers,
+}
+
+/// What a member is told at its start. It stays as it is.
+#[derive(Clone, Copy, Debug, PartialEq, Eq)]
+pub struct Settings {
+    /// The group's number. Datagrams of other groups are refused.
+    pub group: u64,
+    /// The own endpoint.
+    pub me: Endpoint,
+    /// How often an update is sent, times the number of binary digits of the count of members; 1 to 16.
+    pub lambda: u32,
+    /// Ticks from one probe to the next, 2 to 1,000.
+    pub period: u64,
+    /// Ticks that a direct answer to a probe may take before others are asked, 1 to `period - 1`.
+    pub direct: u64,
+    /// Ticks after which a Suspect becomes Confirm, 1 to 100,000.
+    pub suspect: u64,
+    /// Ticks after which a Confirm is forgotten, 1 to 1,000,000.
+    pub forget: u64,
+    /// How many others are asked about a target that does not answer, 0 to 8.
+    pub helpers: usize,
+}
+
+impl Settings {
+    /// Judges the settings in the order of the faults, and gives the first that is there.
+    pub fn check(&self) -> Result<(), SettingsFault>
+        ensures ok { OnOk result (AreSound self.now) }
+        ensures err { IfErr result (λ fault. fault_of self.now ≡ Some fault) }
+    {
+        if self.lambda < 1 || 16 < self.lambda {
+            return Err(SettingsFault::Lambda);
+        }
+        if self.period < 2 || 1000 < self.period {
+            return Err(SettingsFault::Period);
+        }
+        if self.direct < 1 || self.period <= self.direct {
+            return Err(SettingsFault::Direct);
+        }
+        if self.suspect < 1 || 100_000 < self.suspect {
+            return Err(SettingsFault::Suspect);
+        }
+        if self.forget < 1 || 1_000_000 < self.forget {
+            return Err(SettingsFault::Forget);
+        }
+        if HELPERS_MAX < self.helpers {
+            return Err(SettingsFault::Helpers);
+        }
+        Ok(())
+    }
+}

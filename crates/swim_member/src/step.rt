@@ -1,0 +1,98 @@
+//! Steps: what a member does at an event.
+
+ghost use Rattle.std.specs.Prelude.{◌≡◌, ◌≤◌, ◌+◌, ◌++◌, ◌∷◌, [], List, All, length, true};
+ghost use Rattle.std.specs.List.{list_all};
+ghost use Rattle.swim_wire.specs.Spelling.{HasText};
+ghost use Rattle.swim_member.specs.State.{State};
+ghost use Rattle.swim_member.specs.Events.{Step, state_of, answer, number_after, wanted, moves, running_moves, stopped_moves, Show};
+ghost use Rattle.swim_member.specs.Fit.{is_fit, AreAll, own_numbers_in};
+ghost use Rattle.swim_member.specs.Steps.{after, answer_by};
+
+use crate::answer::Answer;
+use crate::event::Event;
+use crate::member::Member;
+use crate::note::Note;
+use crate::state::Phase;
+use arrayvec::ArrayVec;
+use swim_wire::Cursor;
+
+impl Member {
+    /// Shows the members after a cursor.
+    fn show(&self, cursor: Cursor) -> Answer
+        ensures { result ≡ answer_by self.now (Show cursor ∷ []) }
+    {
+        Answer {
+            outs: ArrayVec::new(),
+            notes: ArrayVec::new(),
+            page: self.page_after(cursor),
+        }
+    }
+
+    /// Takes an event while running.
+    fn act_running(&mut self, event: &Event, granted: u64) -> Answer
+        ensures state { self.new ≡ after self.old (running_moves self.old event.now granted) }
+        ensures answer { result ≡ answer_by self.old (running_moves self.old event.now granted) }
+        ensures fit { list_all (is_fit self.new.settings.me self.new.number) result.outs.items ≡ true }
+        ensures few { length result.outs.items ≤ self.old.settings.helpers + 2 }
+    {
+        match event {
+            Event::Tick { word } => self.on_tick(*word),
+            Event::Datagram { from, bytes } => self.on_datagram(*from, bytes, granted),
+            Event::ReceiveFailed => Answer::noted(Note::ReceiveFailed),
+            Event::SendFailed { count } => Answer::noted(Note::SendFailed(*count)),
+            Event::Join { peer } => Answer::of(self.join(*peer)),
+            Event::Leave => self.leave(),
+            Event::Members { after } => self.show(*after),
+        }
+    }
+
+    /// Takes an event after running: shows members, and nothing else.
+    fn act_stopped(&self, event: &Event) -> Answer
+        ensures answer { result ≡ answer_by self.now (stopped_moves event.now) }
+        ensures fit { list_all (is_fit self.now.settings.me self.now.number) result.outs.items ≡ true }
+        ensures few { length result.outs.items ≤ self.now.settings.helpers + 2 }
+    {
+        match event {
+            Event::Members { after } => self.show(*after),
+            _ => Answer::noted(Note::Stopped),
+        }
+    }
+
+    /// Takes an event.
+    fn act(&mut self, event: &Event, granted: u64) -> Answer
+        ensures state { self.new ≡ after self.old (moves self.old event.now granted) }
+        ensures answer { result ≡ answer_by self.old (moves self.old event.now granted) }
+        ensures fit { list_all (is_fit self.new.settings.me self.new.number) result.outs.items ≡ true }
+        ensures few { length result.outs.items ≤ self.old.settings.helpers + 2 }
+    {
+        if self.phase == Phase::Running {
+            self.act_running(event, granted)
+        } else {
+            self.act_stopped(event)
+        }
+    }
+
+    /// Takes an event, with the ceiling that was granted for it, and gives what is sent, noted and
+    /// shown. The member takes the number that the event wants where the ceiling is at least that,
+    /// and else keeps its own.
+    pub fn step(&mut self, event: &Event, granted: u64) -> Answer
+        requires { self.old.number ≤ granted }
+        // whatever history this member's state is that of, with this event it goes on
+        ensures state { (base : State) → (steps : List Step) → state_of base steps ≡ self.old → state_of base (steps ++ record { event = event.now; granted = granted } ∷ []) ≡ self.new }
+        ensures answer { (base : State) → (steps : List Step) → state_of base steps ≡ self.old → answer base steps event.now granted ≡ result }
+        ensures few { length result.outs.items ≤ self.old.settings.helpers + 2 }
+        // what is sent can be written
+        ensures fit { All (λ out. HasText out.datagram) result.outs.items }
+        // what is said of oneself is said with the own number as it then is
+        ensures own { AreAll self.new.number (own_numbers_in self.new.settings.me result.outs.items) }
+        ensures number { self.new.number ≡ number_after (wanted self.old event.now) granted self.old.number }
+        ensures settings { self.new.settings ≡ self.old.settings }
+        // a history may begin anew from the new state
+        ensures base { state_of self.new [] ≡ self.new }
+    {
+        let answer = self.act(event, granted);
+        // the type's invariant holds of the new state
+        let _ = &self.settings;
+        answer
+    }
+}
