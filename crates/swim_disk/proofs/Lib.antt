@@ -1,0 +1,3 @@
+mod Filled
+mod Parts
+pub mod Recorded

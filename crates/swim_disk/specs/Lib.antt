@@ -1,0 +1,12 @@
+pub mod Choice
+pub mod Count
+pub mod Disk
+pub mod Fault
+pub mod File
+pub mod MemDisk
+pub mod Memory
+pub mod Part
+pub mod Past
+pub mod Reached
+pub mod Replay
+pub mod Torn

@@ -1,0 +1,7 @@
+mod Making
+pub mod Moments
+mod Recovering
+mod Standing
+mod Steps
+mod Torn
+mod Whole

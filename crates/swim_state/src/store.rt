@@ -1,0 +1,227 @@
+ghost use Rattle.std.specs.Prelude.{◌≡◌, ◌<◌, ◌≤◌, ◌^◌, ◌⊎◌, true, false, IfOk, OnOk, OnErr, IsErrOf, ℕ};
+ghost use Rattle.swim_disk.specs.Disk.{Counts, IsSettled, Rests, State};
+ghost use Rattle.swim_state.specs.File.{floor, floor_of, AreOf, AreUsable};
+ghost use Rattle.swim_state.specs.Held.{Covers, Through, Held, HeldSince};
+ghost use Rattle.swim_state.specs.Store.{IsStore};
+ghost use Rattle.swim_state.specs.declared.owner.Owner.{Owner};
+
+use crate::fault::SaveFault;
+use crate::layout::Saved;
+use crate::owner::Owner;
+use crate::save::save;
+use crate::slots::{Slots, read_slots};
+use std::marker::Model;
+use swim_disk::{Disk, DiskFault};
+
+/// An open state file, with the ceiling that its owner may use.
+#[derive(Drop)]
+pub struct Store<D: Disk> {
+    disk: D,
+    owner: Owner,
+    ceiling: u64,
+    slots: Slots,
+    broken: bool,
+}
+
+impl<D: Disk> Model for Store<D> {
+    ghost use Rattle.swim_state.specs.Store.{StoreView, IsStore};
+
+    ghost Value = { StoreView D };
+
+    ghost view = { λ s. record { disk = s.disk; owner = s.owner; ceiling = s.ceiling; broken = s.broken } };
+
+    ghost invariant = { λ s. IsStore D.keeps_model (D.state s.disk) s.owner s.ceiling s.slots s.broken };
+}
+
+impl<D: Disk> Store<D> {
+    pub(crate) fn of(disk: D, owner: Owner, ceiling: u64, slots: Slots) -> Store<D>
+        requires { IsStore D.keeps_model (D.state disk) owner ceiling slots false }
+        ensures disk { result.disk ≡ disk }
+        ensures owner { result.owner ≡ owner }
+        ensures ceiling { result.ceiling ≡ ceiling }
+        ensures whole { result.broken ≡ false }
+    {
+        Store {
+            disk,
+            owner,
+            ceiling,
+            slots,
+            broken: false,
+        }
+    }
+
+    /// The greatest number that its owner may use. A crash now leaves a floor of at least this.
+    pub fn ceiling(&self) -> u64
+        ensures value { result ≡ self.now.ceiling }
+        ensures bounds { (1 ≤ result) × (result ≤ 2 ^ 62) }
+        ensures covered { D.keeps_model → Held self.now.owner (D.state self.now.disk) result }
+    {
+        self.ceiling
+    }
+
+    /// The disk below. A crash now leaves a floor of at least the ceiling.
+    pub fn disk(&self) -> &D
+        ensures disk { result.now ≡ self.now.disk }
+        ensures covered { D.keeps_model
+            → Held self.now.owner (D.state result.now) self.now.ceiling }
+    {
+        &self.disk
+    }
+
+    /// The disk below, by value.
+    pub fn into_disk(self) -> D
+        ensures disk { result ≡ self.disk }
+        ensures covered { D.keeps_model → Held self.owner (D.state result) self.ceiling }
+    {
+        let Store {
+            disk,
+            owner: _,
+            ceiling: _,
+            slots: _,
+            broken: _,
+        } = self;
+        disk
+    }
+
+    /// Raises the ceiling to this number by one save: the gate of one slot, its body, its gate, each
+    /// written and synced. A broken store first syncs and reads the slots; where their floor is at least
+    /// this number, it becomes the ceiling and nothing is written.
+    ///
+    /// `Device` comes where a call of the disk failed, and `Changed` where a broken store finds a file
+    /// that isn't as it left it. After either the store is broken, and its ceiling stands or is the
+    /// floor that it read, which isn't below it.
+    pub fn raise(&mut self, to: u64) -> Result<(), SaveFault>
+        requires above { self.old.ceiling < to }
+        requires bounded { to ≤ 2 ^ 62 }
+
+        // On any disk.
+        ensures owner { self.new.owner ≡ self.old.owner }
+        ensures name { (D.state self.new.disk).name ≡ (D.state self.old.disk).name }
+        ensures device { IsErrOf result SaveFault.Device
+            → (D.state self.old.disk).failures < (D.state self.new.disk).failures }
+        ensures reread { IsErrOf result SaveFault.Changed → self.old.broken ≡ true }
+        ensures ok { OnOk result
+            (to ≤ self.new.ceiling × self.new.ceiling ≤ 2 ^ 62 × self.new.broken ≡ false) }
+        ensures err { OnErr result
+            (self.old.ceiling ≤ self.new.ceiling × self.new.ceiling < to × self.new.broken ≡ true) }
+
+        // Where the disk keeps the model: no moment of the call leaves less than the old ceiling, and
+        // its end no less than the new one.
+        ensures changed { D.keeps_model → IsErrOf result SaveFault.Changed → ⊥ }
+        ensures moments { D.keeps_model → Through (Covers self.old.owner self.old.ceiling)
+            (D.state self.old.disk) (D.state self.new.disk) }
+        ensures since { D.keeps_model → HeldSince self.old.owner (D.state self.new.disk)
+            (D.state self.old.disk).clock self.old.ceiling }
+        ensures covered { D.keeps_model
+            → Held self.new.owner (D.state self.new.disk) self.new.ceiling }
+
+        // The ceiling is then the one asked for, or the floor that a broken store read.
+        ensures raised { D.keeps_model → OnOk result ((self.new.ceiling ≡ to)
+            ⊎ (self.old.broken ≡ true × self.new.ceiling ≡ floor (D.state self.old.disk).content
+            × Rests (D.state self.old.disk) (D.state self.new.disk))) }
+        ensures stood { D.keeps_model → OnErr result ((self.new.ceiling ≡ self.old.ceiling)
+            ⊎ (self.old.broken ≡ true × self.new.ceiling ≡ floor (D.state self.old.disk).content)) }
+    {
+        if self.broken {
+            self.raise_broken(to)
+        } else {
+            self.raise_whole(to)
+        }
+    }
+
+    fn raise_whole(&mut self, to: u64) -> Result<(), SaveFault>
+        requires whole { self.old.broken ≡ false }
+        requires above { self.old.ceiling < to }
+        requires bounded { to ≤ 2 ^ 62 }
+        ensures owner { self.new.owner ≡ self.old.owner }
+        ensures counts { Counts result (D.state self.old.disk) (D.state self.new.disk) }
+        ensures device { IsErrOf result SaveFault.Changed → ⊥ }
+        ensures moments { D.keeps_model
+            → Through (Covers self.old.owner self.old.ceiling) (D.state self.old.disk)
+            (D.state self.new.disk) }
+        ensures covered { D.keeps_model
+            → Held self.new.owner (D.state self.new.disk) self.new.ceiling }
+        ensures ok { OnOk result (self.new.ceiling ≡ to × self.new.broken ≡ false) }
+        ensures err { OnErr result (self.new.ceiling ≡ self.old.ceiling × self.new.broken ≡ true) }
+    {
+        self.broken = true;
+        self.slots = save(&mut self.disk, self.slots, Saved { ceiling: to })?;
+        self.ceiling = to;
+        self.broken = false;
+        Ok(())
+    }
+
+    fn raise_broken(&mut self, to: u64) -> Result<(), SaveFault>
+        requires broken { self.old.broken ≡ true }
+        requires above { self.old.ceiling < to }
+        requires bounded { to ≤ 2 ^ 62 }
+        ensures owner { self.new.owner ≡ self.old.owner }
+        ensures name { (D.state self.new.disk).name ≡ (D.state self.old.disk).name }
+        ensures device { IsErrOf result SaveFault.Device
+            → (D.state self.old.disk).failures < (D.state self.new.disk).failures }
+        ensures changed { D.keeps_model → IsErrOf result SaveFault.Changed → ⊥ }
+        ensures moments { D.keeps_model
+            → Through (Covers self.old.owner self.old.ceiling) (D.state self.old.disk)
+            (D.state self.new.disk) }
+        ensures covered { D.keeps_model
+            → Held self.new.owner (D.state self.new.disk) self.new.ceiling }
+        ensures ok { OnOk result
+            (to ≤ self.new.ceiling × self.new.ceiling ≤ 2 ^ 62 × self.new.broken ≡ false) }
+        ensures err { OnErr result
+            (self.old.ceiling ≤ self.new.ceiling × self.new.ceiling < to × self.new.broken ≡ true) }
+        ensures raised { D.keeps_model
+            → OnOk result
+            ((self.new.ceiling ≡ to)
+            ⊎ (self.new.ceiling ≡ floor (D.state self.old.disk).content
+            × Rests (D.state self.old.disk) (D.state self.new.disk))) }
+        ensures stood { D.keeps_model
+            → OnErr result
+            ((self.new.ceiling ≡ self.old.ceiling)
+            ⊎ (self.new.ceiling ≡ floor (D.state self.old.disk).content)) }
+    {
+        let slots = reread(&mut self.disk, self.ceiling)?;
+        self.slots = slots;
+        self.ceiling = slots.floor();
+        self.broken = false;
+        if self.ceiling >= to {
+            return Ok(());
+        }
+        self.raise_whole(to)
+    }
+}
+
+/// Syncs and reads the slots: what a crash may leave is then what was read.
+pub(crate) fn settle<D: Disk>(disk: &mut D) -> Result<Slots, DiskFault>
+    ensures counts { Counts result (D.state disk.old) (D.state disk.new) }
+    ensures rests { D.keeps_model → Rests (D.state disk.old) (D.state disk.new) }
+    ensures settled { D.keeps_model → OnOk result (IsSettled (D.state disk.new)) }
+    ensures same { D.keeps_model → IfOk result (λ s. AreOf (D.state disk.old).content s) }
+    ensures bounded { IfOk result (λ s. floor_of s ≤ 2 ^ 62) }
+{
+    disk.sync()?;
+    read_slots(disk)
+}
+
+/// The slots of a file whose floor is to be this or more, after a save that failed.
+pub(crate) fn reread<D: Disk>(disk: &mut D, ceiling: u64) -> Result<Slots, SaveFault>
+    ensures name { (D.state disk.new).name ≡ (D.state disk.old).name }
+    ensures calm { OnOk result ((D.state disk.new).failures ≡ (D.state disk.old).failures) }
+    ensures device { IsErrOf result SaveFault.Device
+        → (D.state disk.old).failures < (D.state disk.new).failures }
+    ensures changed { D.keeps_model → (owner : Owner) → Held owner (D.state disk.old) ceiling
+        → IsErrOf result SaveFault.Changed → ⊥ }
+    ensures rests { D.keeps_model → Rests (D.state disk.old) (D.state disk.new) }
+    ensures settled { D.keeps_model → OnOk result (IsSettled (D.state disk.new)) }
+    ensures same { D.keeps_model → IfOk result (λ s. AreOf (D.state disk.old).content s) }
+    ensures usable { IfOk result (λ s. AreUsable s) }
+    ensures covered { IfOk result (λ s. ceiling ≤ floor_of s) }
+{
+    let slots = settle(disk)?;
+    if !slots.is_usable() {
+        return Err(SaveFault::Changed);
+    }
+    if slots.floor() < ceiling {
+        return Err(SaveFault::Changed);
+    }
+    Ok(slots)
+}

@@ -1,0 +1,446 @@
+ghost use Rattle.std.specs.Prelude.{◌≡◌};
+
+use crate::{
+    InitFault, Owner, Reading, RecoverFault, SaveFault, Saved, Slots, init, recover, slots_in,
+};
+use std::alloc::Global;
+use std::fs;
+use std::process::Abort;
+use std::test::Fail;
+use swim_disk::{Choice, Disk, DiskFault, FaultDisk, FileDisk, MemDisk, Plan};
+use swim_wire::{Endpoint, NUMBER_MAX};
+
+type Device = FaultDisk<MemDisk>;
+
+/// The member of group 7 at 10.0.0.LAST:7000.
+fn member(rt: &impl Abort, last: u32) -> Owner {
+    assert!(rt; last < 256);
+    Owner {
+        group: 7,
+        me: Endpoint::new(0x0a00_0000 + last, 7000).expect(rt, "a port"),
+    }
+}
+
+fn empty(rt: &impl Abort, alloc: Global) -> (Device, Plan) {
+    FaultDisk::new(alloc, MemDisk::new(alloc, Vec::new(alloc)))
+        .ok()
+        .expect(rt, "memory")
+}
+
+/// A disk after `init` with ceiling 0, and its plan.
+fn made(rt: &impl Abort, alloc: Global) -> (Device, Plan) {
+    let (mut disk, plan) = empty(rt, alloc);
+    assert!(rt; init(&mut disk, member(rt, 1), 0).is_ok());
+    (disk, plan)
+}
+
+/// The number of an opening, or its fault, and the disk.
+fn open(disk: Device, owner: Owner) -> (Result<u64, RecoverFault>, Device) {
+    match recover(disk, owner) {
+        Ok(store) => {
+            let first = store.ceiling();
+            (Ok(first), store.into_disk())
+        }
+        Err((disk, fault)) => (Err(fault), disk),
+    }
+}
+
+fn crashed(rt: &impl Abort, alloc: Global, disk: Device, choice: Choice) -> Device {
+    let (disk, _) = FaultDisk::new(alloc, disk.into_inner().crash(choice))
+        .ok()
+        .expect(rt, "memory");
+    disk
+}
+
+#[test]
+fn init_file(rt: HostRuntime) {
+    let (disk, _) = made(&rt, rt.alloc());
+    let bytes = disk.inner().bytes();
+    assert_eq!(rt; bytes.len(), 16_385);
+    for (at, want) in [
+        (
+            0,
+            b"SWIMSTAT\0\x01\0\0\0\0\0\0\0\x07\x0a\0\0\x01\x1b\x58".as_slice(),
+        ),
+        (
+            4096,
+            b"\0\0\0\0\0\0\0\0\xff\xff\xff\xff\xff\xff\xff\xff".as_slice(),
+        ),
+        (8192, b"\xa5".as_slice()),
+        (16_384, b"\0".as_slice()),
+    ] {
+        assert_eq!(rt; bytes.get(at..at + want.len()), Some(want), "at {at}");
+    }
+}
+
+#[test]
+fn init_refuses(rt: HostRuntime) {
+    let (mut disk, _) = made(&rt, rt.alloc());
+    for (ceiling, want) in [(0, InitFault::NotEmpty), (NUMBER_MAX + 1, InitFault::Range)] {
+        assert_eq!(rt; init(&mut disk, member(&rt, 1), ceiling), Err(want));
+    }
+}
+
+#[test]
+fn refused_opens(rt: HostRuntime) -> Result<(), Fail> {
+    for (at, byte, last, want) in [
+        (8192, 0, 1, Err(RecoverFault::NoSlot)),
+        (4103, 1, 1, Err(RecoverFault::Damaged)),
+        (16_384, 0, 9, Err(RecoverFault::WrongOwner)),
+        (0, 0, 1, Err(RecoverFault::NotState)),
+        (9, 2, 1, Err(RecoverFault::NotState)),
+        (16_384, 0, 1, Ok(1)),
+    ] {
+        let (mut disk, _) = made(&rt, rt.alloc());
+        disk.write_at(at, &[byte])?;
+        let (got, _) = open(disk, member(&rt, last));
+        assert_eq!(rt; got, want, "byte {at}");
+    }
+    Ok(())
+}
+
+/// An opening on a device that fails from its first call on, and another one after a crash.
+#[test]
+fn refused_open_of_a_device(rt: HostRuntime) {
+    let (disk, plan) = made(&rt, rt.alloc());
+    plan.halt(1);
+    let (got, disk) = open(disk, member(&rt, 1));
+    assert_eq!(rt; got, Err(RecoverFault::Device));
+    let disk = crashed(&rt, rt.alloc(), disk, Choice::Keep);
+    assert_eq!(rt; open(disk, member(&rt, 1)).0, Ok(1));
+}
+
+/// What a failed opening saved without an answer isn't used again.
+#[test]
+fn recovered_twice(rt: HostRuntime) {
+    let (disk, plan) = made(&rt, rt.alloc());
+    plan.fail_sync(4);
+    let (got, disk) = open(disk, member(&rt, 1));
+    assert_eq!(rt; got, Err(RecoverFault::Device));
+    assert_eq!(rt; open(disk, member(&rt, 1)).0, Ok(2));
+}
+
+/// A call of a device: its letter, and its offset where it has one.
+type Call = (u8, u64);
+
+/// A disk in memory that keeps its first 24 calls.
+#[derive(Drop)]
+struct Recorded {
+    disk: MemDisk,
+    calls: [Call; 24],
+    count: usize,
+}
+
+impl Recorded {
+    fn new(alloc: Global) -> Recorded {
+        Recorded {
+            disk: MemDisk::new(alloc, Vec::new(alloc)),
+            calls: [(0, 0); 24],
+            count: 0,
+        }
+    }
+
+    fn note(&mut self, letter: u8, at: u64)
+        ensures { self.new.disk ≡ self.old.disk }
+    {
+        if self.count < 24 {
+            self.calls[self.count] = (letter, at);
+            self.count += 1;
+        }
+    }
+}
+
+impl Disk for Recorded {
+    ghost use Rattle.swim_disk.specs.MemDisk.{state_of};
+
+    ghost state = { λ r. state_of r.disk };
+
+    ghost keeps_model = { Unit {0} };
+
+    fn len(&mut self) -> Result<u64, DiskFault> {
+        self.note(b'L', 0);
+        self.disk.len()
+    }
+
+    fn read_at(&mut self, at: u64, buffer: &mut [u8]) -> Result<(), DiskFault> {
+        self.note(b'R', at);
+        self.disk.read_at(at, buffer)
+    }
+
+    fn write_at(&mut self, at: u64, bytes: &[u8]) -> Result<(), DiskFault> {
+        self.note(b'W', at);
+        self.disk.write_at(at, bytes)
+    }
+
+    fn sync(&mut self) -> Result<(), DiskFault> {
+        self.note(b'S', 0);
+        self.disk.sync()
+    }
+}
+
+/// Whether the calls from this one on are these, and no more.
+fn are_calls(disk: &Recorded, from: usize, want: &[Call]) -> bool {
+    disk.calls.get(from..disk.count) == Some(want)
+}
+
+/// A disk after `init` with this ceiling, whose calls are forgotten.
+fn made_recorded(rt: &impl Abort, alloc: Global, ceiling: u64) -> Recorded {
+    let mut disk = Recorded::new(alloc);
+    assert!(rt; init(&mut disk, member(rt, 1), ceiling).is_ok());
+    disk.count = 0;
+    disk
+}
+
+const INIT: [Call; 7] = [
+    (b'L', 0),
+    (b'W', 0),
+    (b'W', 4096),
+    (b'W', 16_384),
+    (b'S', 0),
+    (b'W', 8192),
+    (b'S', 0),
+];
+
+#[test]
+fn init_calls_the_device(rt: HostRuntime) -> Result<(), Fail> {
+    let mut disk = Recorded::new(rt.alloc());
+    init(&mut disk, member(&rt, 1), 0)?;
+    assert!(rt; are_calls(&disk, 0, &INIT));
+    Ok(())
+}
+
+/// An opening with gate B shut. The first seven calls are those of one that is refused.
+const OPENING: [Call; 12] = [
+    (b'S', 0),
+    (b'L', 0),
+    (b'R', 0),
+    (b'R', 8192),
+    (b'R', 4096),
+    (b'R', 16_384),
+    (b'R', 12_288),
+    (b'S', 0),
+    (b'W', 12_288),
+    (b'S', 0),
+    (b'W', 16_384),
+    (b'S', 0),
+];
+
+/// A raise with both gates open and the lower ceiling in slot A.
+const RAISE: [Call; 6] = [
+    (b'W', 8192),
+    (b'S', 0),
+    (b'W', 4096),
+    (b'S', 0),
+    (b'W', 8192),
+    (b'S', 0),
+];
+
+#[test]
+fn a_life_calls_the_device(rt: HostRuntime) -> Result<(), Fail> {
+    let disk = made_recorded(&rt, rt.alloc(), 0);
+    let mut store = recover(disk, member(&rt, 1)).ok().expect(&rt, "an opening");
+    assert!(rt; are_calls(store.disk(), 0, &OPENING));
+    assert!(rt; store.ceiling() == 1);
+    store.raise(2)?;
+    assert!(rt; are_calls(store.disk(), 12, &RAISE));
+    Ok(())
+}
+
+#[test]
+fn last_number(rt: HostRuntime) {
+    let disk = made_recorded(&rt, rt.alloc(), NUMBER_MAX);
+    let (disk, fault) = recover(disk, member(&rt, 1)).err().expect(&rt, "a refusal");
+    assert_eq!(rt; fault, RecoverFault::Exhausted);
+    assert!(rt; are_calls(&disk, 0, &OPENING[..7]));
+}
+
+/// What goes wrong at some call of the device.
+#[derive(Clone, Copy, Debug)]
+enum Trouble {
+    FailRead,
+    FailWrite,
+    TearWrite,
+    FailSync,
+    Halt,
+}
+
+const TROUBLES: [Trouble; 5] = [
+    Trouble::FailRead,
+    Trouble::FailWrite,
+    Trouble::TearWrite,
+    Trouble::FailSync,
+    Trouble::Halt,
+];
+
+const CHOICES: [Choice; 4] = [
+    Choice::Keep,
+    Choice::Drop,
+    Choice::Fill(0),
+    Choice::Fill(0xa5),
+];
+
+impl Trouble {
+    fn begin(self, plan: &Plan, k: u64) {
+        match self {
+            Trouble::FailRead => plan.fail_read(k),
+            Trouble::FailWrite => plan.fail_write(k),
+            Trouble::TearWrite => plan.tear_write(k),
+            Trouble::FailSync => plan.fail_sync(k),
+            Trouble::Halt => plan.halt(k),
+        }
+    }
+}
+
+fn slots(a: Option<u64>, b: Option<u64>) -> Slots {
+    let reading = |ceiling: Option<u64>| match ceiling {
+        Some(ceiling) => Reading::Holds(Saved { ceiling }),
+        None => Reading::Shut,
+    };
+    Slots {
+        a: reading(a),
+        b: reading(b),
+    }
+}
+
+/// A life with number 1 raises to 2 in trouble: what a crash leaves, and the next life's number.
+#[test]
+fn raise_in_trouble(rt: HostRuntime) {
+    for (trouble, k, choice, left, next) in [
+        (Trouble::Halt, 7, Choice::Drop, slots(Some(2), Some(1)), 3),
+        (
+            Trouble::FailSync,
+            3,
+            Choice::Keep,
+            slots(Some(2), Some(1)),
+            3,
+        ),
+        (Trouble::FailSync, 3, Choice::Drop, slots(None, Some(1)), 2),
+        (
+            Trouble::Halt,
+            4,
+            Choice::Fill(0xa5),
+            slots(None, Some(1)),
+            2,
+        ),
+    ] {
+        let (disk, plan) = made(&rt, rt.alloc());
+        let mut store = recover(disk, member(&rt, 1)).ok().expect(&rt, "an opening");
+        trouble.begin(&plan, k);
+        assert!(rt; store.ceiling() == 1);
+        let raised = store.raise(2);
+        assert_eq!(rt; raised.is_ok(), k == 7);
+        let disk = crashed(&rt, rt.alloc(), store.into_disk(), choice);
+        assert_eq!(rt; slots_in(disk.inner().bytes()), left, "{trouble:?}");
+        assert_eq!(rt; open(disk, member(&rt, 1)).0, Ok(next), "{trouble:?}");
+    }
+}
+
+/// A raise that failed is tried again: the ceiling stands until then.
+#[test]
+fn raise_again(rt: HostRuntime) {
+    let (disk, plan) = made(&rt, rt.alloc());
+    let mut store = recover(disk, member(&rt, 1)).ok().expect(&rt, "an opening");
+    plan.fail_write(2);
+    for want in [Err(SaveFault::Device), Ok(())] {
+        assert!(rt; store.ceiling() == 1);
+        assert_eq!(rt; store.raise(2), want);
+    }
+    assert_eq!(rt; store.ceiling(), 2);
+}
+
+/// The greatest ceiling that an opening and a raise granted, which is tried twice, or 0; and the disk.
+fn granted(disk: Device, owner: Owner) -> (u64, Device) {
+    match recover(disk, owner) {
+        Ok(mut store) => {
+            let first = store.ceiling();
+            if first < NUMBER_MAX && store.raise(first + 1).is_err() {
+                let _ = store.raise(first + 1);
+            }
+            (store.ceiling(), store.into_disk())
+        }
+        Err((disk, _)) => (0, disk),
+    }
+}
+
+/// Each of the 18 calls of an opening and a raise fails, or is torn, or is the first that fails: the
+/// next life's number is above every ceiling that was granted.
+#[test]
+fn numbers_rise_whatever_fails(rt: HostRuntime) {
+    for trouble in TROUBLES {
+        for choice in CHOICES {
+            for k in 1..=19_u64 {
+                let (disk, plan) = made(&rt, rt.alloc());
+                trouble.begin(&plan, k);
+                let (most, disk) = granted(disk, member(&rt, 1));
+                let disk = crashed(&rt, rt.alloc(), disk, choice);
+                let (next, _) = open(disk, member(&rt, 1));
+                let is_above = next.is_ok_and(|next| next > most);
+                assert!(rt; is_above, "{trouble:?} {k} {choice:?}");
+            }
+        }
+    }
+}
+
+/// Each of the seven calls of `init` fails, or is torn, or is the first that fails: what a crash leaves
+/// opens with the first number or not at all, and with the first number where `init` succeeded.
+#[test]
+fn init_fails_at_each_call(rt: HostRuntime) {
+    for trouble in TROUBLES {
+        for choice in CHOICES {
+            for k in 1..=8_u64 {
+                let (mut disk, plan) = empty(&rt, rt.alloc());
+                trouble.begin(&plan, k);
+                let made = init(&mut disk, member(&rt, 1), 0);
+                let disk = crashed(&rt, rt.alloc(), disk, choice);
+                let (got, _) = open(disk, member(&rt, 1));
+                let is_first = got == Ok(1) || (made.is_err() && got.is_err());
+                assert!(rt; is_first, "{trouble:?} {k} {choice:?}");
+            }
+        }
+    }
+}
+
+/// The state file on a real disk: made, opened, raised, and opened again.
+#[test]
+fn real_file(rt: HostRuntime) -> Result<(), Fail> {
+    let _ = fs::remove_file(&rt, "state");
+    let mut disk = FileDisk::create(&rt, "state")?;
+    init(&mut disk, member(&rt, 1), 0)?;
+    for want in [1, 3] {
+        let disk = FileDisk::open(&rt, "state")?;
+        let mut store = recover(disk, member(&rt, 1)).ok().expect(&rt, "an opening");
+        assert!(rt; store.ceiling() == want);
+        assert!(rt; want < NUMBER_MAX);
+        store.raise(want + 1)?;
+    }
+    fs::remove_file(&rt, "state")?;
+    Ok(())
+}
+
+#[test]
+fn faults_print_number_and_name(rt: HostRuntime) -> Result<(), Fail> {
+    for (fault, want) in [
+        (RecoverFault::Device, "1 Device"),
+        (RecoverFault::NotState, "2 NotState"),
+        (RecoverFault::WrongOwner, "3 WrongOwner"),
+        (RecoverFault::NoSlot, "4 NoSlot"),
+        (RecoverFault::Damaged, "5 Damaged"),
+        (RecoverFault::Exhausted, "6 Exhausted"),
+    ] {
+        assert_eq!(rt; format!(in rt.alloc(); "{fault}")?.as_str(), want);
+    }
+    for (fault, want) in [
+        (InitFault::NotEmpty, "1 NotEmpty"),
+        (InitFault::Device, "2 Device"),
+        (InitFault::Range, "3 Range"),
+    ] {
+        assert_eq!(rt; format!(in rt.alloc(); "{fault}")?.as_str(), want);
+    }
+    for (fault, want) in [
+        (SaveFault::Device, "1 Device"),
+        (SaveFault::Changed, "2 Changed"),
+    ] {
+        assert_eq!(rt; format!(in rt.alloc(); "{fault}")?.as_str(), want);
+    }
+    Ok(())
+}
