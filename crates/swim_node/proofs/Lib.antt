@@ -1,0 +1,4 @@
+pub mod Lists
+pub mod Wants
+pub mod Nodes
+pub mod Lives

@@ -1,0 +1,146 @@
+-- One entry more, and a base.
+use Rattle.std.proofs.Common.{◌≡◌, ℕ, ◌+◌, ◌≤◌, ◌<◌, nat_le, List, [], ◌∷◌, ◌++◌, length, refl, ap, sym, ◌∙◌, arith, append_assoc, append-nil, length-append, Option, Some, None, subst, inl, inr}
+use Rattle.std.specs.Option.{option_to_list}
+use Rattle.std.proofs.lemmas.Bool.{cases_Bool, leb-true}
+use Rattle.std.proofs.lemmas.List.Elements.{All-append, All-cons, All-nil}
+use Rattle.swim_member.specs.declared.settings.Settings.{Settings}
+use Rattle.swim_member.specs.declared.event.Event.{Event}
+use Rattle.swim_member.specs.State.{State}
+use Rattle.swim_member.specs.Events.{Step, state_of, wanted, number_after}
+use Rattle.swim_member.specs.Fit.{AreAll, own_numbers_in}
+use Rattle.swim_node.specs.declared.entry.Entry.{Entry}
+use Rattle.swim_node.specs.declared.entry.Save.{Save}
+use Rattle.swim_node.specs.declared.entry.Save.TheVariants.{Failed}
+use Rattle.swim_node.specs.History.{Base, IsLegal, IsNext, AreNext, Saves, steps, granted_of, state_after, status_at, answer_in, taken_in, lost_in}
+use Rattle.swim_node.specs.Entering.{Steps}
+use Rattle.swim_node.specs.Sending.{HasTexts}
+use Rattle.swim_node.specs.Owns.{owns, owns_in, AreAtMost, AreAtLeast, greatest, greatest_with, more}
+use Rattle.swim_node.specs.Node.{IsNode, IsTurn}
+use Rattle.swim_node.proofs.Wants.{number-grown}
+use Rattle.swim_node.proofs.Lists.{steps-append, granted_from-append, owns_in-append, at_most-append, at_most-more, at_least-append, all-at_most, all-at_least, greatest_with-append}
+
+next-snoc : (base : Base) (before xs : List Entry) (e : Entry) → AreNext base before xs → IsNext base (before ++ xs) e → AreNext base before (xs ++ e ∷ [])
+next-snoc base before [] e h k = (rw (append-nil before) at k, tt {0})
+next-snoc base before (x ∷ xs) e h k = (h.0, next-snoc base (before ++ x ∷ []) xs e h.1 (rw (append_assoc before (x ∷ []) xs) k))
+
+-- one more entry keeps a history legal
+pub legal-snoc : (base : Base) (xs : List Entry) (e : Entry) → IsLegal base xs → IsNext base xs e → length xs < base.limit → IsLegal base (xs ++ e ∷ [])
+legal-snoc base xs e h k room = record { each = next-snoc base [] xs e h.each k; within = omega (arith, room, length-append xs (e ∷ [])) }
+
+-- the own number stays within the ceiling
+number-low : (o : Option ℕ) (g n : ℕ) → n ≤ g → number_after o g n ≤ g
+number-low None g n h = h
+number-low (Some w) g n h = elim (cases_Bool (nat_le w g)) [ inl t ↦ rw t (leb-true w g t) | inr f ↦ rw f h ]
+
+-- a failed save leaves the own number
+pub number-failed : (o : Option ℕ) (low g n : ℕ) → Saves o low Failed g → number_after o g n ≡ n
+number-failed None low g n h = absurd h
+number-failed (Some w) low g n h =
+    let under : g < w = h.2 in
+    elim (cases_Bool (nat_le w g)) [ inl t ↦ absurd (let over : w ≤ g = leb-true w g t in omega arith) | inr f ↦ rw f refl ]
+
+saves-at : (s t : State) (event : Event) (g h : ℕ) (save : Save) (granted : ℕ) → s ≡ t → g ≡ h → Saves (wanted t event) h save granted → Saves (wanted s event) g save granted
+saves-at s t event g h save granted e f k =
+    subst (λ (x : State). Saves (wanted x event) g save granted) (sym e) (subst (λ (y : ℕ). Saves (wanted t event) y save granted) (sym f) k)
+
+-- what an entry is made of, after a history that left this state and this ceiling
+pub record Enters (xs : List Entry) (old new : State) (low high : ℕ) (e : Entry) : Type 0 where
+  pub saved : Saves (wanted old e.event) low e.save e.granted
+  pub granted : e.granted ≡ high
+  pub grows : low ≤ high
+  pub steps : Steps old new e.event e.granted (answer_in e)
+  pub outcomes : length e.outcomes.items ≡ length e.outs.items
+  pub status : e.reply.status ≡ status_at new (length xs + 1)
+  pub sent : e.reply.sent ≡ taken_in e.outcomes.items
+  pub lost : e.reply.lost ≡ lost_in e.outcomes.items
+  pub turn : IsTurn xs e.tag
+  pub texts : HasTexts e
+
+module _ (base : Base) (xs : List Entry) (e : Entry) (first : ℕ) (old new : State) (low high : ℕ) (top : Option ℕ) where
+  pub state-snoc : IsNode base xs first old low top → Enters xs old new low high e → state_after base (xs ++ e ∷ []) ≡ new
+  state-snoc n h = ap (λ (s : List Step). state_of base.state s) (steps-append xs (e ∷ [])) ∙ h.steps.state base.state (steps xs) n.member
+
+  next-entered : IsNode base xs first old low top → Enters xs old new low high e → IsNext base xs e
+  next-entered n h = record {
+    fits = record {
+      saved = saves-at (state_after base xs) old e.event (granted_of base xs) low e.save e.granted n.member n.granted h.saved;
+      outcomes = h.outcomes;
+    };
+    answered = h.steps.answered base.state (steps xs) n.member;
+    status = h.status ∙ ap (λ (k : ℕ). status_at new k) (sym (length-append xs (e ∷ []))) ∙ ap (λ (s : State). status_at s (length (xs ++ e ∷ []))) (sym (state-snoc n h));
+    sent = h.sent;
+    lost = h.lost;
+    turn = h.turn;
+  }
+
+  owns-snoc : owns base (xs ++ e ∷ []) ≡ owns base xs ++ own_numbers_in base.state.settings.me e.outs.items
+  owns-snoc =
+      ap (λ (w : List ℕ). option_to_list base.past ++ w) (owns_in-append base.state.settings.me xs (e ∷ []) ∙ ap (λ (w : List ℕ). owns_in base.state.settings.me xs ++ w) (append-nil (own_numbers_in base.state.settings.me e.outs.items)))
+      ∙ sym (append_assoc (option_to_list base.past) (owns_in base.state.settings.me xs) (own_numbers_in base.state.settings.me e.outs.items))
+
+  -- each own number in the entry's datagrams is the new one
+  pub said-new : IsNode base xs first old low top → Enters xs old new low high e → AreAll new.number (own_numbers_in base.state.settings.me e.outs.items)
+  said-new n h = subst (λ (m : ℕ). AreAll new.number (own_numbers_in m e.outs.items)) (ap (λ (s : Settings). s.me) (h.steps.settings ∙ n.settings)) h.steps.own
+
+  -- and the old one where the save failed
+  pub said-old : IsNode base xs first old low top → Enters xs old new low high e → e.save ≡ Failed → AreAll old.number (own_numbers_in base.state.settings.me e.outs.items)
+  said-old n h failed =
+      let same : new.number ≡ old.number = h.steps.number ∙ number-failed (wanted old e.event) low e.granted old.number (subst (λ (s : Save). Saves (wanted old e.event) low s e.granted) failed h.saved) in
+      subst (λ (m : ℕ). AreAll m (own_numbers_in base.state.settings.me e.outs.items)) same (said-new n h)
+
+  -- the node after one more entry
+  pub node-snoc : IsNode base xs first old low top → Enters xs old new low high e → length xs < base.limit → IsNode base (xs ++ e ∷ []) first new high (greatest_with top (own_numbers_in new.settings.me e.outs.items))
+  node-snoc n h room =
+      let you : new.settings.me ≡ base.state.settings.me = ap (λ (s : Settings). s.me) (h.steps.settings ∙ n.settings) in
+      let under : new.number ≤ high = rw (h.steps.number, ← h.granted) (number-low (wanted old e.event) e.granted old.number (omega (arith, n.low, h.grows, h.granted))) in
+      let over : first ≤ new.number = rw h.steps.number (let grown : old.number ≤ number_after (wanted old e.event) e.granted old.number = number-grown old e.event e.granted in omega (arith, grown, n.high)) in
+      let said : AreAll new.number (own_numbers_in base.state.settings.me e.outs.items) = said-new n h in
+      record {
+        legal = legal-snoc base xs e n.legal (next-entered n h) room;
+        member = state-snoc n h;
+        settings = h.steps.settings ∙ n.settings;
+        granted = granted_from-append base.granted xs (e ∷ []) ∙ h.granted;
+        low = under;
+        high = over;
+        covers = rw owns-snoc (at_most-append high (owns base xs) _ (at_most-more low high (owns base xs) h.grows n.covers) (all-at_most new.number high _ under said));
+        begun = rw owns-snoc (at_least-append first (owns base xs) _ n.begun (all-at_least new.number first _ over said));
+        most = ap greatest owns-snoc ∙ greatest_with-append None (owns base xs) (own_numbers_in base.state.settings.me e.outs.items) ∙ rw (n.most, you) refl;
+        texts = All-append HasTexts xs (e ∷ []) n.texts (All-cons HasTexts e [] h.texts (All-nil HasTexts));
+        short = n.short;
+      }
+
+more-at_most : (g : ℕ) (o : Option ℕ) (n : ℕ) → AreAtMost g (option_to_list o) → n ≤ g → AreAtMost g (option_to_list (more o n))
+more-at_most g None n h k = (k, tt {0})
+more-at_most g (Some m) n h k = let low = h.0 in (omega arith, tt {0})
+
+greatest-at_most : (g : ℕ) (o : Option ℕ) (ns : List ℕ) → AreAtMost g (option_to_list o) → AreAtMost g ns → AreAtMost g (option_to_list (greatest_with o ns))
+greatest-at_most g o [] h k = h
+greatest-at_most g o (n ∷ ns) h k = greatest-at_most g (more o n) ns (more-at_most g o n h k.0) k.1
+
+more-at_least : (f : ℕ) (o : Option ℕ) (n : ℕ) → f ≤ n → AreAtLeast f (option_to_list (more o n))
+more-at_least f None n k = (k, tt {0})
+more-at_least f (Some m) n k = (omega arith, tt {0})
+
+greatest-at_least : (f : ℕ) (o : Option ℕ) (ns : List ℕ) → AreAtLeast f (option_to_list o) → AreAtLeast f ns → AreAtLeast f (option_to_list (greatest_with o ns))
+greatest-at_least f o [] h k = h
+greatest-at_least f o (n ∷ ns) h k = greatest-at_least f (more o n) ns (more-at_least f o n k.0) k.1
+
+greatest-one : (o : Option ℕ) → greatest (option_to_list o ++ []) ≡ o
+greatest-one None = refl
+greatest-one (Some n) = refl
+
+-- a node whose era begins with what is now
+pub node-rebased : (base : Base) (xs : List Entry) (first : ℕ) (s : State) (ceiling : ℕ) (top : Option ℕ) → IsNode base xs first s ceiling top → state_of s [] ≡ s → IsNode (record { state = s; granted = ceiling; past = top; limit = base.limit }) [] first s ceiling top
+node-rebased base xs first s ceiling top n reads = record {
+  legal = record { each = tt {0}; within = omega arith };
+  member = reads;
+  settings = refl;
+  granted = refl;
+  low = n.low;
+  high = n.high;
+  covers = at_most-append ceiling (option_to_list top) [] (rw n.most at (greatest-at_most ceiling None (owns base xs) (tt {0}) n.covers)) (tt {0});
+  begun = at_least-append first (option_to_list top) [] (rw n.most at (greatest-at_least first None (owns base xs) (tt {0}) n.begun)) (tt {0});
+  most = greatest-one top;
+  texts = All-nil HasTexts;
+  short = n.short;
+}

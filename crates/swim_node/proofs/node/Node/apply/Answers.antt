@@ -1,0 +1,95 @@
+use Rattle.std.proofs.Common.{◌≡◌, ℕ, ◌<◌, ◌∷◌, ◌++◌, [], List, length, ap, sym, ◌∙◌, subst, refl}
+use Rattle.swim_state.specs.Held.{Held}
+use Rattle.swim_member.specs.State.{State}
+use Rattle.swim_member.specs.Fit.{AreAll, own_numbers_in}
+use Rattle.swim_node.specs.declared.entry.Entry.{Entry}
+use Rattle.swim_node.specs.declared.entry.Outcome.{Outcome}
+use Rattle.swim_node.specs.History.{state_after, granted_of, taken_in, lost_in}
+use Rattle.swim_node.specs.Node.{base_of}
+use Rattle.swim_node.proofs.Nodes.{Enters, node-snoc, state-snoc, said-new, said-old}
+use Rattle.swim_node.proofs.node.Node.apply.Given.{Over}
+use Rattle.swim_node.proofs.node.Node.apply.Goals as goal
+
+module _ (g : Over) (c : goal.After-push g) where
+  abbrev entry : Entry
+  entry = record {
+    tag = c.args.tag;
+    event = c.args.event;
+    granted = c.enter-done.result.granted;
+    save = c.enter-done.result.save;
+    outs = c.enter-done.result.outs;
+    outcomes = c.enter-done.result.outcomes;
+    reply = record {
+      status = c.status_now.result;
+      notes = c.enter-done.result.notes;
+      page = c.enter-done.result.page;
+      sent = c.count_taken.result;
+      lost = c.count_lost.result;
+    };
+  }
+
+  same_entries : c.args.self.now.entries ≡ c.self.inside.journal.entries
+  same_entries = sym (ap (λ v. v.entries) c.self.view_is)
+
+  enters : Enters c.self.inside.journal.entries c.self.inside.member c.enter-done.new.member c.self.inside.store.ceiling c.enter-done.new.store.ceiling entry
+  enters = record {
+    saved = rw (← c.enter-done.ensures.granted) at c.enter-done.ensures.saved.saves;
+    granted = c.enter-done.ensures.granted;
+    grows = c.enter-done.ensures.saved.grows;
+    steps = c.enter-done.ensures.steps;
+    outcomes = c.enter-done.ensures.sends.each;
+    status = rw (c.status_now.ensures, c.entries.ensures, c.reserve.ensures.entries) refl;
+    sent = c.count_taken.ensures ∙ ap (λ (os : List Outcome). taken_in os) c.deref.ensures.0;
+    lost = c.count_lost.ensures ∙ ap (λ (os : List Outcome). lost_in os) c.deref-2.ensures.0;
+    turn = rw (← same_entries) c.in_ok-judge.ensures.ok.0;
+    texts = c.enter-done.ensures.texts;
+  }
+
+pub invariant_of-self-2 : goal.invariant_of-self-2
+invariant_of-self-2 g c =
+    let room : length c.self.inside.journal.entries < c.self.inside.base.limit =
+    let same : c.self.inside.base.limit ≡ c.args.self.now.base.limit = ap (λ v. v.base.limit) c.self.view_is in
+    rw (← same_entries g c, same) c.in_ok-judge.ensures.ok.1 in (
+      rw (c.greatest_own-self-inside.ensures, c.settings.ensures, c.deref-3.ensures.0, c.push.ensures, c.reserve.ensures.entries)
+          (node-snoc (base_of c.self.inside.base) c.self.inside.journal.entries (entry g c) c.self.inside.first c.self.inside.member c.enter-done.new.member c.self.inside.store.ceiling c.enter-done.new.store.ceiling c.self.inside.most c.self.invariant.0 (enters g c) room),
+      c.enter-done.ensures.saved.covered,
+    )
+
+-- what the file covers, said of what a caller sees
+pub returns-in_err-judge-clause-since : goal.returns-in_err-judge-clause-since
+returns-in_err-judge-clause-since g c keeps image left =
+    let covered = subst (λ (n : ℕ). Held c.self.inside.store.owner (g.D.Disk.state c.self.inside.store.disk) n) (sym c.self.invariant.0.granted) (c.self.invariant.1 keeps) in
+    subst (λ v. Held v.owner (g.D.Disk.state v.disk) (granted_of v.base v.entries)) c.self.view_is covered image ((g.D.Disk.state c.args.self.now.disk).only_now image left)
+
+pub returns-then-is_err-clause-since : goal.returns-then-is_err-clause-since
+returns-then-is_err-clause-since g c keeps image left =
+    let covered = subst (λ (n : ℕ). Held c.self.inside.store.owner (g.D.Disk.state c.self.inside.store.disk) n) (sym c.self.invariant.0.granted) (c.self.invariant.1 keeps) in
+    let same = ap (λ v. v.disk) c.self.view_is in
+    subst (λ v. Held v.owner (g.D.Disk.state v.disk) (granted_of v.base v.entries)) c.self.view_is covered image ((g.D.Disk.state c.args.self.now.disk).only_now image (rw same at left))
+
+pub returns-clause-ok : goal.returns-clause-ok
+returns-clause-ok g c =
+    let base = base_of c.self.inside.base in
+    let snoc : c.push.new.self.entries ≡ c.self.inside.journal.entries ++ entry g c ∷ [] = c.push.ensures ∙ ap (λ (l : List Entry). l ++ entry g c ∷ []) c.reserve.ensures.entries in
+    let stands : state_after base c.push.new.self.entries ≡ c.enter-done.new.member =
+    ap (state_after base) snoc
+    ∙ state-snoc base c.self.inside.journal.entries (entry g c) c.self.inside.first c.self.inside.member c.enter-done.new.member c.self.inside.store.ceiling c.enter-done.new.store.ceiling c.self.inside.most c.self.invariant.0 (enters g c) in
+    let stood : state_after base c.self.inside.journal.entries ≡ c.self.inside.member = c.self.invariant.0.member in
+    let disk = ap (λ v. v.disk) c.self.view_is in (
+      entry g c,
+      record {
+        entries = snoc ∙ ap (λ v. v.entries ++ entry g c ∷ []) c.self.view_is;
+        tag_is = refl;
+        event_is = refl;
+        reply_is = sym c.copy_reply-told.ensures;
+        texts = c.enter-done.ensures.texts;
+        kept = λ kept. c.enter-done.ensures.saved.kept kept ∙ disk;
+        failed = λ keeps failed. rw disk at (c.enter-done.ensures.saved.failed keeps failed);
+        said = subst (λ (s : State). AreAll s.number (own_numbers_in base.state.settings.me c.enter-done.result.outs.items)) (sym stands)
+            (said-new base c.self.inside.journal.entries (entry g c) c.self.inside.first c.self.inside.member c.enter-done.new.member c.self.inside.store.ceiling c.enter-done.new.store.ceiling c.self.inside.most c.self.invariant.0 (enters g c));
+        unsaved = λ failed. subst (λ v. AreAll (state_after v.base v.entries).number (own_numbers_in v.base.state.settings.me c.enter-done.result.outs.items)) c.self.view_is
+            (subst (λ (s : State). AreAll s.number (own_numbers_in base.state.settings.me c.enter-done.result.outs.items)) (sym stood)
+            (said-old base c.self.inside.journal.entries (entry g c) c.self.inside.first c.self.inside.member c.enter-done.new.member c.self.inside.store.ceiling c.enter-done.new.store.ceiling c.self.inside.most c.self.invariant.0 (enters g c) failed));
+      },
+      c.enter-done.ensures.sends,
+    )

@@ -1,0 +1,9 @@
+pub mod History
+pub mod Link
+pub mod Saving
+pub mod Sending
+pub mod Owns
+pub mod Turns
+pub mod Entering
+pub mod Node
+pub mod Lives

@@ -1,0 +1,98 @@
+-- A node, as its callers see it and as it keeps itself.
+use Rattle.std.specs.Prelude.{◌≡◌, ℕ, ◌+◌, ◌<◌, ◌≤◌, List, [], ◌∷◌, ◌++◌, length, All, Result, Ok, Err, Option}
+use Rattle.swim_disk.specs.Disk.{State as DiskState}
+use Rattle.swim_state.specs.declared.owner.Owner.{Owner}
+use Rattle.swim_member.specs.State.{State}
+use Rattle.swim_member.specs.declared.event.Event.{Event}
+use Rattle.swim_member.specs.declared.settings.Settings.{Settings}
+use Rattle.swim_member.specs.Fit.{AreAll, own_numbers_in}
+use Rattle.swim_node.specs.declared.base.Base.{Base as Start}
+use Rattle.swim_node.specs.declared.entry.Entry.{Entry}
+use Rattle.swim_node.specs.declared.entry.Tag.{Tag}
+use Rattle.swim_node.specs.declared.entry.Reply.{Reply}
+use Rattle.swim_node.specs.declared.entry.Save.TheVariants.{Kept, Failed}
+use Rattle.swim_node.specs.declared.fault.ApplyFault.{ApplyFault}
+use Rattle.swim_node.specs.declared.fault.ApplyFault.TheVariants.{NoMemory, EraFull, OutOfTurn}
+use Rattle.swim_node.specs.declared.fault.OpenFault.{OpenFault}
+use Rattle.swim_node.specs.History.{Base, IsLegal, state_after, granted_of, calls_by}
+use Rattle.swim_node.specs.Sending.{HasTexts}
+use Rattle.swim_node.specs.Owns.{owns, greatest, AreAtMost, AreAtLeast}
+
+-- what a contract sees of a node
+pub record NodeView (D : Type 0) : Type 0 where
+  pub base : Base
+  pub entries : List Entry
+  pub disk : D
+  pub owner : Owner
+  pub first : ℕ  -- the number with which this life began
+
+abbrev pub base_of : Start → Base
+base_of b = record { state = b.state.value; granted = b.granted; past = b.past; limit = b.limit }
+
+-- whose state file a member with these settings has
+abbrev pub owner_of : Settings → Owner
+owner_of settings = record { group = settings.group; me = settings.me }
+
+-- how a node keeps itself
+pub record IsNode (base : Base) (entries : List Entry) (first : ℕ) (s : State) (ceiling : ℕ) (top : Option ℕ) : Type 0 where
+  pub legal : IsLegal base entries
+  pub member : state_after base entries ≡ s
+  pub settings : s.settings ≡ base.state.settings
+  pub granted : granted_of base entries ≡ ceiling
+  pub low : s.number ≤ ceiling
+  pub high : first ≤ s.number
+  pub covers : AreAtMost ceiling (owns base entries)
+  pub begun : AreAtLeast first (owns base entries)
+  pub most : greatest (owns base entries) ≡ top
+  pub texts : All HasTexts entries
+  pub short : base.limit ≤ 65536
+
+-- the turn is the caller's next one
+abbrev pub IsTurn : List Entry → Tag → Type 0
+IsTurn entries tag = tag.turn ≡ length (calls_by tag.caller entries) + 1
+
+abbrev pub IsFull : Base → List Entry → Type 0
+IsFull base entries = length entries ≡ base.limit
+
+-- when each refusal comes: the turn is judged first, then the era, then memory
+abbrev pub Refused : Base → List Entry → Tag → ApplyFault → Type 0
+Refused base entries tag OutOfTurn = ¬ (IsTurn entries tag)
+Refused base entries tag EraFull = IsTurn entries tag × IsFull base entries
+Refused base entries tag NoMemory = IsTurn entries tag × (length entries < base.limit)
+
+-- the entries are these calls, in order
+abbrev pub AreCalls : List (Tag × Event) → List Entry → Type 0
+AreCalls [] [] = Unit {0}
+AreCalls [] (e ∷ history) = ⊥
+AreCalls (c ∷ calls) [] = ⊥
+AreCalls (c ∷ calls) (e ∷ history) = (e.tag ≡ c.0) × (e.event ≡ c.1) × AreCalls calls history
+
+-- these calls were entered, and no other
+pub record Ran {D : Type 0} (old new : NodeView D) (calls : List (Tag × Event)) : Type 0 where
+  pub added : List Entry
+  pub entries : new.entries ≡ old.entries ++ added
+  pub are : AreCalls calls added
+  pub base : new.base ≡ old.base
+  pub owner : new.owner ≡ old.owner
+  pub first : new.first ≡ old.first
+
+-- the disk of a node, or the one that a refused opening gives back
+abbrev pub disk_of : {D : Type 0} → Result (NodeView D) (D × OpenFault) → D
+disk_of (Ok node) = node.disk
+disk_of (Err refused) = refused.0
+
+-- one entry came: this caller's, with this event and this reply
+pub record Added {D : Type 0} (keeps : Type 0) (state : D → DiskState) (old new : NodeView D) (tag : Tag) (event : Event) (reply : Reply) (e : Entry) : Type 0 where
+  pub entries : new.entries ≡ old.entries ++ e ∷ []
+  pub tag_is : e.tag ≡ tag
+  pub event_is : e.event ≡ event
+  pub reply_is : e.reply ≡ reply
+  pub texts : HasTexts e
+  pub kept : e.save ≡ Kept → new.disk ≡ old.disk
+  pub failed : keeps → e.save ≡ Failed → (state old.disk).failures < (state new.disk).failures
+  pub said : AreAll (state_after new.base new.entries).number (own_numbers_in new.base.state.settings.me e.outs.items)
+  pub unsaved : e.save ≡ Failed → AreAll (state_after old.base old.entries).number (own_numbers_in old.base.state.settings.me e.outs.items)
+
+-- the state after an era as the base of the next
+abbrev pub rebased : Base → List Entry → Base
+rebased base entries = record { state = state_after base entries; granted = granted_of base entries; past = greatest (owns base entries); limit = base.limit }

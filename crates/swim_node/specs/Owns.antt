@@ -1,0 +1,36 @@
+-- The own numbers in what was sent.
+use Rattle.std.specs.Prelude.{ℕ, ◌≤◌, max, List, [], ◌∷◌, ◌++◌, Option, Some, None}
+use Rattle.std.specs.Option.{option_to_list}
+use Rattle.swim_member.specs.Fit.{own_numbers_in}
+use Rattle.swim_node.specs.declared.entry.Entry.{Entry}
+use Rattle.swim_node.specs.History.{Base}
+
+-- of the datagrams of these entries, taken or lost
+abbrev pub owns_in : ℕ → List Entry → List ℕ
+owns_in me [] = []
+owns_in me (e ∷ history) = own_numbers_in me e.outs.items ++ owns_in me history
+
+-- of earlier eras too
+abbrev pub owns : Base → List Entry → List ℕ
+owns base history = option_to_list base.past ++ owns_in base.state.settings.me history
+
+abbrev pub AreAtMost : ℕ → List ℕ → Type 0
+AreAtMost g [] = Unit {0}
+AreAtMost g (n ∷ ns) = (n ≤ g) × AreAtMost g ns
+
+abbrev pub AreAtLeast : ℕ → List ℕ → Type 0
+AreAtLeast f [] = Unit {0}
+AreAtLeast f (n ∷ ns) = (f ≤ n) × AreAtLeast f ns
+
+-- the greater of a number, if there is one, and another
+abbrev pub more : Option ℕ → ℕ → Option ℕ
+more None n = Some n
+more (Some m) n = Some (max n m)
+
+abbrev pub greatest_with : Option ℕ → List ℕ → Option ℕ
+greatest_with most [] = most
+greatest_with most (n ∷ ns) = greatest_with (more most n) ns
+
+-- the greatest number, if there is one
+abbrev pub greatest : List ℕ → Option ℕ
+greatest ns = greatest_with None ns

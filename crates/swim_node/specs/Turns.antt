@@ -1,0 +1,12 @@
+-- How many entries each caller has.
+use Rattle.std.specs.Prelude.{◌≡◌, ℕ, ◌<◌, List, length, slice_index}
+use Rattle.swim_node.specs.declared.entry.Entry.{Entry}
+use Rattle.swim_node.specs.History.{calls_by}
+
+-- a journal's entries, and for how many it has room
+pub record JournalView : Type 0 where
+  pub entries : List Entry
+  pub room : ℕ
+
+pub record AreTurns (turns : List ℕ) (entries : List Entry) : Type 0 where
+  pub counted : (caller : ℕ) → caller < 16 → slice_index turns caller ≡ length (calls_by caller entries)

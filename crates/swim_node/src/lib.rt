@@ -1,0 +1,32 @@
+//! A member with its state file, its link and its journal, on one thread: each call is one event, and one entry of
+//! the history.
+#![tactic(auto)]
+
+mod base;
+mod copies;
+mod counts;
+mod entering;
+mod entry;
+mod fault;
+mod journal;
+mod laws;
+mod link;
+mod memory_link;
+mod node;
+mod opening;
+mod running;
+mod saving;
+mod sending;
+
+pub use base::Base;
+pub use entry::{Entry, Outcome, Reply, Save, Status, Tag};
+pub use fault::{ApplyFault, OpenFault};
+pub use laws::own_numbers_rise;
+pub use link::{Link, LinkFault};
+pub use memory_link::{MemoryLink, Taken};
+pub use node::Node;
+pub use opening::LIMIT_MAX;
+pub use running::run;
+
+#[cfg(test)]
+mod tests;

@@ -1,0 +1,219 @@
+//! The node.
+
+ghost use Rattle.std.specs.Prelude.{◌≡◌, ◌≢◌, ◌+◌, ◌<◌, ◌≤◌, ◌++◌, ◌∷◌, [], List, length, IfErr, IfOk, OnOk, OnErr, All};
+ghost use Rattle.swim_state.specs.Held.{Held, HeldSince, Through, Covers};
+ghost use Rattle.swim_node.specs.History.{calls_by, status_at, status_of, IsLegal, granted_of};
+ghost use Rattle.swim_node.specs.Owns.{owns, AreAtMost, AreAtLeast};
+ghost use Rattle.swim_node.specs.Node.{Added, IsTurn, Refused, rebased};
+ghost use Rattle.swim_node.specs.Sending.{Sends, HasTexts};
+
+use crate::base::Base;
+use crate::copies::copy_reply;
+use crate::counts::{count_lost, count_taken, greatest_own};
+use crate::entering::enter;
+use crate::journal::Journal;
+use crate::{ApplyFault, Entry, Link, Reply, Status, Tag};
+use std::marker::Model;
+use swim_disk::Disk;
+use swim_member::{Event, Member};
+use swim_state::Store;
+
+/// A member with its state file and its journal.
+#[derive(Drop)]
+pub struct Node<D: Disk> {
+    pub(crate) base: Base,
+    pub(crate) journal: Journal,
+    pub(crate) member: Member,
+    pub(crate) store: Store<D>,
+    pub(crate) first: u64,
+    pub(crate) most: Option<u64>,
+}
+
+impl<D: Disk> Model for Node<D> {
+    ghost use Rattle.swim_node.specs.Node.{NodeView, IsNode, base_of};
+    ghost use Rattle.swim_state.specs.Held.{Held};
+
+    ghost Value = { NodeView D };
+
+    ghost view = { λ n. record { base = base_of n.base; entries = n.journal.entries; disk = n.store.disk; owner = n.store.owner; first = n.first } };
+
+    ghost invariant = { λ n. IsNode (base_of n.base) n.journal.entries n.first n.member n.store.ceiling n.most × (D.keeps_model → Held n.store.owner (D.state n.store.disk) n.store.ceiling) };
+}
+
+/// The status of a member after so many entries of an era.
+pub(crate) fn status_now(member: &Member, length: usize) -> Status
+    ensures { result ≡ status_at member.now length }
+{
+    let counts = member.counts();
+    Status {
+        phase: member.phase(),
+        number: member.number(),
+        alive: counts.alive,
+        suspect: counts.suspect,
+        confirmed: counts.confirmed,
+        length,
+    }
+}
+
+impl<D: Disk> Node<D> {
+    /// The entries of this era, in order.
+    pub fn journal(&self) -> &[Entry]
+        ensures entries { result.now ≡ self.now.entries }
+        ensures legal { IsLegal self.now.base self.now.entries }
+        ensures texts { All HasTexts self.now.entries }
+        ensures short { length self.now.entries ≤ 65536 }
+    {
+        self.journal.entries()
+    }
+
+    /// How many entries this era has.
+    pub fn len(&self) -> usize
+        ensures { result ≡ length self.now.entries }
+    {
+        self.journal.entries().len()
+    }
+
+    /// The last entry of this era.
+    pub fn last(&self) -> &Entry
+        requires { 0 < length self.now.entries }
+        ensures last { (before : List Entry) → (e : Entry) → self.now.entries ≡ before ++ e ∷ [] → result.now ≡ e }
+        ensures texts { HasTexts result.now }
+    {
+        let entries = self.journal.entries();
+        &entries[entries.len() - 1]
+    }
+
+    /// What a status page shows now.
+    pub fn status(&self) -> Status
+        ensures { result ≡ status_of self.now.base self.now.entries }
+    {
+        status_now(&self.member, self.len())
+    }
+
+    /// How many entries of this era a caller, below 16, has.
+    pub fn turns(&self, caller: u8) -> u32
+        requires { caller < 16 }
+        ensures { result ≡ length (calls_by caller self.now.entries) }
+    {
+        self.journal.turns(caller)
+    }
+
+    /// The disk. Each content that a crash may leave there has a floor of at least each own number that was sent, and
+    /// none of those is below the number with which this life began.
+    pub fn disk(&self) -> &D
+        ensures disk { result.now ≡ self.now.disk }
+        ensures held { D.keeps_model → Held self.now.owner (D.state self.now.disk) (granted_of self.now.base self.now.entries) }
+        ensures owns { AreAtMost (granted_of self.now.base self.now.entries) (owns self.now.base self.now.entries) }
+        ensures begun { AreAtLeast self.now.first (owns self.now.base self.now.entries) }
+        ensures first { self.now.first ≤ granted_of self.now.base self.now.entries }
+    {
+        self.store.disk()
+    }
+
+    /// The disk, by value, with all that `disk` says of it.
+    pub fn into_disk(self) -> D
+        ensures disk { result ≡ self.disk }
+        ensures held { D.keeps_model → Held self.owner (D.state result) (granted_of self.base self.entries) }
+        ensures owns { AreAtMost (granted_of self.base self.entries) (owns self.base self.entries) }
+        ensures begun { AreAtLeast self.first (owns self.base self.entries) }
+        ensures first { self.first ≤ granted_of self.base self.entries }
+    {
+        let Node {
+            base: _,
+            journal: _,
+            member: _,
+            store,
+            first: _,
+            most: _,
+        } = self;
+        store.into_disk()
+    }
+
+    /// Begins an era: what is now becomes the base, the journal is empty, and turns begin at 1 again.
+    pub fn rebase(&mut self)
+        ensures base { self.new.base ≡ rebased self.old.base self.old.entries }
+        ensures settings { self.new.base.state.settings ≡ self.old.base.state.settings }
+        ensures entries { self.new.entries ≡ [] }
+        ensures disk { self.new.disk ≡ self.old.disk }
+        ensures owner { self.new.owner ≡ self.old.owner }
+        ensures first { self.new.first ≡ self.old.first }
+    {
+        self.base = Base {
+            state: self.member.base(),
+            granted: self.store.ceiling(),
+            past: self.most,
+            limit: self.base.limit,
+        };
+        self.journal.clear();
+    }
+
+    /// Whether a call may be entered: in turn, and while the era has room.
+    fn judge(&self, tag: Tag) -> Result<(), ApplyFault>
+        requires { tag.caller < 16 }
+        ensures ok { OnOk result (IsTurn self.now.entries tag × (length self.now.entries < self.now.base.limit)) }
+        ensures refused { IfErr result (λ fault. Refused self.now.base self.now.entries tag fault) }
+        ensures memory { result ≢ Err ApplyFault.NoMemory }
+    {
+        let turns = self.journal.turns(tag.caller);
+        if tag.turn == 0 || tag.turn - 1 != turns {
+            return Err(ApplyFault::OutOfTurn);
+        }
+        if self.len() >= self.base.limit as usize {
+            return Err(ApplyFault::EraFull);
+        }
+        Ok(())
+    }
+
+    /// Enters one call of a caller below 16. The turn is judged first, then the era, and then the call takes all its
+    /// memory, one place in the journal; a refusal changes nothing. Then the wanted number is saved where it is above
+    /// the ceiling, the member steps with the ceiling that stands, each datagram is sent in order, whatever became of
+    /// the one before, and the entry is added.
+    pub fn apply<L: Link>(
+        &mut self,
+        link: &mut L,
+        tag: Tag,
+        event: Event,
+    ) -> Result<Reply, ApplyFault>
+        requires caller { tag.caller < 16 }
+        ensures base { self.new.base ≡ self.old.base }
+        ensures owner { self.new.owner ≡ self.old.owner }
+        ensures first { self.new.first ≡ self.old.first }
+        ensures disk { (D.state self.new.disk).name ≡ (D.state self.old.disk).name }
+        ensures link { L.name link.new ≡ L.name link.old }
+
+        // One entry came, and what the link took of it is what it marks as taken.
+        ensures ok { IfOk result (λ reply. (e : Entry) × Added D.keeps_model D.state self.old self.new tag event reply e × Sends L.tells (L.took link.old) (L.took link.new) (L.failures link.old) (L.failures link.new) e.outs.items e.outcomes.items) }
+        ensures in_turn { OnOk result (IsTurn self.old.entries tag) }
+        ensures err { OnErr result ((self.new ≡ self.old) × (link.new ≡ link.old)) }
+        ensures refused { IfErr result (λ fault. Refused self.old.base self.old.entries tag fault) }
+
+        // No moment of the call leaves less than the ceiling before it.
+        ensures moments { D.keeps_model → Through (Covers self.old.owner (granted_of self.old.base self.old.entries)) (D.state self.old.disk) (D.state self.new.disk) }
+        ensures since { D.keeps_model → HeldSince self.old.owner (D.state self.new.disk) (D.state self.old.disk).clock (granted_of self.old.base self.old.entries) }
+    {
+        self.judge(tag)?;
+        if self.journal.reserve().is_err() {
+            return Err(ApplyFault::NoMemory);
+        }
+        let done = enter(&mut self.member, &mut self.store, link, &event);
+        let reply = Reply {
+            status: status_now(&self.member, self.journal.entries().len() + 1),
+            notes: done.notes,
+            page: done.page,
+            sent: count_taken(&done.outcomes),
+            lost: count_lost(&done.outcomes),
+        };
+        let told = copy_reply(&reply);
+        self.most = greatest_own(&done.outs, self.member.settings().me, self.most);
+        self.journal.push(Entry {
+            tag,
+            event,
+            granted: done.granted,
+            save: done.save,
+            outs: done.outs,
+            outcomes: done.outcomes,
+            reply,
+        });
+        Ok(told)
+    }
+}

@@ -1,0 +1,87 @@
+//! Opening a node.
+
+ghost use Rattle.std.specs.Prelude.{◌≡◌, ◌≢◌, ◌↔◌, ◌⊎◌, ◌+◌, ◌<◌, ◌≤◌, ◌^◌, [], Some, ℕ, IfOk, IfErr};
+ghost use Rattle.swim_member.specs.Checks.{AreSound};
+ghost use Rattle.swim_state.specs.File.{floor};
+ghost use Rattle.swim_state.specs.Held.{Held, HeldSince, Through, Covers};
+ghost use Rattle.swim_state.specs.Recovery.{fault_of};
+ghost use Rattle.swim_state.specs.declared.fault.RecoverFault.{RecoverFault as Faults};
+ghost use Rattle.swim_state.specs.declared.fault.RecoverFault.TheVariants.{Device};
+ghost use Rattle.swim_node.specs.History.{fresh_base};
+ghost use Rattle.swim_node.specs.Node.{disk_of, owner_of};
+
+use crate::base::Base;
+use crate::journal::Journal;
+use crate::{Node, OpenFault};
+use std::alloc::Global;
+use swim_disk::Disk;
+use swim_member::{Member, Settings};
+use swim_state::{Owner, recover};
+
+/// The most entries that an era may have.
+pub const LIMIT_MAX: u32 = 65_536;
+
+impl<D: Disk> Node<D> {
+    /// Opens a node on the state file of the member that the settings name, with a first number above all that a
+    /// crash may have left there. An era has at most `limit` entries, 1 to `LIMIT_MAX`. The limit is judged first,
+    /// then a place in the journal is taken, and then the file is recovered.
+    pub fn open(
+        alloc: Global,
+        disk: D,
+        settings: Settings,
+        limit: u32,
+    ) -> Result<Node<D>, (D, OpenFault)>
+        requires sound { AreSound settings }
+        ensures entries { IfOk result (λ n. n.entries ≡ []) }
+        ensures base { IfOk result (λ n. n.base ≡ fresh_base settings n.first limit) }
+        ensures first { D.keeps_model → IfOk result (λ n. n.first ≡ floor (D.state disk).content + 1) }
+        ensures bounds { IfOk result (λ n. (1 ≤ n.first) × (n.first ≤ 2 ^ 62)) }
+        ensures owner { IfOk result (λ n. n.owner ≡ owner_of settings) }
+        ensures limit { IfOk result (λ n. (1 ≤ limit) × (limit ≤ 65536)) }
+        ensures range { IfErr result (λ refused. refused.1 ≡ OpenFault.Limit ↔ ((limit ≡ 0) ⊎ (65536 < limit))) }
+        ensures name { (D.state (disk_of result)).name ≡ (D.state disk).name }
+
+        // The first two faults leave the disk as it was, and the others are those of the recovery.
+        ensures untouched { IfErr result (λ refused. (refused.1 ≡ OpenFault.Limit → refused.0 ≡ disk) × (refused.1 ≡ OpenFault.NoMemory → refused.0 ≡ disk)) }
+        ensures device { IfErr result (λ refused. refused.1 ≡ OpenFault.Refused Device → (D.state disk).failures < (D.state refused.0).failures) }
+        ensures fault { D.keeps_model → IfErr result (λ refused. (fault : Faults) → fault ≢ Device → refused.1 ≡ OpenFault.Refused fault → fault_of (owner_of settings) (D.state disk).content ≡ Some fault) }
+
+        // No moment of the call leaves less than what was held before it, and the first number is above that.
+        ensures moments { D.keeps_model → (b : ℕ) → Held (owner_of settings) (D.state disk) b → Through (Covers (owner_of settings) b) (D.state disk) (D.state (disk_of result)) }
+        ensures since { D.keeps_model → (b : ℕ) → Held (owner_of settings) (D.state disk) b → HeldSince (owner_of settings) (D.state (disk_of result)) (D.state disk).clock b }
+        ensures above { D.keeps_model → (b : ℕ) → Held (owner_of settings) (D.state disk) b → IfOk result (λ n. b < n.first) }
+    {
+        if limit == 0 || limit > LIMIT_MAX {
+            return Err((disk, OpenFault::Limit));
+        }
+        let mut journal = Journal::new(alloc);
+        if journal.reserve().is_err() {
+            return Err((disk, OpenFault::NoMemory));
+        }
+        let owner = Owner {
+            group: settings.group,
+            me: settings.me,
+        };
+        match recover(disk, owner) {
+            Err((disk, fault)) => Err((disk, OpenFault::Refused(fault))),
+            Ok(store) => {
+                let first = store.ceiling();
+                let _ = store.disk();
+                let member = Member::new(settings, first);
+                Ok(Node {
+                    base: Base {
+                        state: member.base(),
+                        granted: first,
+                        past: None,
+                        limit,
+                    },
+                    journal,
+                    member,
+                    store,
+                    first,
+                    most: None,
+                })
+            }
+        }
+    }
+}

@@ -1,0 +1,33 @@
+//! Calls one after another.
+
+ghost use Rattle.std.specs.Prelude.{◌≡◌, ◌<◌, length, take, slice_get, Some, OnOk, IfErr, All};
+ghost use Rattle.swim_node.specs.Node.{Ran, Refused};
+ghost use Rattle.swim_node.specs.declared.entry.Tag.{Tag as Tags};
+ghost use Rattle.swim_member.specs.declared.event.Event.{Event as Events};
+
+use crate::copies::copy_event;
+use crate::{ApplyFault, Link, Node, Tag};
+use swim_disk::Disk;
+use swim_member::Event;
+
+/// Applies each call in order, and stops at the first that is refused. The number says how many stand.
+pub fn run<D: Disk, L: Link>(
+    node: &mut Node<D>,
+    link: &mut L,
+    calls: &[(Tag, Event)],
+) -> Result<(), (usize, ApplyFault)>
+    requires callers { All (λ call. call.0.caller < 16) calls.now }
+    ensures name { L.name link.new ≡ L.name link.old }
+    ensures disk { (D.state node.new.disk).name ≡ (D.state node.old.disk).name }
+    ensures ok { OnOk result (Ran node.old node.new calls.now) }
+    ensures err { IfErr result (λ r. (r.0 < length calls.now) × Ran node.old node.new (take r.0 calls.now)) }
+    ensures refused { IfErr result (λ r. (call : (Tags × Events)) × (slice_get calls.now r.0 ≡ Some call) × Refused node.new.base node.new.entries call.0 r.1) }
+{
+    for i in 0..calls.len() {
+        let call = &calls[i];
+        if let Err(fault) = node.apply(link, call.0, copy_event(&call.1)) {
+            return Err((i, fault));
+        }
+    }
+    Ok(())
+}
