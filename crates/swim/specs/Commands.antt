@@ -1,0 +1,104 @@
+-- Which line of a script says which command.
+use Rattle.std.specs.Prelude.{◌≡◌, ◌==◌, ◌||◌, ◌&&◌, ℕ, nat_le, nat_lt, if◌then◌else◌, Result, Ok, Err, ◌⊎◌, Bool, true, false, not, Option, Some, None, List, [], ◌∷◌, length, slice_index, codes}
+use Rattle.std.specs.List.{filter, slice_split, list_all}
+use Rattle.std.specs.Borrow.{Bor}
+use Rattle.std.specs.Fmt.{decimal}
+use Rattle.swim_member.specs.declared.event.Event.{Event}
+use Rattle.swim_member.specs.declared.event.Event.TheVariants as event
+use Rattle.swim.specs.declared.command.Command.{Command}
+use Rattle.swim.specs.declared.command.Command.TheVariants.{Start, Group, Me, Set, Happen}
+use Rattle.swim.specs.declared.command.Setting.{Setting}
+use Rattle.swim.specs.declared.command.Setting.TheVariants as setting
+use Rattle.swim.specs.declared.command.Keyword.{Keyword}
+use Rattle.swim.specs.declared.command.Keyword.TheVariants as keyword
+use Rattle.swim.specs.declared.fault.FaultKind.{FaultKind}
+use Rattle.swim.specs.declared.fault.FaultKind.TheVariants as fault
+use Rattle.swim.specs.Words.{spaced, endpoint_text, IsHex}
+
+-- the word that begins a command
+abbrev pub keyword_text : Keyword → List ℕ
+keyword_text keyword.Start = codes "start"
+keyword_text keyword.Group = codes "group"
+keyword_text keyword.Me = codes "me"
+keyword_text keyword.Set = codes "set"
+keyword_text keyword.Receive = codes "recv"
+keyword_text keyword.Tick = codes "tick"
+keyword_text keyword.ReceiveFailed = codes "recvfail"
+keyword_text keyword.SendFailed = codes "sendfail"
+keyword_text keyword.Join = codes "join"
+keyword_text keyword.Leave = codes "leave"
+keyword_text keyword.Members = codes "members"
+
+abbrev pub setting_text : Setting → List ℕ
+setting_text setting.Lambda = codes "lambda"
+setting_text setting.Period = codes "period"
+setting_text setting.Direct = codes "direct"
+setting_text setting.Suspect = codes "suspect"
+setting_text setting.Forget = codes "forget"
+setting_text setting.Helpers = codes "helpers"
+setting_text setting.Limit = codes "limit"
+
+-- a line that begins with a keyword and goes on with its arguments
+abbrev pub line : Keyword → List ℕ → List ℕ
+line keyword rest = spaced (keyword_text keyword) rest
+
+-- a received datagram: whence, and its bytes in hex
+pub record IsReceived (text : List ℕ) (from : ℕ) (bytes : List ℕ) : Type 0 where
+  pub word : List ℕ
+  pub hex : IsHex word bytes
+  pub says : text ≡ line keyword.Receive (spaced (endpoint_text from) word)
+
+abbrev pub SaysEvent : List ℕ → Event → Type 0
+SaysEvent text (event.Tick word) = text ≡ line keyword.Tick (decimal word)
+SaysEvent text (event.Datagram from bytes) = IsReceived text from bytes.items
+SaysEvent text event.ReceiveFailed = text ≡ keyword_text keyword.ReceiveFailed
+SaysEvent text (event.SendFailed count) = text ≡ line keyword.SendFailed (decimal count)
+SaysEvent text (event.Join peer) = text ≡ line keyword.Join (endpoint_text peer)
+SaysEvent text event.Leave = text ≡ keyword_text keyword.Leave
+SaysEvent text (event.Members after) =
+    ((text ≡ keyword_text keyword.Members) × (after ≡ 0)) ⊎ (text ≡ line keyword.Members (endpoint_text after))
+
+-- the line says the command
+abbrev pub Says : List ℕ → Command → Type 0
+Says text (Start first) = text ≡ line keyword.Start (decimal first.value)
+Says text (Group number) = text ≡ line keyword.Group (decimal number)
+Says text (Me endpoint) = text ≡ line keyword.Me (endpoint_text endpoint)
+Says text (Set setting number) = text ≡ line keyword.Set (spaced (setting_text setting) (decimal number))
+Says text (Happen event) = SaysEvent text event
+
+-- the lines of a script; the last one may lack its end
+abbrev pub lines_of : List ℕ → List (List ℕ)
+lines_of script = slice_split (λ byte. byte == 10) script
+
+-- a line that isn't empty and is no comment
+abbrev pub is_said : List ℕ → Bool
+is_said text = not (length text == 0 || slice_index text 0 == 35)
+
+-- each line says its command
+abbrev pub AreSaid : List (List ℕ) → List Command → Type 0
+AreSaid [] [] = Unit {0}
+AreSaid (text ∷ lines) (command ∷ commands) = Says text command × AreSaid lines commands
+AreSaid _ _ = ⊥
+
+-- the script says these commands, in order
+abbrev pub IsScript : List ℕ → List Command → Type 0
+IsScript script commands = AreSaid (filter is_said (lines_of script)) commands
+
+-- the lines of what is left of a script, if anything is left
+abbrev pub and_lines : Option (Bor (List ℕ)) → List (List ℕ)
+and_lines None = []
+and_lines (Some rest) = lines_of rest.now
+
+-- a byte that prints, or a space
+abbrev pub is_printed : ℕ → Bool
+is_printed byte = nat_le 0x20 byte && nat_le byte 0x7e
+
+-- the first fault of a line's bytes, if they have one
+abbrev pub judged : List ℕ → Result (Unit {0}) FaultKind
+judged text =
+    if not (list_all is_printed text) then Err fault.Text else (if nat_lt 1300 (length text) then Err fault.Long else Ok tt)
+
+-- what a line says, if it says a command
+abbrev pub SaysLine : List ℕ → Option Command → Type 0
+SaysLine text None = is_said text ≡ false
+SaysLine text (Some command) = (is_said text ≡ true) × Says text command

@@ -1,0 +1,32 @@
+//! The number that a life begins with.
+
+ghost use Rattle.std.specs.Prelude.{◌≡◌, ◌^◌, ◌≤◌, IfSome};
+ghost use Rattle.std.specs.Fmt.{decimal};
+
+use crate::words::read_within;
+use swim_wire::NUMBER_MAX;
+
+/// A number that a life may begin with, 1 to 2^62.
+#[derive(Clone, Copy, Debug, PartialEq, Eq)]
+pub struct FirstNumber {
+    value: u64,
+    ghost in_range: { (1 ≤ value) × (value ≤ 2 ^ 62) },
+}
+
+impl FirstNumber {
+    /// The number.
+    pub(crate) fn value(self) -> u64
+        ensures value { result ≡ self.value }
+        ensures range { (1 ≤ result) × (result ≤ 2 ^ 62) }
+    {
+        self.value
+    }
+}
+
+/// The number that decimal digits spell, if a life may begin with it.
+pub(crate) fn read_first(text: &[u8]) -> Option<FirstNumber>
+    ensures { IfSome result (λ first. text.now ≡ decimal first.value) }
+{
+    let value = read_within(text, 1, NUMBER_MAX)?;
+    Some(FirstNumber { value })
+}

@@ -1,0 +1,96 @@
+//! Whole transcripts, and the faults of scripts. The other worked rows are scripts with their
+//! transcripts in `examples/rows`.
+
+use crate::fault::FaultKind;
+use crate::player::play;
+use std::alloc::Global;
+
+/// Whether the script has this transcript.
+fn plays(alloc: Global, script: &str, transcript: &str) -> bool {
+    match play(alloc, script.as_bytes()) {
+        Ok(played) => played.text.as_str() == transcript,
+        Err(_) => false,
+    }
+}
+
+/// The line and the kind of the script's fault.
+fn fault_of(alloc: Global, script: &str) -> Option<(usize, FaultKind)> {
+    match play(alloc, script.as_bytes()) {
+        Ok(_) => None,
+        Err(fault) => Some((fault.line, fault.kind)),
+    }
+}
+
+#[test]
+fn first_ping(rt: HostRuntime) {
+    let script =
+        "start 1\nrecv 10.0.0.2:7000 5357494d010100000000000000000007000000010a0000021b580a0000011b58\n";
+    let transcript =
+        "start ok number 1\nevent 1 save none number 1 phase running\nsend 10.0.0.2:7000 taken 5357494d010301000000000000000007000000010a0000011b580a0000011b5801000a0000011b580000000000000001\n";
+    assert!(rt; plays(rt.alloc(), script, transcript));
+}
+
+#[test]
+fn bad_senders(rt: HostRuntime) {
+    let script =
+        "start 1\nrecv 10.0.0.2:7000 -\nrecv 10.0.0.3:7000 5357494d010100000000000000000007000000010a0000021b580a0000011b58\n";
+    let transcript =
+        "start ok number 1\nevent 1 save none number 1 phase running\nnote 1 BadDatagram 1 TooShort\nevent 2 save none number 1 phase running\nnote 3 NotSender\n";
+    assert!(rt; plays(rt.alloc(), script, transcript));
+}
+
+#[test]
+fn faulty_lines(rt: HostRuntime) {
+    // Each has its fault in its first line.
+    let table = [
+        ("start\t1", FaultKind::Text),
+        ("# a bell \x07", FaultKind::Text),
+        ("stop", FaultKind::Command),
+        (" start 1", FaultKind::Command),
+        ("start", FaultKind::Argument),
+        ("start 0", FaultKind::Argument),
+        ("start 01", FaultKind::Argument),
+        ("start +1", FaultKind::Argument),
+        ("start 1 ", FaultKind::Argument),
+        ("start 1 2", FaultKind::Argument),
+        ("start 4611686018427387905", FaultKind::Argument),
+        ("group 18446744073709551616", FaultKind::Argument),
+        ("set lambda 1000001", FaultKind::Argument),
+        ("set block 1", FaultKind::Argument),
+        ("tick 4294967296", FaultKind::Argument),
+        ("leave now", FaultKind::Argument),
+    ];
+    for (script, kind) in table {
+        assert_eq!(rt; fault_of(rt.alloc(), script), Some((1, kind)), "{script:?}");
+    }
+}
+
+#[test]
+fn faulty_endpoints_and_hex(rt: HostRuntime) {
+    let table = [
+        "me 10.0.0.1",
+        "me 10.0.0.1:0",
+        "me 10.0.0.1:65536",
+        "me 10.0.0.256:1",
+        "me 10.0.0.01:1",
+        "me 10.0.0:1",
+        "recv 10.0.0.1:1",
+        "recv 10.0.0.1:1 ",
+        "recv 10.0.0.1:1 0",
+        "recv 10.0.0.1:1 0g",
+    ];
+    for script in table {
+        assert_eq!(rt;
+            fault_of(rt.alloc(), script),
+            Some((1, FaultKind::Argument)),
+            "{script:?}"
+        );
+    }
+}
+
+#[test]
+fn first_faulty_line(rt: HostRuntime) {
+    let script = "start 1\n\n# frob\nfrob\nstart 0\n";
+    assert_eq!(rt; fault_of(rt.alloc(), script), Some((4, FaultKind::Command)));
+    assert_eq!(rt; fault_of(rt.alloc(), ""), None);
+}

@@ -1,0 +1,128 @@
+//! The text of a transcript.
+
+ghost use Rattle.std.specs.Prelude.{All};
+ghost use Rattle.swim_wire.specs.Spelling.{HasText};
+ghost use Rattle.swim_node.specs.Sending.{HasTexts};
+
+use std::alloc::{AllocError, Global};
+use std::fmt::Write;
+use swim_member::{Note, Out, Phase};
+use swim_node::{Entry, Outcome, Save, Status};
+use swim_wire::{Update, UpdateKind, encode};
+
+/// The name of a phase.
+fn phase_name(phase: Phase) -> &'static str {
+    match phase {
+        Phase::Running => "running",
+        Phase::Left => "left",
+        Phase::Expelled => "expelled",
+    }
+}
+
+/// The name of what became of the ceiling.
+fn save_name(save: Save) -> &'static str {
+    match save {
+        Save::Kept => "none",
+        Save::Done => "done",
+        Save::Failed => "failed",
+    }
+}
+
+/// The name of what an update says.
+fn kind_name(kind: UpdateKind) -> &'static str {
+    match kind {
+        UpdateKind::Alive => "alive",
+        UpdateKind::Suspect => "suspect",
+        UpdateKind::Confirm => "confirm",
+    }
+}
+
+/// The name of what became of a datagram.
+fn outcome_name(outcome: Outcome) -> &'static str {
+    match outcome {
+        Outcome::Taken => "taken",
+        Outcome::Lost => "lost",
+    }
+}
+
+fn write_status(text: &mut String, status: &Status, save: Save) -> Result<(), AllocError> {
+    let length = status.length;
+    let number = status.number;
+    let save = save_name(save);
+    let phase = phase_name(status.phase);
+    writeln!(
+        text,
+        "event {length} save {save} number {number} phase {phase}"
+    )
+}
+
+/// The number and the name of a note.
+fn note_name(note: Note) -> &'static str {
+    match note {
+        Note::BadDatagram(_) => "1 BadDatagram",
+        Note::OtherGroup => "2 OtherGroup",
+        Note::NotSender => "3 NotSender",
+        Note::FromSelf => "4 FromSelf",
+        Note::Leap => "5 Leap",
+        Note::NoNumberLeft => "6 NoNumberLeft",
+        Note::TableFull => "7 TableFull",
+        Note::Misdirected => "8 Misdirected",
+        Note::RelaysFull => "9 RelaysFull",
+        Note::UnknownTarget => "10 UnknownTarget",
+        Note::Unasked => "11 Unasked",
+        Note::SaveFailed => "12 SaveFailed",
+        Note::Expelled => "13 Expelled",
+        Note::Stopped => "14 Stopped",
+        Note::ReceiveFailed => "15 ReceiveFailed",
+        Note::SendFailed(_) => "16 SendFailed",
+        Note::TimeOver => "17 TimeOver",
+    }
+}
+
+fn write_note(text: &mut String, note: Note) -> Result<(), AllocError> {
+    let name = note_name(note);
+    match note {
+        Note::BadDatagram(fault) => writeln!(text, "note {name} {fault}"),
+        Note::SendFailed(count) => writeln!(text, "note {name} {count}"),
+        _ => writeln!(text, "note {name}"),
+    }
+}
+
+fn write_row(text: &mut String, update: &Update) -> Result<(), AllocError> {
+    let kind = kind_name(update.kind);
+    let who = update.who;
+    let number = update.number;
+    writeln!(text, "row {kind} {who} {number}")
+}
+
+fn write_send(
+    alloc: Global,
+    text: &mut String,
+    out: &Out,
+    outcome: Outcome,
+) -> Result<(), AllocError>
+    requires { HasText out.now.datagram }
+{
+    let bytes = encode(&out.datagram);
+    let hex = hex::encode(alloc, bytes.as_slice())?;
+    let to = out.to;
+    let outcome = outcome_name(outcome);
+    writeln!(text, "send {to} {outcome} {hex}")
+}
+
+/// The lines of an entry: the event, its notes, its page, its datagrams.
+pub(crate) fn write_entry(alloc: Global, text: &mut String, entry: &Entry) -> Result<(), AllocError>
+    requires { HasTexts entry.now }
+{
+    write_status(text, &entry.reply.status, entry.save)?;
+    for note in entry.reply.notes.as_slice() {
+        write_note(text, *note)?;
+    }
+    for update in entry.reply.page.as_slice() {
+        write_row(text, update)?;
+    }
+    for (out, outcome) in entry.outs.as_slice().iter().zip(entry.outcomes.as_slice()) {
+        write_send(alloc, text, out, *outcome)?;
+    }
+    Ok(())
+}

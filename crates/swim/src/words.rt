@@ -1,0 +1,131 @@
+//! The words of a line: numbers, endpoints and hex, as scripts write them.
+
+ghost use Rattle.std.specs.Prelude.{◌≡◌, ℕ, ◌+◌, ◌*◌, ◌^◌, ◌<◌, ◌≤◌, ◌∷◌, ◌++◌, length, take, Some, IfSome, Ok, IfOk};
+ghost use Rattle.hex.specs.Hex.{decode_of};
+ghost use Rattle.std.specs.Fmt.{decimal};
+ghost use Rattle.swim.specs.Words.{split_by, endpoint_text, IsHex};
+
+use crate::fault::FaultKind;
+use arrayvec::ArrayVec;
+use hex::FromHexError;
+use std::alloc::Global;
+use swim_member::RECEIVED_MAX;
+use swim_wire::Endpoint;
+
+/// The most bytes that a hex word spells.
+const HEX_MAX: usize = 600;
+
+/// What stands before the first such byte, and what stands after it; none where it isn't there.
+pub(crate) fn split_at_byte(text: &[u8], byte: u8) -> Option<(&[u8], &[u8])>
+    ensures { IfSome result (λ parts. text.now ≡ split_by byte parts.0.now parts.1.now) }
+{
+    for (index, found) in text.iter().enumerate() {
+        if *found == byte {
+            return Some((&text[..index], &text[index + 1..]));
+        }
+    }
+    None
+}
+
+/// The value of a decimal digit.
+fn read_digit(byte: u8) -> Option<u64>
+    ensures { IfSome result (λ digit. (digit < 10) × (byte ≡ 48 + digit)) }
+{
+    if byte.is_ascii_digit() {
+        return Some(u64::from(byte - b'0'));
+    }
+    None
+}
+
+/// The number that decimal digits without leading zeros spell, at most 2^64 - 1.
+pub(crate) fn read_number(text: &[u8]) -> Option<u64>
+    ensures { IfSome result (λ number. text.now ≡ decimal number) }
+{
+    let (first, others) = text.split_first()?;
+    let mut number = read_digit(*first)?;
+    for byte in others {
+        if number == 0 {
+            return None;
+        }
+        number = number.checked_mul(10)?.checked_add(read_digit(*byte)?)?;
+    }
+    Some(number)
+}
+
+/// A number from `least` to `most`.
+pub(crate) fn read_within(text: &[u8], least: u64, most: u64) -> Option<u64>
+    ensures { IfSome result (λ number. (text.now ≡ decimal number) × (least ≤ number) × (number ≤ most)) }
+{
+    read_number(text).filter(|number| least <= *number && *number <= most)
+}
+
+/// One of the four numbers of an address.
+fn read_byte(text: &[u8]) -> Option<u8>
+    ensures { IfSome result (λ byte. text.now ≡ decimal byte) }
+{
+    match read_within(text, 0, 255) {
+        Some(number) => Some(number as u8),
+        None => None,
+    }
+}
+
+/// An endpoint, as `10.0.0.1:7000`.
+pub(crate) fn read_endpoint(text: &[u8]) -> Option<Endpoint>
+    ensures { IfSome result (λ endpoint. text.now ≡ endpoint_text endpoint) }
+{
+    let (first, rest) = split_at_byte(text, b'.')?;
+    let (second, rest) = split_at_byte(rest, b'.')?;
+    let (third, rest) = split_at_byte(rest, b'.')?;
+    let (fourth, port) = split_at_byte(rest, b':')?;
+    let first = read_byte(first)?;
+    let second = read_byte(second)?;
+    let third = read_byte(third)?;
+    let fourth = read_byte(fourth)?;
+    let port = read_within(port, 1, 65535)?;
+    Endpoint::new(
+        u32::from_be_bytes([first, second, third, fourth]),
+        port as u16,
+    )
+}
+
+/// Bytes as hex digits, two a byte in either case.
+fn decode_hex(alloc: Global, word: &[u8]) -> Result<Vec<u8>, FaultKind>
+    ensures { IfOk result (λ bytes. decode_of word.now ≡ Ok bytes.items) }
+{
+    match hex::decode(alloc, word) {
+        Ok(bytes) => Ok(bytes),
+        Err(FromHexError::OutOfMemory) => Err(FaultKind::NoMemory),
+        Err(_) => Err(FaultKind::Argument),
+    }
+}
+
+/// As many of the bytes as a member keeps of a datagram.
+fn cut(bytes: &[u8]) -> ArrayVec<u8, RECEIVED_MAX>
+    ensures { result.items ≡ take 513 bytes.now }
+{
+    let mut cut = ArrayVec::new();
+    for byte in bytes {
+        if cut.is_full() {
+            return cut;
+        }
+        cut.push(*byte);
+    }
+    cut
+}
+
+/// The bytes of a datagram, at most 600 of which 513 are kept; `-` for none.
+pub(crate) fn read_hex(alloc: Global, word: &[u8]) -> Result<ArrayVec<u8, RECEIVED_MAX>, FaultKind>
+    ensures { IfOk result (λ bytes. IsHex word.now bytes.items) }
+{
+    if word == b"-".as_slice() {
+        return Ok(ArrayVec::new());
+    }
+    if word.is_empty() {
+        return Err(FaultKind::Argument);
+    }
+    if word.len() > 2 * HEX_MAX {
+        return Err(FaultKind::Argument);
+    }
+    let bytes = decode_hex(alloc, word)?;
+    Ok(cut(&bytes))
+}
