@@ -13,6 +13,17 @@ fn plays(alloc: Global, script: &str, transcript: &str) -> bool {
     }
 }
 
+/// How many entries the lives of the script have in all.
+fn entries_of(alloc: Global, script: &str) -> usize {
+    let mut count: usize = 0;
+    if let Ok(played) = play(alloc, script.as_bytes()) {
+        for life in &played.lives {
+            count = count.saturating_add(life.entries().len());
+        }
+    }
+    count
+}
+
 /// The line and the kind of the script's fault.
 fn fault_of(alloc: Global, script: &str) -> Option<(usize, FaultKind)> {
     match play(alloc, script.as_bytes()) {
@@ -37,6 +48,7 @@ fn bad_senders(rt: HostRuntime) {
     let transcript =
         "start ok number 1\nevent 1 save none number 1 phase running\nnote 1 BadDatagram 1 TooShort\nevent 2 save none number 1 phase running\nnote 3 NotSender\n";
     assert!(rt; plays(rt.alloc(), script, transcript));
+    assert_eq!(rt; entries_of(rt.alloc(), script), 2);
 }
 
 #[test]
