@@ -28,7 +28,8 @@ held-then D state owner b d e (Crashed _ _ left settled) h = held-settled owner 
 held-then D state owner b d e (Cut _ f _ through left settled) h = held-settled owner b (state e) settled (held-cut owner b (state d) (state f) (state e).content h through left)
 held-then D state owner b d e (Refused _ _ through) h = held-through owner b (state d) (state e) h through
 
-held-reached : (D : Type 0) (state : D → State) (owner : Owner) (b : ℕ) (d e : D) → Reached D state owner b d e → Held owner (state d) b → Held owner (state e) b
+-- what a life left, and what became of it, is held to the life's ceiling
+pub held-reached : (D : Type 0) (state : D → State) (owner : Owner) (b : ℕ) (d e : D) → Reached D state owner b d e → Held owner (state d) b → Held owner (state e) b
 held-reached D state owner b d _ (Here _) h = h
 held-reached D state owner b d f (Next _ e _ step rest) h = held-reached D state owner b e f rest (held-then D state owner b d e step h)
 

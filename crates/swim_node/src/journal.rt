@@ -6,6 +6,7 @@ ghost use Rattle.swim_node.specs.History.{calls_by};
 use crate::Entry;
 use std::alloc::{AllocError, Global};
 use std::marker::Model;
+use std::mem;
 
 /// The entries of an era.
 #[derive(Drop)]
@@ -69,6 +70,16 @@ impl Journal {
         ensures { result.now ≡ self.now.entries }
     {
         self.entries.as_slice()
+    }
+
+    /// Gives all entries away, with their block. It takes no memory.
+    pub(crate) fn take(&mut self) -> Vec<Entry>
+        ensures entries { result.items ≡ self.old.entries }
+        ensures empty { self.new.entries ≡ [] }
+    {
+        let alloc = *self.entries.allocator();
+        self.turns = [0; 16];
+        mem::replace(&mut self.entries, Vec::new(alloc))
     }
 
     /// Removes all entries. The block stays.

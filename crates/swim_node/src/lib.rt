@@ -7,6 +7,7 @@ mod copies;
 mod counts;
 mod entering;
 mod entry;
+mod era;
 mod fault;
 mod journal;
 mod laws;
@@ -20,6 +21,7 @@ mod sending;
 
 pub use base::Base;
 pub use entry::{Entry, Outcome, Reply, Save, Status, Tag};
+pub use era::Era;
 pub use fault::{ApplyFault, OpenFault};
 pub use laws::own_numbers_rise;
 pub use link::{Link, LinkFault};

@@ -4,16 +4,18 @@ ghost use Rattle.std.specs.Prelude.{◌≡◌, ◌≢◌, ◌+◌, ◌<◌, ◌�
 ghost use Rattle.swim_state.specs.Held.{Held, HeldSince, Through, Covers};
 ghost use Rattle.swim_node.specs.History.{calls_by, status_at, status_of, IsLegal, granted_of};
 ghost use Rattle.swim_node.specs.Owns.{owns, AreAtMost, AreAtLeast};
-ghost use Rattle.swim_node.specs.Node.{Added, IsTurn, Refused, rebased};
+ghost use Rattle.swim_node.specs.Node.{Added, IsTurn, Refused, base_of, rebased};
 ghost use Rattle.swim_node.specs.Sending.{Sends, HasTexts};
+ghost use Rattle.swim_member.specs.Events.{state_of};
 
 use crate::base::Base;
 use crate::copies::copy_reply;
 use crate::counts::{count_lost, count_taken, greatest_own};
 use crate::entering::enter;
 use crate::journal::Journal;
-use crate::{ApplyFault, Entry, Link, Reply, Status, Tag};
+use crate::{ApplyFault, Entry, Era, Link, Reply, Status, Tag};
 use std::marker::Model;
+use std::mem;
 use swim_disk::Disk;
 use swim_member::{Event, Member};
 use swim_state::Store;
@@ -55,6 +57,19 @@ pub(crate) fn status_now(member: &Member, length: usize) -> Status
     }
 }
 
+/// The member as it stands now, as the base of an era.
+fn base_at(member: &Member, granted: u64, past: Option<u64>, limit: u32) -> Base
+    ensures base { base_of result ≡ record { state = member.now; granted = granted; past = past; limit = limit } }
+    ensures reads { state_of member.now [] ≡ member.now }
+{
+    Base {
+        state: member.base(),
+        granted,
+        past,
+        limit,
+    }
+}
+
 impl<D: Disk> Node<D> {
     /// The entries of this era, in order.
     pub fn journal(&self) -> &[Entry]
@@ -93,7 +108,8 @@ impl<D: Disk> Node<D> {
     /// How many entries of this era a caller, below 16, has.
     pub fn turns(&self, caller: u8) -> u32
         requires { caller < 16 }
-        ensures { result ≡ length (calls_by caller self.now.entries) }
+        ensures value { result ≡ length (calls_by caller self.now.entries) }
+        ensures bound { result ≤ 65536 }
     {
         self.journal.turns(caller)
     }
@@ -129,6 +145,13 @@ impl<D: Disk> Node<D> {
         store.into_disk()
     }
 
+    /// The number with which this life began.
+    pub fn first(&self) -> u64
+        ensures { result ≡ self.now.first }
+    {
+        self.first
+    }
+
     /// Begins an era: what is now becomes the base, the journal is empty, and turns begin at 1 again.
     pub fn rebase(&mut self)
         ensures base { self.new.base ≡ rebased self.old.base self.old.entries }
@@ -138,13 +161,37 @@ impl<D: Disk> Node<D> {
         ensures owner { self.new.owner ≡ self.old.owner }
         ensures first { self.new.first ≡ self.old.first }
     {
-        self.base = Base {
-            state: self.member.base(),
-            granted: self.store.ceiling(),
-            past: self.most,
-            limit: self.base.limit,
-        };
+        self.base = base_at(
+            &self.member,
+            self.store.ceiling(),
+            self.most,
+            self.base.limit,
+        );
         self.journal.clear();
+    }
+
+    /// Begins an era as `rebase` does, and gives the one that ended away. It takes no memory.
+    pub fn end_era(&mut self) -> Era
+        ensures era { result ≡ record { base = self.old.base; entries = self.old.entries } }
+        ensures legal { IsLegal self.old.base self.old.entries }
+        ensures begun { AreAtLeast self.old.first (owns self.old.base self.old.entries) }
+        ensures base { self.new.base ≡ rebased self.old.base self.old.entries }
+        ensures settings { self.new.base.state.settings ≡ self.old.base.state.settings }
+        ensures entries { self.new.entries ≡ [] }
+        ensures disk { self.new.disk ≡ self.old.disk }
+        ensures owner { self.new.owner ≡ self.old.owner }
+        ensures first { self.new.first ≡ self.old.first }
+    {
+        let base = base_at(
+            &self.member,
+            self.store.ceiling(),
+            self.most,
+            self.base.limit,
+        );
+        Era {
+            base: mem::replace(&mut self.base, base),
+            entries: self.journal.take(),
+        }
     }
 
     /// Whether a call may be entered: in turn, and while the era has room.
@@ -184,6 +231,7 @@ impl<D: Disk> Node<D> {
         // One entry came, and what the link took of it is what it marks as taken.
         ensures ok { IfOk result (λ reply. (e : Entry) × Added D.keeps_model D.state self.old self.new tag event reply e × Sends L.tells (L.took link.old) (L.took link.new) (L.failures link.old) (L.failures link.new) e.outs.items e.outcomes.items) }
         ensures in_turn { OnOk result (IsTurn self.old.entries tag) }
+        ensures room { OnOk result (length self.old.entries < self.old.base.limit) }
         ensures err { OnErr result ((self.new ≡ self.old) × (link.new ≡ link.old)) }
         ensures refused { IfErr result (λ fault. Refused self.old.base self.old.entries tag fault) }
 

@@ -155,6 +155,19 @@ fn a_full_era_and_a_rebase(rt: HostRuntime) {
     }
 }
 
+/// An era that ends gives its journal away, and the number of the life stays.
+#[test]
+fn an_era_that_ends(rt: HostRuntime) {
+    let (mut node, _) = opened(&rt, rt.alloc(), 2);
+    let mut link = MemoryLink::new(rt.alloc(), 1);
+    for turn in 1..3 {
+        let tag = Tag { caller: 0, turn };
+        assert!(rt; node.apply(&mut link, tag, Event::ReceiveFailed).is_ok());
+    }
+    let era = node.end_era();
+    assert_eq!(rt; (era.journal().len(), node.len(), node.first()), (2, 0, 1));
+}
+
 /// The first save fails at its last sync, once 2 stands in the file. The second one finds that 2 and fails at its
 /// first write. So the third event, which wants 2, needs no save.
 #[test]
