@@ -1,3 +1,4 @@
 mod Digits
 mod Lines
-mod Histories
+mod Lives
+mod Stories

@@ -5,22 +5,30 @@ use Rattle.std.specs.Borrow.{Bor}
 use Rattle.std.specs.Fmt.{decimal}
 use Rattle.swim_member.specs.declared.event.Event.{Event}
 use Rattle.swim_member.specs.declared.event.Event.TheVariants as event
+use Rattle.swim_disk.specs.declared.mem.Choice.{Choice}
+use Rattle.swim_disk.specs.declared.mem.Choice.TheVariants.{Keep, Drop, Fill}
+use Rattle.hex.specs.Hex.{decode_of}
 use Rattle.swim.specs.declared.command.Command.{Command}
-use Rattle.swim.specs.declared.command.Command.TheVariants.{Start, Group, Me, Set, Happen}
+use Rattle.swim.specs.declared.command.Command.TheVariants.{Group, Me, Set, Start, Init, Open, Happen, Plan, Kill, Crash, Overwrite, Slots, Rebase}
 use Rattle.swim.specs.declared.command.Setting.{Setting}
 use Rattle.swim.specs.declared.command.Setting.TheVariants as setting
-use Rattle.swim.specs.declared.command.Keyword.{Keyword}
-use Rattle.swim.specs.declared.command.Keyword.TheVariants as keyword
+use Rattle.swim.specs.declared.command.Failure.{Failure}
+use Rattle.swim.specs.declared.command.Failure.TheVariants as failure
+use Rattle.swim.specs.declared.keyword.Keyword.{Keyword}
+use Rattle.swim.specs.declared.keyword.Keyword.TheVariants as keyword
+use Rattle.swim.specs.declared.patch.Patch.{Patch}
 use Rattle.swim.specs.declared.fault.FaultKind.{FaultKind}
 use Rattle.swim.specs.declared.fault.FaultKind.TheVariants as fault
-use Rattle.swim.specs.Words.{spaced, endpoint_text, IsHex}
+use Rattle.swim.specs.Words.{spaced, endpoint_text, IsBytes, IsCut}
 
 -- the word that begins a command
 abbrev pub keyword_text : Keyword → List ℕ
-keyword_text keyword.Start = codes "start"
 keyword_text keyword.Group = codes "group"
 keyword_text keyword.Me = codes "me"
 keyword_text keyword.Set = codes "set"
+keyword_text keyword.Start = codes "start"
+keyword_text keyword.Init = codes "init"
+keyword_text keyword.Open = codes "open"
 keyword_text keyword.Receive = codes "recv"
 keyword_text keyword.Tick = codes "tick"
 keyword_text keyword.ReceiveFailed = codes "recvfail"
@@ -28,6 +36,14 @@ keyword_text keyword.SendFailed = codes "sendfail"
 keyword_text keyword.Join = codes "join"
 keyword_text keyword.Leave = codes "leave"
 keyword_text keyword.Members = codes "members"
+keyword_text keyword.Fail = codes "fail"
+keyword_text keyword.Tear = codes "tear"
+keyword_text keyword.Halt = codes "halt"
+keyword_text keyword.Kill = codes "kill"
+keyword_text keyword.Crash = codes "crash"
+keyword_text keyword.Overwrite = codes "disk"
+keyword_text keyword.Slots = codes "slots"
+keyword_text keyword.Rebase = codes "rebase"
 
 abbrev pub setting_text : Setting → List ℕ
 setting_text setting.Lambda = codes "lambda"
@@ -45,7 +61,7 @@ line keyword rest = spaced (keyword_text keyword) rest
 -- a received datagram: whence, and its bytes in hex
 pub record IsReceived (text : List ℕ) (from : ℕ) (bytes : List ℕ) : Type 0 where
   pub word : List ℕ
-  pub hex : IsHex word bytes
+  pub hex : IsCut word bytes
   pub says : text ≡ line keyword.Receive (spaced (endpoint_text from) word)
 
 abbrev pub SaysEvent : List ℕ → Event → Type 0
@@ -58,13 +74,47 @@ SaysEvent text event.Leave = text ≡ keyword_text keyword.Leave
 SaysEvent text (event.Members after) =
     ((text ≡ keyword_text keyword.Members) × (after ≡ 0)) ⊎ (text ≡ line keyword.Members (endpoint_text after))
 
+abbrev pub SaysFailure : List ℕ → Failure → Type 0
+SaysFailure text (failure.Read k) = text ≡ line keyword.Fail (spaced (codes "read") (decimal k))
+SaysFailure text (failure.Write k) = text ≡ line keyword.Fail (spaced (codes "write") (decimal k))
+SaysFailure text (failure.TornWrite k) = text ≡ line keyword.Tear (spaced (codes "write") (decimal k))
+SaysFailure text (failure.Sync k) = text ≡ line keyword.Fail (spaced (codes "sync") (decimal k))
+SaysFailure text (failure.Halt k) = text ≡ line keyword.Halt (decimal k)
+SaysFailure text (failure.Send k) = text ≡ line keyword.Fail (spaced (codes "send") (decimal k))
+
+-- what a crash is to leave of what was not synced
+abbrev pub SaysChoice : List ℕ → Choice → Type 0
+SaysChoice text Keep = text ≡ codes "keep"
+SaysChoice text Drop = text ≡ codes "drop"
+SaysChoice text (Fill byte) = (word : List ℕ) × (text ≡ spaced (codes "fill") word) × (decode_of word ≡ Ok (byte ∷ []))
+
+-- a crash with its choice
+pub record IsCrash (text : List ℕ) (choice : Choice) : Type 0 where
+  pub word : List ℕ
+  pub chosen : SaysChoice word choice
+  pub says : text ≡ line keyword.Crash word
+
+-- an offset, and the bytes that go there in hex
+pub record IsOverwrite (text : List ℕ) (patch : Patch) : Type 0 where
+  pub word : List ℕ
+  pub hex : IsBytes word patch.bytes.items
+  pub says : text ≡ line keyword.Overwrite (spaced (decimal patch.at) word)
+
 -- the line says the command
 abbrev pub Says : List ℕ → Command → Type 0
-Says text (Start first) = text ≡ line keyword.Start (decimal first.value)
 Says text (Group number) = text ≡ line keyword.Group (decimal number)
 Says text (Me endpoint) = text ≡ line keyword.Me (endpoint_text endpoint)
 Says text (Set setting number) = text ≡ line keyword.Set (spaced (setting_text setting) (decimal number))
+Says text (Start first) = text ≡ line keyword.Start (decimal first.value)
+Says text (Init ceiling) = text ≡ line keyword.Init (decimal ceiling)
+Says text Open = text ≡ keyword_text keyword.Open
 Says text (Happen event) = SaysEvent text event
+Says text (Plan failure) = SaysFailure text failure
+Says text Kill = text ≡ keyword_text keyword.Kill
+Says text (Crash choice) = IsCrash text choice
+Says text (Overwrite patch) = IsOverwrite text patch
+Says text Slots = text ≡ keyword_text keyword.Slots
+Says text Rebase = text ≡ keyword_text keyword.Rebase
 
 -- the lines of a script; the last one may lack its end
 abbrev pub lines_of : List ℕ → List (List ℕ)

@@ -2,3 +2,4 @@ pub mod Words
 pub mod Commands
 pub mod Life
 pub mod Play
+pub mod Story

@@ -1,58 +1,78 @@
--- A life: a member from its opening on, with its history.
-use Rattle.std.specs.Prelude.{◌≡◌, ℕ, None, ◌<◌, ◌≤◌, List, [], ◌∷◌, ◌++◌, length, All}
+-- Lives on disks in memory that fail by a plan.
+use Rattle.std.specs.Prelude.{◌≡◌, ℕ, ◌<◌, List, [], ◌∷◌, ◌++◌, length, All}
+use Rattle.swim_disk.specs.Disk.{State}
+use Rattle.swim_disk.specs.MemDisk as memory
+use Rattle.swim_disk.specs.Fault as fault
+use Rattle.swim_disk.specs.declared.fault.FaultDisk.{FaultDisk}
+use Rattle.swim_disk.specs.declared.mem.MemDisk.{MemDisk}
+use Rattle.swim_state.specs.declared.owner.Owner.{Owner}
+use Rattle.swim_state.specs.Held.{Held, Through, Covers}
 use Rattle.swim_member.specs.declared.event.Event.{Event}
-use Rattle.swim_member.specs.State.{State}
 use Rattle.swim_node.specs.declared.entry.Entry.{Entry}
 use Rattle.swim_node.specs.declared.fault.ApplyFault.{ApplyFault}
 use Rattle.swim_node.specs.declared.fault.ApplyFault.TheVariants.{NoMemory, EraFull, OutOfTurn}
-use Rattle.swim_node.specs.Sending.{HasTexts}
-use Rattle.swim_member.specs.Events.{Step, state_of, answer, wanted}
-use Rattle.swim_node.specs.History.{Base, IsLegal, Saves, state_after, granted_of, calls_by, step_of, answer_in, status_at, taken_in, lost_in}
+use Rattle.swim_node.specs.History.{fresh_base}
+use Rattle.swim_node.specs.Lives.{Era, Life, AreJoined, numbers_in, Reached, ceiling_of, AreLives}
+use Rattle.swim_node.specs.Owns.{AreAtLeast}
+use Rattle.swim_node.specs.Node.{owner_of}
 
--- what a contract sees of a life
-pub record LifeView : Type 0 where
-  pub base : Base
-  pub entries : List Entry
+-- the disk of a script, and what it tells
+abbrev pub PlayDisk : Type 0
+PlayDisk = FaultDisk MemDisk
 
--- the base at an opening, from this state and with this ceiling
-abbrev pub base_at : State → ℕ → ℕ → Base
-base_at s granted limit = record { state = s; granted = granted; past = None; limit = limit }
+abbrev pub disk_state : PlayDisk → State
+disk_state disk = fault.state_of memory.state_of disk
 
--- what holds of a life at all times: its history is legal and leaves the member in this state, the ceiling stays what it was, and all calls are of one caller
-pub record IsLife (base : Base) (entries : List Entry) (s : State) : Type 0 where
-  pub legal : IsLegal base entries
-  pub member : state_after base entries ≡ s
-  pub low : s.number ≤ base.granted
-  pub steady : granted_of base entries ≡ base.granted
-  pub calls : length (calls_by 0 entries) ≡ length entries
-  pub texts : All HasTexts entries
-  pub short : base.limit ≤ 65536
+-- the entry is of the one caller that a script has
+abbrev pub IsMine : Entry → Type 0
+IsMine e = e.tag.caller ≡ 0
 
--- an entry is made of a step of the member: from one state to the next, with this ceiling, as this one of its era
-pub record Enters (old new : State) (ceiling turn : ℕ) (e : Entry) : Type 0 where
-  pub saved : Saves (wanted old e.event) ceiling e.save ceiling
-  pub granted : e.granted ≡ ceiling
-  pub state : (base : State) (before : List Step) → state_of base before ≡ old → state_of base (before ++ step_of e ∷ []) ≡ new
-  pub answered : (base : State) (before : List Step) → state_of base before ≡ old → answer base before e.event e.granted ≡ answer_in e
-  pub status : e.reply.status ≡ status_at new turn
-  pub outcomes : length e.outcomes.items ≡ length e.outs.items
-  pub sent : e.reply.sent ≡ taken_in e.outcomes.items
-  pub lost : e.reply.lost ≡ lost_in e.outcomes.items
-  pub caller : e.tag.caller ≡ 0
-  pub nth : e.tag.turn ≡ turn
-  pub low : new.number ≤ ceiling
-  pub texts : HasTexts e
+abbrev pub AreMine : Era → Type 0
+AreMine era = All IsMine era.entries
+
+-- all calls of a life are of one caller
+pub record IsOfOne (life : Life PlayDisk) : Type 0 where
+  pub ended : All AreMine life.eras
+  pub last : All IsMine life.entries
+
+-- what holds of a life at all times beside what its node keeps
+pub record IsLiving (owner : Owner) (life : Life PlayDisk) : Type 0 where
+  pub same_owner : owner ≡ owner_of life.settings
+  pub joined : AreJoined (fresh_base life.settings life.first life.limit) life.eras life.base
+  pub above : (b : ℕ) → Held (owner_of life.settings) (disk_state life.opened) b → b < life.first
+  pub begun : AreAtLeast life.first (numbers_in life.eras)
+  pub mine : IsOfOne life
+  pub room : life.base.limit ≡ life.limit
+
+-- no moment of a refused opening leaves less than was held before it
+abbrev pub Spares : Owner → PlayDisk → PlayDisk → Type 0
+Spares owner old new = (b : ℕ) → Held owner (disk_state old) b → Through (Covers owner b) (disk_state old) (disk_state new)
 
 -- one entry of this event came
-pub record Adds (old new : LifeView) (event : Event) : Type 0 where
+pub record Adds (old new : Life PlayDisk) (event : Event) : Type 0 where
   pub entry : Entry
   pub happened : entry.event ≡ event
-  pub entries : new.entries ≡ old.entries ++ entry ∷ []
-  pub base : new.base ≡ old.base
-  pub room : length old.entries < old.base.limit
+  pub entries : new ≡ record old { entries = old.entries ++ entry ∷ []; left = new.left }
+  pub room : length old.entries < old.limit
 
 -- when each refusal comes; the only caller is never out of turn
-abbrev pub IsRefused : LifeView → ApplyFault → Type 0
-IsRefused life EraFull = length life.entries ≡ life.base.limit
-IsRefused life NoMemory = length life.entries < life.base.limit
+abbrev pub IsRefused : Life PlayDisk → ApplyFault → Type 0
+IsRefused life EraFull = length life.entries ≡ life.limit
+IsRefused life NoMemory = length life.entries < life.limit
 IsRefused life OutOfTurn = ⊥
+
+-- the era that is going on
+abbrev pub era_now : Life PlayDisk → Era
+era_now life = record { base = life.base; entries = life.entries }
+
+-- the last of these lives, if there is one, left what became this disk
+abbrev pub IsOnto : {D : Type 0} → (D → State) → Owner → List (Life D) → D → Type 0
+IsOnto state owner [] disk = Unit {0}
+IsOnto {D} state owner (life ∷ []) disk = Reached D state owner (ceiling_of life) life.left disk
+IsOnto state owner (life ∷ next ∷ lives) disk = IsOnto state owner (next ∷ lives) disk
+
+-- lives of one owner on one disk, one after another, each with all calls of one caller
+pub record AreOnOneDisk (lives : List (Life PlayDisk)) : Type 0 where
+  pub owner : Owner
+  pub lives_are : AreLives disk_state owner lives
+  pub mine : All IsOfOne lives

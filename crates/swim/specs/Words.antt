@@ -18,13 +18,12 @@ dotted a b c d port = split_by 46 (decimal a) (split_by 46 (decimal b) (split_by
 abbrev pub endpoint_text : ℕ → List ℕ
 endpoint_text e = dotted (e / 65536 / 16777216) (e / 65536 / 65536 % 256) (e / 65536 / 256 % 256) (e / 65536 % 256) (e % 65536)
 
--- bytes as hex digits, and as many of them as a member keeps of a datagram
+-- bytes as hex digits; `-` is the text of no bytes
+abbrev pub IsBytes : List ℕ → List ℕ → Type 0
+IsBytes word bytes = ((word ≡ 45 ∷ []) × (bytes ≡ [])) ⊎ ((0 < length word) × (decode_of word ≡ Ok bytes))
+
+-- as many of the bytes as a member keeps of a datagram
 pub record IsCut (word bytes : List ℕ) : Type 0 where
   pub all : List ℕ
-  pub decoded : decode_of word ≡ Ok all
+  pub spelled : IsBytes word all
   pub cut : bytes ≡ take 513 all
-  pub some : 0 < length word
-
--- `-` is the text of no bytes
-abbrev pub IsHex : List ℕ → List ℕ → Type 0
-IsHex word bytes = ((word ≡ 45 ∷ []) × (bytes ≡ [])) ⊎ IsCut word bytes

@@ -1,165 +1,210 @@
-//! A member without a disk, from its opening on, with its history. Its ceiling is the number that
-//! it was opened with, and its link takes every datagram.
+//! The lives of a script's members, on a disk in memory that fails by a plan.
 
-ghost use Rattle.std.specs.Prelude.{◌≡◌, ◌<◌, ◌≤◌, ◌^◌, ℕ, List, [], length, replicate, IfErr, OnOk, OnErr, IfSome, IfNone, All, Option};
+ghost use Rattle.std.specs.Prelude.{◌≡◌, ◌+◌, ◌≤◌, ◌++◌, ◌∷◌, [], IfOk, IfErr, OnOk, OnErr, IfSome, length};
 ghost use Rattle.swim_member.specs.Checks.{AreSound};
-ghost use Rattle.swim_node.specs.History.{IsLegal, Saves, fresh_base, status_at};
-ghost use Rattle.swim.specs.Life.{LifeView, Enters, Adds, IsRefused};
+ghost use Rattle.swim_state.specs.File.{floor};
+ghost use Rattle.swim_node.specs.Lives.{IsLived};
+ghost use Rattle.swim_node.specs.Node.{owner_of, rebased};
 ghost use Rattle.swim_node.specs.Sending.{HasTexts};
+ghost use Rattle.swim.specs.Life.{disk_state, IsOfOne, Spares, Adds, IsRefused, era_now};
 
-use arrayvec::ArrayVec;
-use std::alloc::Global;
+use std::alloc::{AllocError, Global};
 use std::marker::Model;
 use std::snapshot::Snapshot;
-use swim_member::{Event, Member, OUTS_MAX, Settings};
-use swim_node::{ApplyFault, Entry, Outcome, Reply, Save, Status, Tag};
+use swim_disk::{FaultDisk, MemDisk};
+use swim_member::{Event, Settings};
+use swim_node::{ApplyFault, Entry, Era, MemoryLink, Node, OpenFault, Tag};
 
-/// A member and its history.
+/// The disk of a script.
+pub type PlayDisk = FaultDisk<MemDisk>;
+
+/// A life that has ended: how it was opened, its eras in order, and the disk that it left.
 #[derive(Drop)]
 pub struct Life {
-    start: Snapshot<Member>,
+    settings: Settings,
+    limit: u32,
+    opened: Snapshot<PlayDisk>,
     first: u64,
-    limit: usize,
-    member: Member,
-    entries: Vec<Entry>,
+    eras: Vec<Era>,
+    last: Era,
+    left: Snapshot<PlayDisk>,
 }
 
 impl Model for Life {
-    ghost use Rattle.swim.specs.Life.{LifeView, IsLife, base_at};
+    ghost use Rattle.swim_node.specs.Lives.{Life as Lives};
+    ghost use Rattle.swim.specs.Life.{PlayDisk as Disks};
 
-    ghost Value = { LifeView };
+    ghost Value = { Lives Disks };
 
-    ghost view = { λ l. record { base = base_at l.start.value l.first l.limit; entries = l.entries.items } };
-
-    ghost invariant = { λ l. IsLife (base_at l.start.value l.first l.limit) l.entries.items l.member };
-}
-
-/// How the ceiling stands after an event that wants this number: nothing is ever saved.
-fn save_of(wanted: Option<u64>, ceiling: u64) -> Save
-    ensures { Saves wanted ceiling result ceiling }
-{
-    match wanted {
-        Some(number) if number > ceiling => Save::Failed,
-        _ => Save::Kept,
-    }
-}
-
-/// As many datagrams, all taken.
-fn all_taken(count: usize) -> ArrayVec<Outcome, OUTS_MAX>
-    requires { count ≤ 10 }
-    ensures { result.items ≡ replicate count Outcome.Taken }
-{
-    let mut outcomes = ArrayVec::new();
-    for _ in 0..count {
-        outcomes.push(Outcome::Taken);
-    }
-    outcomes
-}
-
-/// What a status page shows of the member, in an era of so many entries.
-fn status_of(member: &Member, length: usize) -> Status
-    ensures { result ≡ status_at member.now length }
-{
-    let counts = member.counts();
-    Status {
-        phase: member.phase(),
-        number: member.number(),
-        alive: counts.alive,
-        suspect: counts.suspect,
-        confirmed: counts.confirmed,
-        length,
-    }
-}
-
-/// Gives the member an event as entry number `turn` of its era, with this ceiling.
-fn enter(member: &mut Member, event: Event, turn: usize, ceiling: u64) -> Entry
-    requires low { member.old.number ≤ ceiling }
-    requires short { turn ≤ 65536 }
-    ensures event { result.event ≡ event }
-    ensures entered { Enters member.old member.new ceiling turn result }
-{
-    let save = save_of(member.plan(&event), ceiling);
-    let answer = member.step(&event, ceiling);
-    let sent = answer.outs.len();
-    Entry {
-        tag: Tag {
-            caller: 0,
-            turn: turn as u32,
-        },
-        event,
-        granted: ceiling,
-        save,
-        outs: answer.outs,
-        outcomes: all_taken(sent),
-        reply: Reply {
-            status: status_of(member, turn),
-            notes: answer.notes,
-            page: answer.page,
-            sent,
-            lost: 0,
-        },
-    }
+    ghost view = { λ l. record {
+      settings = l.settings;
+      limit = l.limit;
+      opened = l.opened.value;
+      first = l.first;
+      eras = l.eras.items;
+      base = l.last.base;
+      entries = l.last.entries;
+      left = l.left.value;
+    } };
 }
 
 impl Life {
-    /// A life that begins with the number `first`, in eras of at most `limit` entries.
-    pub(crate) fn new(alloc: Global, settings: Settings, first: u64, limit: usize) -> Life
+    /// The eras that a rebase ended, in order.
+    pub fn eras(&self) -> &[Era]
+        ensures { result.now ≡ self.now.eras }
+    {
+        &self.eras
+    }
+
+    /// The era with which the life ended.
+    pub fn last(&self) -> &Era
+        ensures { result.now ≡ record { base = self.now.base; entries = self.now.entries } }
+    {
+        &self.last
+    }
+}
+
+/// A life that goes on.
+#[derive(Drop)]
+pub(crate) struct Living {
+    settings: Settings,
+    limit: u32,
+    opened: Snapshot<PlayDisk>,
+    eras: Vec<Era>,
+    node: Node<PlayDisk>,
+}
+
+impl Model for Living {
+    ghost use Rattle.swim_node.specs.Lives.{Life as Lives};
+    ghost use Rattle.swim.specs.Life.{PlayDisk as Disks, IsLiving};
+
+    ghost Value = { Lives Disks };
+
+    ghost view = { λ l. record {
+      settings = l.settings;
+      limit = l.limit;
+      opened = l.opened.value;
+      first = l.node.first;
+      eras = l.eras.items;
+      base = l.node.base;
+      entries = l.node.entries;
+      left = l.node.disk;
+    } };
+
+    ghost invariant = { λ l. IsLiving l.node.owner (record {
+      settings = l.settings;
+      limit = l.limit;
+      opened = l.opened.value;
+      first = l.node.first;
+      eras = l.eras.items;
+      base = l.node.base;
+      entries = l.node.entries;
+      left = l.node.disk;
+    }) };
+}
+
+impl Living {
+    /// Opens a member on this disk.
+    pub(crate) fn open(
+        alloc: Global,
+        disk: PlayDisk,
+        settings: Settings,
+        limit: u32,
+    ) -> Result<Living, (PlayDisk, OpenFault)>
         requires sound { AreSound settings }
-        requires first { (1 ≤ first) × (first ≤ 2 ^ 62) }
-        requires limit { limit ≤ 65536 }
-        ensures base { result.base ≡ fresh_base settings first limit }
-        ensures entries { result.entries ≡ [] }
+        ensures settings { IfOk result (λ l. (l.settings ≡ settings) × (l.limit ≡ limit)) }
+        ensures opened { IfOk result (λ l. l.opened ≡ disk) }
+        ensures first { IfOk result (λ l. l.first ≡ floor (disk_state disk).content + 1) }
+        ensures empty { IfOk result (λ l. (l.eras ≡ []) × (l.entries ≡ [])) }
+        ensures limit { IfOk result (λ l. (1 ≤ limit) × (limit ≤ 65536)) }
+        ensures refused { IfErr result (λ refused. Spares (owner_of settings) disk refused.0) }
     {
-        let member = Member::new(settings, first);
-        Life {
-            start: Snapshot::of(&member),
-            first,
+        let opened = Snapshot::of(&disk);
+        let kept = settings;
+        let node = Node::open(alloc, disk, settings, limit)?;
+        Ok(Living {
+            settings: kept,
             limit,
-            member,
-            entries: Vec::new(alloc),
+            opened,
+            eras: Vec::new(alloc),
+            node,
+        })
+    }
+
+    /// The number with which it began.
+    pub(crate) fn first(&self) -> u64
+        ensures { result ≡ self.now.first }
+    {
+        self.node.first()
+    }
+
+    /// Its disk.
+    pub(crate) fn disk(&self) -> &PlayDisk {
+        self.node.disk()
+    }
+
+    /// The last entry of this era, if it has any.
+    pub(crate) fn last(&self) -> Option<&Entry>
+        ensures { IfSome result (λ e. HasTexts e.now) }
+    {
+        if self.node.len() == 0 {
+            return None;
         }
+        Some(self.node.last())
     }
 
-    /// The entries, in order. They are a legal history.
-    pub fn entries(&self) -> &[Entry]
-        ensures entries { result.now ≡ self.now.entries }
-        ensures legal { IsLegal self.now.base self.now.entries }
-        ensures texts { All HasTexts result.now }
-    {
-        self.entries.as_slice()
-    }
-
-    /// The last entry.
-    pub(crate) fn last(&self) -> &Entry
-        requires { 0 < length self.now.entries }
-        ensures { HasTexts result.now }
-    {
-        &self.entries[self.entries.len() - 1]
-    }
-
-    /// The life as it ended: its history is a legal one.
-    pub(crate) fn ended(self) -> Life
-        ensures same { result ≡ self }
-        ensures legal { IsLegal result.base result.entries }
-    {
-        self
-    }
-
-    /// Gives the member an event, and adds the entry of it.
-    pub(crate) fn apply(&mut self, event: Event) -> Result<(), ApplyFault>
+    /// Gives the member an event, as the next call of the one caller.
+    pub(crate) fn happen(&mut self, link: &mut MemoryLink, event: Event) -> Result<(), ApplyFault>
         ensures ok { OnOk result (Adds self.old self.new event) }
         ensures refused { IfErr result (λ fault. IsRefused self.old fault) }
         ensures err { OnErr result (self.new ≡ self.old) }
     {
-        if self.entries.len() >= self.limit {
-            return Err(ApplyFault::EraFull);
-        }
-        if self.entries.reserve(1).is_err() {
-            return Err(ApplyFault::NoMemory);
-        }
-        let turn = self.entries.len() + 1;
-        let entry = enter(&mut self.member, event, turn, self.first);
-        self.entries.push_reserved(entry);
+        let tag = Tag {
+            caller: 0,
+            turn: self.node.turns(0) + 1,
+        };
+        self.node.apply(link, tag, event)?;
         Ok(())
+    }
+
+    /// Begins an era.
+    pub(crate) fn rebase(&mut self) -> Result<(), AllocError>
+        ensures opened { (self.new.settings ≡ self.old.settings) × (self.new.opened ≡ self.old.opened) }
+        ensures ok { OnOk result (self.new ≡ record self.old { eras = self.old.eras ++ era_now self.old ∷ []; base = rebased self.old.base self.old.entries; entries = [] }) }
+    {
+        self.eras.reserve(1)?;
+        self.eras.push_reserved(self.node.end_era());
+        Ok(())
+    }
+
+    /// Ends it: the member is dropped, and its disk stays as it is.
+    pub(crate) fn end(self) -> (Life, PlayDisk)
+        ensures life { result.0 ≡ self }
+        ensures disk { result.1 ≡ self.left }
+        ensures lived { IsLived disk_state (owner_of self.settings) self }
+        ensures mine { IsOfOne self }
+    {
+        let Living {
+            settings,
+            limit,
+            opened,
+            eras,
+            mut node,
+        } = self;
+        // what the node says of its disk holds of the life that ends
+        let _ = node.disk();
+        let first = node.first();
+        let last = node.end_era();
+        let disk = node.into_disk();
+        let life = Life {
+            settings,
+            limit,
+            opened,
+            first,
+            eras,
+            last,
+            left: Snapshot::of(&disk),
+        };
+        (life, disk)
     }
 }

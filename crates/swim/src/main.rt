@@ -6,9 +6,13 @@
 mod command;
 mod fault;
 mod first;
+mod keyword;
 mod life;
+mod line;
+mod patch;
 mod player;
 mod script;
+mod story;
 #[cfg(test)]
 mod tests;
 mod transcript;

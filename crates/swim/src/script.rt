@@ -4,8 +4,9 @@ ghost use Rattle.std.specs.Prelude.{◌≡◌, ◌==◌, ℕ, ◌+◌, ◌≤◌
 ghost use Rattle.std.specs.List.{slice_split, filter, list_all};
 ghost use Rattle.swim.specs.Commands.{is_said, lines_of, AreSaid, IsScript, and_lines, SaysLine, is_printed, judged};
 
-use crate::command::{Command, read_command};
+use crate::command::Command;
 use crate::fault::{FaultKind, ScriptFault};
+use crate::line::read_command;
 use std::alloc::Global;
 
 /// The most bytes of a line, its end aside.

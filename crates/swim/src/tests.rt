@@ -13,15 +13,23 @@ fn plays(alloc: Global, script: &str, transcript: &str) -> bool {
     }
 }
 
-/// How many entries the lives of the script have in all.
-fn entries_of(alloc: Global, script: &str) -> usize {
-    let mut count: usize = 0;
-    if let Ok(played) = play(alloc, script.as_bytes()) {
-        for life in &played.lives {
-            count = count.saturating_add(life.entries().len());
+/// How many runs the script has, and how many lives, ended eras and entries they have in all.
+fn counts_of(alloc: Global, script: &str) -> (usize, usize, usize, usize) {
+    let Ok(played) = play(alloc, script.as_bytes()) else {
+        return (0, 0, 0, 0);
+    };
+    let mut counts: (usize, usize, usize, usize) = (played.lives.len(), 0, 0, 0);
+    for run in &played.lives {
+        for life in &run.lives {
+            counts.1 = counts.1.saturating_add(1);
+            counts.2 = counts.2.saturating_add(life.eras().len());
+            counts.3 = counts.3.saturating_add(life.last().journal().len());
+            for era in life.eras() {
+                counts.3 = counts.3.saturating_add(era.journal().len());
+            }
         }
     }
-    count
+    counts
 }
 
 /// The line and the kind of the script's fault.
@@ -48,7 +56,7 @@ fn bad_senders(rt: HostRuntime) {
     let transcript =
         "start ok number 1\nevent 1 save none number 1 phase running\nnote 1 BadDatagram 1 TooShort\nevent 2 save none number 1 phase running\nnote 3 NotSender\n";
     assert!(rt; plays(rt.alloc(), script, transcript));
-    assert_eq!(rt; entries_of(rt.alloc(), script), 2);
+    assert_eq!(rt; counts_of(rt.alloc(), script), (1, 1, 0, 2));
 }
 
 #[test]
@@ -71,6 +79,23 @@ fn faulty_lines(rt: HostRuntime) {
         ("set block 1", FaultKind::Argument),
         ("tick 4294967296", FaultKind::Argument),
         ("leave now", FaultKind::Argument),
+        ("init 18446744073709551616", FaultKind::Argument),
+        ("open 1", FaultKind::Argument),
+        ("fail read 0", FaultKind::Argument),
+        ("fail read 1000001", FaultKind::Argument),
+        ("fail link 1", FaultKind::Argument),
+        ("tear sync 1", FaultKind::Argument),
+        ("halt", FaultKind::Argument),
+        ("crash", FaultKind::Argument),
+        ("crash twice", FaultKind::Argument),
+        ("crash fill", FaultKind::Argument),
+        ("crash fill a", FaultKind::Argument),
+        ("crash fill a5a5", FaultKind::Argument),
+        ("crash fill -", FaultKind::Argument),
+        ("disk 65536 00", FaultKind::Argument),
+        ("disk 0", FaultKind::Argument),
+        ("disk 0 0", FaultKind::Argument),
+        ("slots a", FaultKind::Argument),
     ];
     for (script, kind) in table {
         assert_eq!(rt; fault_of(rt.alloc(), script), Some((1, kind)), "{script:?}");
@@ -105,4 +130,33 @@ fn first_faulty_line(rt: HostRuntime) {
     let script = "start 1\n\n# frob\nfrob\nstart 0\n";
     assert_eq!(rt; fault_of(rt.alloc(), script), Some((4, FaultKind::Command)));
     assert_eq!(rt; fault_of(rt.alloc(), ""), None);
+}
+
+/// Lines that make or overwrite a disk or name an owner part the lives; kills, crashes and refused openings do not.
+#[test]
+fn runs_of_lives(rt: HostRuntime) {
+    let table = [
+        ("", (0, 0, 0, 0)),
+        ("tick 0\nopen\n", (0, 0, 0, 0)),
+        (
+            "init 0\nopen\ntick 0\nkill\nopen\ncrash keep\nhalt 1\nopen\ncrash drop\nopen\n",
+            (1, 3, 0, 1),
+        ),
+        ("start 1\nkill\ninit 4\nopen\n", (2, 2, 0, 0)),
+        (
+            "start 1\ndisk 0 00\nkill\nopen\nkill\ndisk 1024 00\nopen\n",
+            (2, 3, 0, 0),
+        ),
+        (
+            "start 1\ngroup 7\nkill\nopen\nkill\nme 10.0.0.1:7000\nopen\n",
+            (3, 3, 0, 0),
+        ),
+        (
+            "set limit 2\nstart 1\ntick 0\ntick 0\ntick 0\nrebase\ntick 0\nrebase\n",
+            (1, 1, 2, 3),
+        ),
+    ];
+    for (script, counts) in table {
+        assert_eq!(rt; counts_of(rt.alloc(), script), counts, "{script:?}");
+    }
 }

@@ -8,6 +8,7 @@ use std::alloc::{AllocError, Global};
 use std::fmt::Write;
 use swim_member::{Note, Out, Phase};
 use swim_node::{Entry, Outcome, Save, Status};
+use swim_state::{Reading, Slots};
 use swim_wire::{Update, UpdateKind, encode};
 
 /// The name of a phase.
@@ -125,4 +126,24 @@ pub(crate) fn write_entry(alloc: Global, text: &mut String, entry: &Entry) -> Re
         write_send(alloc, text, out, *outcome)?;
     }
     Ok(())
+}
+
+fn write_slot(text: &mut String, reading: Reading) -> Result<(), AllocError> {
+    match reading {
+        Reading::Shut => write!(text, "closed"),
+        Reading::Holds(saved) => {
+            let ceiling = saved.ceiling;
+            write!(text, "open {ceiling}")
+        }
+        Reading::Damaged => write!(text, "damaged"),
+    }
+}
+
+/// The line of the slots of a state file.
+pub(crate) fn write_slots(text: &mut String, slots: &Slots) -> Result<(), AllocError> {
+    write!(text, "slots a ")?;
+    write_slot(text, slots.a)?;
+    write!(text, " b ")?;
+    write_slot(text, slots.b)?;
+    writeln!(text)
 }

@@ -1,9 +1,9 @@
 //! The words of a line: numbers, endpoints and hex, as scripts write them.
 
-ghost use Rattle.std.specs.Prelude.{◌≡◌, ℕ, ◌+◌, ◌*◌, ◌^◌, ◌<◌, ◌≤◌, ◌∷◌, ◌++◌, length, take, Some, IfSome, Ok, IfOk};
+ghost use Rattle.std.specs.Prelude.{◌≡◌, ℕ, ◌+◌, ◌*◌, ◌^◌, ◌<◌, ◌≤◌, ◌∷◌, ◌++◌, [], length, take, Some, IfSome, Ok, IfOk};
 ghost use Rattle.hex.specs.Hex.{decode_of};
 ghost use Rattle.std.specs.Fmt.{decimal};
-ghost use Rattle.swim.specs.Words.{split_by, endpoint_text, IsHex};
+ghost use Rattle.swim.specs.Words.{split_by, endpoint_text, IsBytes, IsCut};
 
 use crate::fault::FaultKind;
 use arrayvec::ArrayVec;
@@ -113,19 +113,37 @@ fn cut(bytes: &[u8]) -> ArrayVec<u8, RECEIVED_MAX>
     cut
 }
 
-/// The bytes of a datagram, at most 600 of which 513 are kept; `-` for none.
-pub(crate) fn read_hex(alloc: Global, word: &[u8]) -> Result<ArrayVec<u8, RECEIVED_MAX>, FaultKind>
-    ensures { IfOk result (λ bytes. IsHex word.now bytes.items) }
+/// Bytes as hex digits; `-` for none.
+pub(crate) fn read_bytes(alloc: Global, word: &[u8]) -> Result<Vec<u8>, FaultKind>
+    ensures { IfOk result (λ bytes. IsBytes word.now bytes.items) }
 {
     if word == b"-".as_slice() {
-        return Ok(ArrayVec::new());
+        return Ok(Vec::new(alloc));
     }
     if word.is_empty() {
         return Err(FaultKind::Argument);
     }
+    decode_hex(alloc, word)
+}
+
+/// The byte that two hex digits spell.
+pub(crate) fn read_hex_byte(alloc: Global, word: &[u8]) -> Result<u8, FaultKind>
+    ensures { IfOk result (λ byte. decode_of word.now ≡ Ok (byte ∷ [])) }
+{
+    let bytes = decode_hex(alloc, word)?;
+    match bytes.as_slice() {
+        [byte] => Ok(*byte),
+        _ => Err(FaultKind::Argument),
+    }
+}
+
+/// The bytes of a datagram, at most 600 of which 513 are kept; `-` for none.
+pub(crate) fn read_hex(alloc: Global, word: &[u8]) -> Result<ArrayVec<u8, RECEIVED_MAX>, FaultKind>
+    ensures { IfOk result (λ bytes. IsCut word.now bytes.items) }
+{
     if word.len() > 2 * HEX_MAX {
         return Err(FaultKind::Argument);
     }
-    let bytes = decode_hex(alloc, word)?;
+    let bytes = read_bytes(alloc, word)?;
     Ok(cut(&bytes))
 }

@@ -1,7 +1,6 @@
-use Rattle.std.proofs.Common.{◌≡◌}
-use Rattle.swim.specs.Play.{beginning, obeyed_all}
+use Rattle.swim.specs.Play.{Plays, beginning}
 use Rattle.swim.proofs.player.run.Given as goal
 
--- what was done so far is what the lines so far say
+-- what was done so far is what the lines so far may make of the beginning
 abbrev pub invariant-loop-command : goal.invariant-loop-command
-invariant-loop-command l = l.player ≡ obeyed_all beginning l.yielded
+invariant-loop-command l = Plays beginning l.yielded l.player

@@ -1,0 +1,112 @@
+-- One entry, one era, one life more.
+use Rattle.std.proofs.Common.{◌≡◌, ℕ, List, [], ◌∷◌, ◌++◌, refl}
+use Rattle.std.proofs.lemmas.List.Elements.{All-append, All-cons, All-nil}
+use Rattle.swim_disk.specs.Disk.{State, IsSettled}
+use Rattle.swim_state.specs.declared.owner.Owner.{Owner}
+use Rattle.swim_state.specs.Held.{Held}
+use Rattle.swim_node.specs.declared.entry.Entry.{Entry}
+use Rattle.swim_node.specs.History.{Base, IsLegal}
+use Rattle.std.specs.Option.{option_to_list}
+use Rattle.swim_node.specs.Owns.{owns, owns_in, AreAtLeast}
+use Rattle.swim_node.proofs.Lists.{at_least-append}
+use Rattle.swim_node.specs.Lives.{Era, Life, AreJoined, numbers_in, numbers_of, IsLived, ceiling_of, Then, Crashed, Refused, Reached, Here, Next, AreLives}
+use Rattle.swim_node.specs.Node.{rebased}
+use Rattle.swim_node.proofs.Lives.{held-reached}
+use Rattle.swim.specs.Life.{PlayDisk, disk_state, IsMine, AreMine, IsOfOne, IsLiving, IsOnto, Spares, AreOnOneDisk}
+use Rattle.swim.specs.Story.{Leads}
+
+-- ---- a life that goes on
+
+joined-snoc : (start : Base) (eras : List Era) (era : Era) → AreJoined start eras era.base → IsLegal era.base era.entries → AreJoined start (eras ++ era ∷ []) (rebased era.base era.entries)
+joined-snoc start [] era joined legal = (joined, legal, refl)
+joined-snoc start (first ∷ eras) era joined legal = (joined.0, joined.1, joined-snoc (rebased first.base first.entries) eras era joined.2 legal)
+
+pub living-happened : (owner : Owner) (life : Life PlayDisk) (e : Entry) (left : PlayDisk) → IsLiving owner life → IsMine e → IsLiving owner (record life { entries = life.entries ++ e ∷ []; left = left })
+living-happened owner life e left h mine = record {
+  same_owner = h.same_owner;
+  joined = h.joined;
+  above = h.above;
+  begun = h.begun;
+  mine = record { ended = h.mine.ended; last = All-append IsMine life.entries (e ∷ []) h.mine.last (All-cons IsMine e [] mine (All-nil IsMine)) };
+  room = h.room;
+}
+
+at_least-parts : (f : ℕ) (ms ns : List ℕ) → AreAtLeast f (ms ++ ns) → AreAtLeast f ms × AreAtLeast f ns
+at_least-parts f [] ns h = (tt {0}, h)
+at_least-parts f (m ∷ ms) ns h = let rest = at_least-parts f ms ns h.1 in ((h.0, rest.0), rest.1)
+
+least-last : (f : ℕ) (ms ns : List ℕ) → AreAtLeast f (ms ++ ns) → AreAtLeast f ns
+least-last f ms ns h = (at_least-parts f ms ns h).1
+
+numbers-snoc : (f : ℕ) (eras : List Era) (era : Era) → AreAtLeast f (numbers_in eras) → AreAtLeast f (owns era.base era.entries) → AreAtLeast f (numbers_in (eras ++ era ∷ []))
+numbers-snoc f [] era h k = at_least-append f (owns_in era.base.state.settings.me era.entries) [] (least-last f (option_to_list era.base.past) _ k) (tt {0})
+numbers-snoc f (first ∷ eras) era h k =
+    let parts = at_least-parts f (owns_in first.base.state.settings.me first.entries) (numbers_in eras) h in
+    at_least-append f (owns_in first.base.state.settings.me first.entries) _ parts.0 (numbers-snoc f eras era parts.1 k)
+
+pub living-rebased : (owner : Owner) (life : Life PlayDisk) → IsLiving owner life → IsLegal life.base life.entries → AreAtLeast life.first (owns life.base life.entries) → IsLiving owner (record life { eras = life.eras ++ record { base = life.base; entries = life.entries } ∷ []; base = rebased life.base life.entries; entries = [] })
+living-rebased owner life h legal begun =
+    let era : Era = record { base = life.base; entries = life.entries } in
+    record {
+      same_owner = h.same_owner;
+      joined = joined-snoc _ life.eras era h.joined legal;
+      above = h.above;
+      begun = numbers-snoc life.first life.eras era h.begun begun;
+      mine = record { ended = All-append AreMine life.eras (era ∷ []) h.mine.ended (All-cons AreMine era [] h.mine.last (All-nil AreMine)); last = All-nil IsMine };
+      room = h.room;
+    }
+
+-- the numbers of a life are those of its ended eras and of its last one
+pub life-begun : (life : Life PlayDisk) → AreAtLeast life.first (numbers_in life.eras) → AreAtLeast life.first (owns life.base life.entries) → AreAtLeast life.first (numbers_of life)
+life-begun life h k = at_least-append life.first (numbers_in life.eras) _ h (least-last life.first (option_to_list life.base.past) _ k)
+
+-- ---- lives one after another
+
+lives-snoc : {D : Type 0} (state : D → State) (owner : Owner) (lives : List (Life D)) (life : Life D) → AreLives state owner lives → IsOnto state owner lives life.opened → IsLived state owner life → AreLives state owner (lives ++ life ∷ [])
+lives-snoc state owner [] life h onto lived = (lived, tt {0}, tt {0})
+lives-snoc state owner (first ∷ []) life h onto lived = (h.0, onto, (lived, tt {0}, tt {0}))
+lives-snoc state owner (first ∷ next ∷ lives) life h onto lived = (h.0, h.1, lives-snoc state owner (next ∷ lives) life h.2 onto lived)
+
+onto-snoc : {D : Type 0} (state : D → State) (owner : Owner) (lives : List (Life D)) (life : Life D) → IsOnto state owner (lives ++ life ∷ []) life.left
+onto-snoc state owner [] life = Here life.left
+onto-snoc state owner (first ∷ []) life = Here life.left
+onto-snoc state owner (first ∷ next ∷ lives) life = onto-snoc state owner (next ∷ lives) life
+
+reached-then : (D : Type 0) (state : D → State) (owner : Owner) (b : ℕ) (d e f : D) → Reached D state owner b d e → Then D state owner b e f → Reached D state owner b d f
+reached-then D state owner b d _ f (Here _) step = Next d f f step (Here f)
+reached-then D state owner b d e f (Next _ x _ first rest) step = Next d x f first (reached-then D state owner b x e f rest step)
+
+-- what may become of the disk, whatever it is held to, may become of it after these lives
+onto-then : {D : Type 0} (state : D → State) (owner : Owner) (lives : List (Life D)) (d e : D) → AreLives state owner lives → IsOnto state owner lives d → ((b : ℕ) → Held owner (state d) b → Then D state owner b d e) → IsOnto state owner lives e
+onto-then state owner [] d e h onto may = tt {0}
+onto-then {D} state owner (life ∷ []) d e h onto may =
+    reached-then D state owner (ceiling_of life) life.left d e onto (may (ceiling_of life) (held-reached D state owner (ceiling_of life) life.left d onto (IsLived.held h.0)))
+onto-then state owner (first ∷ next ∷ lives) d e h onto may = onto-then state owner (next ∷ lives) d e h.2 onto may
+
+module _ (owner : Owner) (lives : List (Life PlayDisk)) where
+  pub leads-none : (d : PlayDisk) → lives ≡ [] → Leads owner lives d
+  leads-none d none = rw none (record { lives_are = tt {0}; mine = All-nil IsOfOne; onto = tt {0} })
+
+  pub leads-spared : (d e : PlayDisk) → Leads owner lives d → Spares owner d e → Leads owner lives e
+  leads-spared d e h spared = record {
+    lives_are = h.lives_are;
+    mine = h.mine;
+    onto = onto-then disk_state owner lives d e h.lives_are h.onto (λ b held. Refused d e (spared b held));
+  }
+
+  pub leads-crashed : (d e : PlayDisk) → Leads owner lives d → (disk_state d).images (disk_state e).content → IsSettled (disk_state e) → Leads owner lives e
+  leads-crashed d e h image settled = record {
+    lives_are = h.lives_are;
+    mine = h.mine;
+    onto = onto-then disk_state owner lives d e h.lives_are h.onto (λ b held. Crashed d e image settled);
+  }
+
+  pub leads-ended : (life : Life PlayDisk) → Leads owner lives life.opened → IsLived disk_state owner life → IsOfOne life → Leads owner (lives ++ life ∷ []) life.left
+  leads-ended life h lived mine = record {
+    lives_are = lives-snoc disk_state owner lives life h.lives_are h.onto lived;
+    mine = All-append IsOfOne lives (life ∷ []) h.mine (All-cons IsOfOne life [] mine (All-nil IsOfOne));
+    onto = onto-snoc disk_state owner lives life;
+  }
+
+  pub on_one_disk : (d : PlayDisk) → Leads owner lives d → AreOnOneDisk lives
+  on_one_disk d h = record { owner = owner; lives_are = h.lives_are; mine = h.mine }

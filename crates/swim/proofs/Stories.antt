@@ -1,0 +1,93 @@
+-- What happens to a story, and what that is to a script.
+use Rattle.std.proofs.Common.{◌≡◌, ℕ, Bool, true, false, Some, None, inr, List, [], ◌∷◌, ◌++◌, refl, sym, subst}
+use Rattle.std.specs.Prelude.{All, Option, is_some, Result, Ok, Err, OnOk}
+use Rattle.std.proofs.lemmas.List.Elements.{All-nil}
+use Rattle.swim_disk.specs.Disk.{IsSettled}
+use Rattle.swim_state.specs.declared.owner.Owner.{Owner}
+use Rattle.swim_node.specs.Lives.{Life, IsLived}
+use Rattle.swim_node.specs.Node.{owner_of}
+use Rattle.swim.specs.declared.command.Command.{Command}
+use Rattle.swim.specs.declared.story.Run.{Run}
+use Rattle.swim.specs.declared.story.Stage.{Stage}
+use Rattle.swim.specs.declared.story.Stage.TheVariants.{Bare, Idle, Open}
+use Rattle.swim.specs.Life.{PlayDisk, disk_state, IsOfOne, Spares, AreOnOneDisk}
+use Rattle.swim.specs.Story.{Leads, IsStory, Tale, begins, playing}
+use Rattle.swim.specs.Play.{Setup, Playing, IsRun, can_open, IfClosed, IfDisk, Opens, Does, Plays}
+use Rattle.swim.proofs.Lives.{leads-none, leads-spared, leads-crashed, leads-ended, on_one_disk}
+
+-- the lives since the last other disk or owner are of one owner on one disk
+pub story-run : (owner : Owner) (apart : Bool) (runs : List Run) (lives : List (Life PlayDisk)) (stage : Stage) → IsStory owner apart runs lives stage → AreOnOneDisk lives
+story-run owner apart runs lives Bare h = rw h.now (record { owner = owner; lives_are = tt {0}; mine = All-nil IsOfOne })
+story-run owner true runs lives (Idle disk) h = h.now
+story-run owner false runs lives (Idle disk) h = on_one_disk owner lives disk h.now
+story-run owner apart runs lives (Open life) h = on_one_disk (owner_of life.settings) lives life.opened (h.now.0)
+
+module _ (owner : Owner) (runs : List Run) (lives : List (Life PlayDisk)) where
+  pub story-named : (next : Owner) (apart : Bool) (stage : Stage) → IsStory owner apart runs lives stage → IsStory next true runs lives stage
+  story-named next apart Bare h = record { ended = h.ended; now = h.now }
+  story-named next true (Idle disk) h = record { ended = h.ended; now = h.now }
+  story-named next false (Idle disk) h = record { ended = h.ended; now = on_one_disk owner lives disk h.now }
+  story-named next apart (Open life) h = record { ended = h.ended; now = (h.now.0, λ never. absurd (cc)) }
+
+  pub story-put : (apart : Bool) (stage : Stage) (disk : PlayDisk) → IsStory owner apart runs lives stage → IsStory owner true runs lives (Idle disk)
+  story-put apart stage disk h = record { ended = h.ended; now = story-run owner apart runs lives stage h }
+
+  pub story-crashed : (apart : Bool) (d e : PlayDisk) → IsStory owner apart runs lives (Idle d) → (disk_state d).images (disk_state e).content → IsSettled (disk_state e) → IsStory owner apart runs lives (Idle e)
+  story-crashed true d e h image settled = record { ended = h.ended; now = h.now }
+  story-crashed false d e h image settled = record { ended = h.ended; now = leads-crashed owner lives d e h.now image settled }
+
+  pub story-refused : (apart : Bool) (d e : PlayDisk) → IsStory owner apart runs lives (Idle d) → Spares owner d e → IsStory owner apart runs lives (Idle e)
+  story-refused true d e h spared = record { ended = h.ended; now = h.now }
+  story-refused false d e h spared = record { ended = h.ended; now = leads-spared owner lives d e h.now spared }
+
+  pub story-rebased : (apart : Bool) (old new : Life PlayDisk) → IsStory owner apart runs lives (Open old) → new.settings ≡ old.settings → new.opened ≡ old.opened → IsStory owner apart runs lives (Open new)
+  story-rebased apart old new h settings opened = record {
+    ended = h.ended;
+    now = (rw (settings, opened) h.now.0, λ same. rw settings (h.now.1 same));
+  }
+
+  pub story-ended : (apart : Bool) (life : Life PlayDisk) → IsStory owner apart runs lives (Open life) → IsLived disk_state (owner_of life.settings) life → IsOfOne life → IsStory owner apart runs (lives ++ life ∷ []) (Idle life.left)
+  story-ended true life h lived mine = record {
+    ended = h.ended;
+    now = on_one_disk (owner_of life.settings) (lives ++ life ∷ []) life.left (leads-ended (owner_of life.settings) lives life h.now.0 lived mine);
+  }
+  story-ended false life h lived mine = record {
+    ended = h.ended;
+    now = subst (λ (o : Owner). Leads o (lives ++ life ∷ []) life.left) (sym (h.now.1 refl)) (leads-ended (owner_of life.settings) lives life h.now.0 lived mine);
+  }
+
+  -- a life that begins apart from those before
+  pub story-begun-apart : (life : Life PlayDisk) → All IsRun runs → lives ≡ [] → owner ≡ owner_of life.settings → IsStory owner false runs lives (Open life)
+  story-begun-apart life ended none named = record { ended = ended; now = (leads-none (owner_of life.settings) lives life.opened none, λ same. named) }
+
+  -- a life that follows those before
+  pub story-begun : (d : PlayDisk) (life : Life PlayDisk) → IsStory owner false runs lives (Idle d) → life.opened ≡ d → owner ≡ owner_of life.settings → IsStory owner false runs lives (Open life)
+  story-begun d life h opened named = record {
+    ended = h.ended;
+    now = (subst (λ (o : Owner). Leads o lives life.opened) named (rw opened h.now), λ same. named);
+  }
+
+-- ---- openings, as lines
+
+pub on_ok : {T E : Type 0} (P Q : Type 0) (result : Result T E) → (P → Q) → OnOk result P → OnOk result Q
+on_ok P Q (Ok v) so p = so p
+on_ok P Q (Err e) so p = p
+
+pub always_ok : {T E : Type 0} (P : Type 0) (result : Result T E) → P → OnOk result P
+always_ok P (Ok v) p = p
+always_ok P (Err e) p = tt
+
+none-of : {A : Type 0} (o : Option A) → is_some o ≡ false → o ≡ None
+none-of None h = refl
+none-of (Some x) h = absurd (cc)
+
+-- the line `open`, where a life began
+pub opens-begun : (setup : Setup) (old new : Tale) (first : ℕ) → is_some old.life ≡ false → is_some old.disk ≡ true → can_open setup ≡ true → new ≡ begins setup.settings setup.limit first old
+    → IfClosed old.life (playing setup old) (playing setup new) (IfDisk (playing setup old).disk (playing setup old) (playing setup new) (Opens (playing setup old) (playing setup new)))
+opens-begun setup old new first closed idle can is =
+    rw (is, none-of old.life closed, idle) (inr (first, can, refl))
+
+-- one line more
+pub plays-snoc : (p : Playing) (commands : List Command) (q : Playing) (command : Command) (r : Playing) → Plays p commands q → Does q command r → Plays p (commands ++ command ∷ []) r
+plays-snoc p [] q command r h step = (r, subst (λ (x : Playing). Does x command r) h step, refl)
+plays-snoc p (first ∷ commands) q command r h step = (h.0, h.1, plays-snoc h.0 commands q command r h.2 step)

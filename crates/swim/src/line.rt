@@ -1,0 +1,198 @@
+//! Which line says which command.
+
+ghost use Rattle.std.specs.Prelude.{◌≡◌, ◌<◌, ◌≤◌, IfSome, IfOk};
+ghost use Rattle.std.specs.Fmt.{decimal};
+ghost use Rattle.swim.specs.Words.{spaced};
+ghost use Rattle.swim.specs.Commands.{keyword_text, setting_text, line, Says, SaysFailure, SaysEvent, SaysChoice};
+
+use crate::command::{Command, Failure, Setting};
+use crate::fault::FaultKind;
+use crate::first::read_first;
+use crate::keyword::Keyword;
+use crate::patch::Patch;
+use crate::words::{
+    read_bytes, read_endpoint, read_hex, read_hex_byte, read_number, read_within, split_at_byte,
+};
+use std::alloc::Global;
+use swim_disk::Choice;
+use swim_member::Event;
+use swim_wire::Cursor;
+
+/// The greatest value that a line sets, and the most calls until one that fails.
+const COUNT_MAX: u32 = 1_000_000;
+
+/// A number of 32 bits within these bounds.
+fn read_count(text: &[u8], least: u32, most: u32) -> Option<u32>
+    ensures { IfSome result (λ number. (text.now ≡ decimal number) × (least ≤ number) × (number ≤ most)) }
+{
+    match read_within(text, u64::from(least), u64::from(most)) {
+        Some(number) => Some(number as u32),
+        None => None,
+    }
+}
+
+impl Setting {
+    /// The setting that the word names.
+    fn of(word: &[u8]) -> Option<Setting>
+        ensures { IfSome result (λ setting. word.now ≡ setting_text setting) }
+    {
+        match word {
+            b"lambda" => Some(Setting::Lambda),
+            b"period" => Some(Setting::Period),
+            b"direct" => Some(Setting::Direct),
+            b"suspect" => Some(Setting::Suspect),
+            b"forget" => Some(Setting::Forget),
+            b"helpers" => Some(Setting::Helpers),
+            b"limit" => Some(Setting::Limit),
+            _ => None,
+        }
+    }
+}
+
+/// The command of a line that is a keyword alone.
+fn bare(keyword: Keyword) -> Option<Command>
+    ensures { IfSome result (λ command. Says (keyword_text keyword) command) }
+{
+    match keyword {
+        Keyword::Open => Some(Command::Open),
+        Keyword::Kill => Some(Command::Kill),
+        Keyword::Slots => Some(Command::Slots),
+        Keyword::Rebase => Some(Command::Rebase),
+        Keyword::ReceiveFailed => Some(Command::Happen(Event::ReceiveFailed)),
+        Keyword::Leave => Some(Command::Happen(Event::Leave)),
+        Keyword::Members => Some(Command::Happen(Event::Members {
+            after: Cursor::zero(),
+        })),
+        _ => None,
+    }
+}
+
+/// The setting that the arguments set.
+fn read_set(arguments: &[u8]) -> Option<Command>
+    ensures { IfSome result (λ command. Says (line Keyword.Set arguments.now) command) }
+{
+    let (word, number) = split_at_byte(arguments, b' ')?;
+    let setting = Setting::of(word)?;
+    let value = read_count(number, 0, COUNT_MAX)?;
+    Some(Command::Set(setting, value))
+}
+
+/// The call that the arguments make fail.
+fn read_failure(arguments: &[u8]) -> Option<Failure>
+    ensures { IfSome result (λ failure. SaysFailure (line Keyword.Fail arguments.now) failure) }
+{
+    let (word, number) = split_at_byte(arguments, b' ')?;
+    let k = read_count(number, 1, COUNT_MAX)?;
+    match word {
+        b"read" => Some(Failure::Read(k)),
+        b"write" => Some(Failure::Write(k)),
+        b"sync" => Some(Failure::Sync(k)),
+        b"send" => Some(Failure::Send(k)),
+        _ => None,
+    }
+}
+
+/// The write that the arguments tear.
+fn read_torn(arguments: &[u8]) -> Option<Failure>
+    ensures { IfSome result (λ failure. SaysFailure (line Keyword.Tear arguments.now) failure) }
+{
+    let (word, number) = split_at_byte(arguments, b' ')?;
+    if word != b"write".as_slice() {
+        return None;
+    }
+    let k = read_count(number, 1, COUNT_MAX)?;
+    Some(Failure::TornWrite(k))
+}
+
+/// The event of a keyword with arguments, but for a received datagram.
+fn read_event(keyword: Keyword, arguments: &[u8]) -> Option<Event>
+    ensures { IfSome result (λ event. SaysEvent (line keyword arguments.now) event) }
+{
+    match keyword {
+        Keyword::Tick => Some(Event::Tick {
+            word: read_count(arguments, 0, u32::MAX)?,
+        }),
+        Keyword::SendFailed => Some(Event::SendFailed {
+            count: read_count(arguments, 0, u32::MAX)?,
+        }),
+        Keyword::Join => Some(Event::Join {
+            peer: read_endpoint(arguments)?,
+        }),
+        Keyword::Members => Some(Event::Members {
+            after: Cursor::at(read_endpoint(arguments)?),
+        }),
+        _ => None,
+    }
+}
+
+/// The command of a keyword with arguments, for those that take no memory.
+fn read_plain(keyword: Keyword, arguments: &[u8]) -> Option<Command>
+    ensures { IfSome result (λ command. Says (line keyword arguments.now) command) }
+{
+    match keyword {
+        Keyword::Group => Some(Command::Group(read_number(arguments)?)),
+        Keyword::Me => Some(Command::Me(read_endpoint(arguments)?)),
+        Keyword::Set => read_set(arguments),
+        Keyword::Start => Some(Command::Start(read_first(arguments)?)),
+        Keyword::Init => Some(Command::Init(read_number(arguments)?)),
+        Keyword::Fail => Some(Command::Plan(read_failure(arguments)?)),
+        Keyword::Tear => Some(Command::Plan(read_torn(arguments)?)),
+        Keyword::Halt => Some(Command::Plan(Failure::Halt(read_count(arguments, 1, COUNT_MAX)?))),
+        _ => Some(Command::Happen(read_event(keyword, arguments)?)),
+    }
+}
+
+/// The received datagram that the arguments give.
+fn read_received(alloc: Global, arguments: &[u8]) -> Result<Command, FaultKind>
+    ensures { IfOk result (λ command. Says (line Keyword.Receive arguments.now) command) }
+{
+    let (from, word) = split_at_byte(arguments, b' ').ok_or(FaultKind::Argument)?;
+    let from = read_endpoint(from).ok_or(FaultKind::Argument)?;
+    let bytes = read_hex(alloc, word)?;
+    Ok(Command::Happen(Event::Datagram { from, bytes }))
+}
+
+/// What a crash leaves of what was not synced.
+fn read_choice(alloc: Global, arguments: &[u8]) -> Result<Choice, FaultKind>
+    ensures { IfOk result (λ choice. SaysChoice arguments.now choice) }
+{
+    if arguments == b"keep".as_slice() {
+        return Ok(Choice::Keep);
+    }
+    if arguments == b"drop".as_slice() {
+        return Ok(Choice::Drop);
+    }
+    let (fill, word) = split_at_byte(arguments, b' ').ok_or(FaultKind::Argument)?;
+    if fill != b"fill".as_slice() {
+        return Err(FaultKind::Argument);
+    }
+    Ok(Choice::Fill(read_hex_byte(alloc, word)?))
+}
+
+/// The part of the disk that the arguments write over.
+fn read_patch(alloc: Global, arguments: &[u8]) -> Result<Command, FaultKind>
+    ensures { IfOk result (λ command. Says (line Keyword.Overwrite arguments.now) command) }
+{
+    let (at, word) = split_at_byte(arguments, b' ').ok_or(FaultKind::Argument)?;
+    let at = read_number(at).ok_or(FaultKind::Argument)?;
+    let bytes = read_bytes(alloc, word)?;
+    let patch = Patch::new(at, bytes).ok_or(FaultKind::Argument)?;
+    Ok(Command::Overwrite(patch))
+}
+
+/// The command that a line says, or the first of Command, Argument and NoMemory.
+pub(crate) fn read_command(alloc: Global, text: &[u8]) -> Result<Command, FaultKind>
+    ensures { IfOk result (λ command. Says text.now command) }
+{
+    let Some((word, arguments)) = split_at_byte(text, b' ') else {
+        let keyword = Keyword::of(text).ok_or(FaultKind::Command)?;
+        return bare(keyword).ok_or(FaultKind::Argument);
+    };
+    let keyword = Keyword::of(word).ok_or(FaultKind::Command)?;
+    match keyword {
+        Keyword::Receive => read_received(alloc, arguments),
+        Keyword::Crash => Ok(Command::Crash(read_choice(alloc, arguments)?)),
+        Keyword::Overwrite => read_patch(alloc, arguments),
+        _ => read_plain(keyword, arguments).ok_or(FaultKind::Argument),
+    }
+}
