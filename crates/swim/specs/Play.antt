@@ -5,7 +5,7 @@ use Rattle.swim_member.specs.declared.settings.Settings.{Settings}
 use Rattle.swim_member.specs.declared.settings.SettingsFault.{SettingsFault}
 use Rattle.swim_member.specs.Checks.{fault_of}
 use Rattle.swim_node.specs.declared.entry.Entry.{Entry}
-use Rattle.swim_node.specs.Lives.{Era, Life}
+use Rattle.swim_node.specs.Lives.{Era, Life, AreRising}
 use Rattle.swim.specs.declared.command.Command.{Command}
 use Rattle.swim.specs.declared.command.Command.TheVariants.{Group, Me, Set, Start, Init, Open, Happen, Plan, Kill, Crash, Overwrite, Slots, Rebase}
 use Rattle.swim.specs.declared.command.Setting.{Setting}
@@ -163,9 +163,14 @@ run_of run = map asked_of run.lives.items
 abbrev pub IsRun : Run → Type 0
 IsRun run = AreOnOneDisk run.lives.items
 
--- these runs were played by these lines: their lives are those that the lines ask for, and those of each run are lives of one owner on one disk
+-- every own number of a later life of a run is above every own number of an earlier one
+abbrev pub IsRising : Run → Type 0
+IsRising run = AreRising run.lives.items
+
+-- these runs were played by these lines: their lives are those that the lines ask for, those of each run are lives of one owner on one disk, and so own numbers rise over them
 pub record ArePlayed (commands : List Command) (runs : List Run) : Type 0 where
   pub end : Playing
   pub plays : Plays beginning commands end
   pub asked : map run_of runs ≡ all_of end
   pub lived : All IsRun runs
+  pub rising : All IsRising runs

@@ -6,7 +6,7 @@ ghost use Rattle.swim_node.specs.Node.{owner_of};
 ghost use Rattle.swim.specs.Life.{disk_state};
 ghost use Rattle.swim.specs.Commands.{IsScript};
 ghost use Rattle.swim.specs.declared.command.Command.{Command as Commands};
-ghost use Rattle.swim.specs.Play.{Does, Plays, ArePlayed, beginning, all_of, happened, rebased, ended, made, with_setting, run_of, IsRun, IfClosed, IfDisk, Opens, Starts};
+ghost use Rattle.swim.specs.Play.{Does, Plays, ArePlayed, beginning, all_of, happened, rebased, ended, made, with_setting, run_of, IsRun, IsRising, IfClosed, IfDisk, Opens, Starts};
 
 use crate::command::{Command, Failure, Setting};
 use crate::fault::ScriptFault;
@@ -336,6 +336,7 @@ impl Player {
     fn finish(self) -> Result<Transcript, AllocError>
         ensures asked { IfOk result (λ transcript. map run_of transcript.lives.items ≡ all_of self) }
         ensures lived { IfOk result (λ transcript. All IsRun transcript.lives.items) }
+        ensures rising { IfOk result (λ transcript. All IsRising transcript.lives.items) }
     {
         let Player {
             alloc: _,
@@ -367,8 +368,8 @@ fn run(alloc: Global, commands: Vec<Command>) -> Result<Transcript, AllocError>
 /// The lives are those that the script asks for, with its event lines in order, those left out that came while no
 /// member was open or the era was full. Each era has a legal history and all its calls are of one caller; a life's first
 /// era begins afresh, and each next one with what the one before left. The lives of each run were lived by one owner on
-/// one disk, one after another, so that own numbers rise over them. Err: the first fault of the first faulty line, and
-/// nothing has run; or 5 NoMemory with line 0, where memory ran out.
+/// one disk, one after another, and every own number of a later one is above every own number of an earlier one. Err:
+/// the first fault of the first faulty line, and nothing has run; or 5 NoMemory with line 0, where memory ran out.
 pub fn play(alloc: Global, script: &[u8]) -> Result<Transcript, ScriptFault>
     ensures { IfOk result (λ transcript. (commands : List Commands) × IsScript script.now commands × ArePlayed commands transcript.lives.items) }
 {

@@ -5,7 +5,7 @@ ghost use Rattle.swim_disk.specs.Disk.{IsSettled};
 ghost use Rattle.swim_node.specs.Node.{owner_of};
 ghost use Rattle.swim_node.specs.Sending.{HasTexts};
 ghost use Rattle.swim.specs.Life.{disk_state, AreOnOneDisk};
-ghost use Rattle.swim.specs.Play.{happened, rebased, and_run, asked_of, run_of, IsRun};
+ghost use Rattle.swim.specs.Play.{happened, rebased, and_run, asked_of, run_of, IsRun, IsRising};
 ghost use Rattle.swim.specs.Story.{IsOpening, Ends, Moves, told};
 
 use crate::life::{Life, Living, PlayDisk};
@@ -15,7 +15,7 @@ use std::marker::Model;
 use std::mem;
 use swim_disk::{Choice, MemDisk};
 use swim_member::{Event, Settings, SettingsFault};
-use swim_node::{ApplyFault, Entry, MemoryLink, OpenFault};
+use swim_node::{ApplyFault, Entry, MemoryLink, OpenFault, own_numbers_rise};
 use swim_state::Owner;
 use thiserror::Error;
 
@@ -293,6 +293,7 @@ impl Story {
     pub(crate) fn finish(mut self) -> Result<Vec<Run>, AllocError>
         ensures told { IfOk result (λ runs. map run_of runs.items ≡ told self) }
         ensures lived { IfOk result (λ runs. All IsRun runs.items) }
+        ensures rising { IfOk result (λ runs. All IsRising runs.items) }
     {
         if self.is_open() {
             self.end()?;
@@ -306,6 +307,7 @@ impl Story {
             stage: _,
         } = self;
         close_run(&mut runs, &mut lives);
+        own_numbers_rise::<PlayDisk>();
         Ok(runs)
     }
 }
