@@ -2,7 +2,7 @@
 use Rattle.std.proofs.Common.{◌≡◌, ◌≢◌, inl, inr, ℕ, ◌^◌, ◌<◌, ◌≤◌, true, List, take, Ok, Err, refl, subst, sym, ◌∙◌, ap, arith}
 use Rattle.swim_disk.specs.Disk.{State, IsSettled}
 use Rattle.swim_state.specs.Layout.{other, body_of, part, is_good, version_1}
-use Rattle.swim_state.specs.File.{head, reading_at, reading_in, floor_of, ceiling_of, IsOpen, IsSound, AreUsable, AreOf}
+use Rattle.swim_state.specs.File.{head, reading_at, reading_in, floor, floor_of, ceiling_of, IsOpen, IsSound, AreUsable, AreOf}
 use Rattle.swim_state.specs.Held.{Through}
 use Rattle.swim_state.specs.Saving.{Stands, Saves}
 use Rattle.swim_state.specs.declared.owner.Owner.{Owner}
@@ -81,3 +81,7 @@ finished owner front slot kept n slots old new begins is moments images settled 
   sound = (stands_covers owner front slot kept n new.content begins is stands).sound;
   same = same;
 }
+
+-- the floor of an image is that of the slots read from it
+pub floor_read : (image : List ℕ) (slots : Slots) → AreOf image slots → floor_of slots ≡ floor image
+floor_read image slots same = λ i. floor_of (record { a = same.a i; b = same.b i })

@@ -266,10 +266,10 @@ err_one f g h = cc
 not_err : (d : Datagram) (f : WireFault) → ok d ≡ err f → ⊥
 not_err d f h = cc
 
-pub read_ok : (bytes : List ℕ) (read : Datagram) → AreBytes bytes → IsFaultless bytes → read ≡ datagram_of bytes → (d : Datagram) → (ok read ≡ ok d) ↔ Spells bytes d
+pub read_ok : (bytes : List ℕ) (read : Datagram) → AreBytes bytes → IsFaultless bytes → ok read ≡ ok (datagram_of bytes) → (d : Datagram) → (ok read ≡ ok d) ↔ Spells bytes d
 read_ok bytes read fits none is d = (
-  λ e. subst (Spells bytes) (sym is ∙ ok_one read d e) (faultless_spelled bytes fits none),
-  λ s. ap ok (is ∙ datagram_of_spelled bytes d s),
+  λ e. subst (Spells bytes) (ok_one (datagram_of bytes) d (sym is ∙ e)) (faultless_spelled bytes fits none),
+  λ s. is ∙ ap ok (datagram_of_spelled bytes d s),
 )
 
 pub read_err : (bytes : List ℕ) (read : Datagram) → IsFaultless bytes → (f : WireFault) → (ok read ≡ err f) ↔ IsFirstFault f bytes

@@ -1,6 +1,6 @@
 //! Bytes to a datagram.
 
-ghost use Rattle.std.specs.Prelude.{◌≡◌, ◌≢◌, ℕ, ◌+◌, ◌*◌, ◌^◌, ◌<◌, ◌≤◌, ◌↔◌, length, take, drop, slice_index, Ok, Err, Some, IsTrue, IfSome, IfNone};
+ghost use Rattle.std.specs.Prelude.{◌≡◌, ◌≢◌, ℕ, ◌+◌, ◌*◌, ◌^◌, ◌<◌, ◌≤◌, ◌↔◌, [], length, take, drop, slice_index, Ok, Err, Some, IsTrue, IfSome, IfNone};
 ghost use Rattle.byteorder.specs.Endian.{big_number};
 ghost use Rattle.swim_wire.specs.declared.datagram.Datagram.{Datagram as Datagrams};
 ghost use Rattle.swim_wire.specs.declared.fault.WireFault.{WireFault as Faults};
@@ -194,36 +194,16 @@ fn read_update(bytes: &[u8]) -> Update
     }
 }
 
-/// The updates after the head.
-fn read_updates(bytes: &[u8]) -> ArrayVec<Update, UPDATES_MAX>
+/// Appends the updates after the head to a list that has none.
+fn read_updates(bytes: &[u8], updates: &mut ArrayVec<Update, UPDATES_MAX>)
     requires faultless { IsFaultless bytes.now }
     requires counted { IsCounted bytes.now }
-    ensures { result.items ≡ updates_of (slice_index bytes.now 6) (drop 32 bytes.now) }
+    requires empty { updates.old.items ≡ [] }
+    ensures { updates.new.items ≡ updates_of (slice_index bytes.now 6) (drop 32 bytes.now) }
 {
     let count = bytes[COUNT_AT] as usize;
-    let mut updates = ArrayVec::new();
     for i in 0..count {
         updates.push(read_update(update_at(bytes, i)));
-    }
-    updates
-}
-
-/// The datagram of bytes without a fault.
-fn read(bytes: &[u8]) -> Datagram
-    requires faultless { IsFaultless bytes.now }
-    requires counted { IsCounted bytes.now }
-    ensures { result ≡ datagram_of bytes.now }
-{
-    let Some(kind) = Kind::from_code(bytes[KIND_AT]) else {
-        unreachable!()
-    };
-    Datagram {
-        kind,
-        group: BigEndian::read_u64(&bytes[GROUP_AT..]),
-        seq: BigEndian::read_u32(&bytes[SEQ_AT..]),
-        sender: Endpoint::from_bytes(&bytes[SENDER_AT..]),
-        subject: Cursor::from_bytes(&bytes[SUBJECT_AT..]),
-        updates: read_updates(bytes),
     }
 }
 
@@ -233,8 +213,21 @@ pub fn decode(bytes: &[u8]) -> Result<Datagram, WireFault>
     ensures err { (fault : Faults) → (result ≡ Err fault) ↔ IsFirstFault fault bytes.now }
     ensures read { result ≡ reading bytes.now }
 {
-    match first_fault(bytes) {
-        Some(fault) => Err(fault),
-        None => Ok(read(bytes)),
+    if let Some(fault) = first_fault(bytes) {
+        return Err(fault);
     }
+    let Some(kind) = Kind::from_code(bytes[KIND_AT]) else {
+        unreachable!()
+    };
+    // The updates are read where they stand: each function that returned them would move them once more.
+    let mut datagram = Datagram {
+        kind,
+        group: BigEndian::read_u64(&bytes[GROUP_AT..]),
+        seq: BigEndian::read_u32(&bytes[SEQ_AT..]),
+        sender: Endpoint::from_bytes(&bytes[SENDER_AT..]),
+        subject: Cursor::from_bytes(&bytes[SUBJECT_AT..]),
+        updates: ArrayVec::new(),
+    };
+    read_updates(bytes, &mut datagram.updates);
+    Ok(datagram)
 }
