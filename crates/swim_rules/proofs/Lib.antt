@@ -7,3 +7,4 @@ pub mod Places
 pub mod Changes
 pub mod Hearing
 pub mod Calling
+pub mod Counting

@@ -1,7 +1,7 @@
 //! The table of the other members.
 
-ghost use Rattle.std.specs.Prelude.{◌≡◌, ◌≢◌, ℕ, ◌+◌, ◌<◌, ◌≤◌, IsTrue, List, length, MatchResult, slice_get, slice_set, nat_le, []};
-ghost use Rattle.std.specs.List.{find, filter, position_or_len};
+ghost use Rattle.std.specs.Prelude.{◌≡◌, ◌≢◌, ℕ, ◌+◌, ◌<◌, ◌≤◌, IsTrue, List, length, MatchResult, true, slice_get, slice_set, slice_index_or, nat_le, []};
+ghost use Rattle.std.specs.List.{find, filter, insert, remove, position_or_len};
 ghost use Rattle.std.specs.Option.{option_map, option_copied};
 ghost use Rattle.swim_rules.specs.Rules.{Told, row, rows};
 ghost use Rattle.swim_rules.specs.Rows.{AreInOrder, row_of, answer_to, hear_rows, told_with, is_due, is_eligible, is_of_kind, expired, hear_option, forgotten, remove_option, remove_row, confirmed, is_after, told_option, untold_option, IsTable};
@@ -52,17 +52,20 @@ pub struct Table {
     suspect: u64,
     forget: u64,
     rows: ArrayVec<Row, ROWS_MAX>,
+    /// How many rows are Alive or Suspect.
+    eligible: usize,
 }
 
 impl Model for Table {
-    ghost use Rattle.std.specs.Prelude.{◌≤◌, length};
-    ghost use Rattle.swim_rules.specs.Rows.{Members, AreInOrder, LacksRow};
+    ghost use Rattle.std.specs.Prelude.{◌≡◌, length};
+    ghost use Rattle.std.specs.List.{filter};
+    ghost use Rattle.swim_rules.specs.Rows.{Members, AreInOrder, LacksRow, is_eligible};
 
     ghost Value = { Members };
 
     ghost view = { λ t. record { me = t.me; suspect = t.suspect; forget = t.forget; rows = t.rows.items } };
 
-    ghost invariant = { λ t. AreInOrder t.rows.items × LacksRow t.me t.rows.items };
+    ghost invariant = { λ t. AreInOrder t.rows.items × LacksRow t.me t.rows.items × (t.eligible ≡ length (filter is_eligible t.rows.items)) };
 }
 
 /// How many rows stand before `who`.
@@ -143,19 +146,60 @@ fn first_due(rows: &[Row], kind: UpdateKind, ticks: u64, now: u64) -> Option<Row
     None
 }
 
+/// Whether a row is Alive or Suspect.
+fn is_row_eligible(row: &Row) -> bool
+    ensures { result ≡ is_eligible row.now }
+{
+    row.update.kind != UpdateKind::Confirm
+}
+
 /// Puts a row in the place of another.
-fn replace(rows: &mut ArrayVec<Row, ROWS_MAX>, place: usize, row: Row)
+fn put(rows: &mut ArrayVec<Row, ROWS_MAX>, place: usize, row: Row)
     requires { place < length rows.old.items }
     ensures { rows.new.items ≡ slice_set rows.old.items place row }
 {
     rows[place] = row;
 }
 
+/// Puts a row in the place of one that is Alive or Suspect.
+fn replace(rows: &mut ArrayVec<Row, ROWS_MAX>, eligible: &mut usize, place: usize, row: Row)
+    requires place { place < length rows.old.items }
+    requires old { is_eligible (slice_index_or rows.old.items place row) ≡ true }
+    requires counted { eligible.old ≡ length (filter is_eligible rows.old.items) }
+    ensures rows { rows.new.items ≡ slice_set rows.old.items place row }
+    ensures counted { eligible.new ≡ length (filter is_eligible rows.new.items) }
+{
+    put(rows, place, row);
+    if !is_row_eligible(&row) {
+        *eligible -= 1;
+    }
+}
+
+/// Puts a row that is Alive or Suspect before the one at this place.
+fn insert(rows: &mut ArrayVec<Row, ROWS_MAX>, eligible: &mut usize, place: usize, row: Row)
+    requires place { place ≤ length rows.old.items }
+    requires room { length rows.old.items < 256 }
+    requires new { is_eligible row ≡ true }
+    requires counted { eligible.old ≡ length (filter is_eligible rows.old.items) }
+    ensures rows { rows.new.items ≡ insert rows.old.items place row }
+    ensures counted { eligible.new ≡ length (filter is_eligible rows.new.items) }
+{
+    rows.insert(place, row);
+    *eligible += 1;
+}
+
 /// Hears an update about the member of one of these rows, or about a new one.
-fn hear_in(rows: &mut ArrayVec<Row, ROWS_MAX>, update: Update, now: u64) -> Heard
-    requires { AreInOrder rows.old.items }
+fn hear_in(
+    rows: &mut ArrayVec<Row, ROWS_MAX>,
+    eligible: &mut usize,
+    update: Update,
+    now: u64,
+) -> Heard
+    requires order { AreInOrder rows.old.items }
+    requires counted { eligible.old ≡ length (filter is_eligible rows.old.items) }
     ensures answer { result ≡ answer_to rows.old.items update }
     ensures rows { rows.new.items ≡ hear_rows rows.old.items update now }
+    ensures counted { eligible.new ≡ length (filter is_eligible rows.new.items) }
     ensures most { length rows.new.items ≤ 256 }
 {
     let row = Row { update, since: now };
@@ -164,7 +208,7 @@ fn hear_in(rows: &mut ArrayVec<Row, ROWS_MAX>, update: Update, now: u64) -> Hear
             if !overrides(&update, &rows[place].update) {
                 return Heard::Kept;
             }
-            replace(rows, place, row);
+            replace(rows, eligible, place, row);
             Heard::Accepted
         }
         Err(place) => {
@@ -174,28 +218,37 @@ fn hear_in(rows: &mut ArrayVec<Row, ROWS_MAX>, update: Update, now: u64) -> Hear
             if rows.is_full() {
                 return Heard::Full;
             }
-            rows.insert(place, row);
+            insert(rows, eligible, place, row);
             Heard::Accepted
         }
     }
 }
 
-/// Removes the row of a member, if there is one.
-fn remove_in(rows: &mut ArrayVec<Row, ROWS_MAX>, who: Endpoint)
-    requires { AreInOrder rows.old.items }
-    ensures rows { rows.new.items ≡ remove_row rows.old.items who }
-    ensures most { length rows.new.items ≤ 256 }
+/// Removes the row at this place.
+fn remove(rows: &mut ArrayVec<Row, ROWS_MAX>, eligible: &mut usize, place: usize)
+    requires place { place < length rows.old.items }
+    requires counted { eligible.old ≡ length (filter is_eligible rows.old.items) }
+    ensures rows { rows.new.items ≡ remove rows.old.items place }
+    ensures counted { eligible.new ≡ length (filter is_eligible rows.new.items) }
+    ensures one_less { length rows.new.items + 1 ≡ length rows.old.items }
 {
-    if let Ok(place) = find_row(rows, who) {
-        rows.remove(place);
+    let row = rows.remove(place);
+    if is_row_eligible(&row) {
+        *eligible -= 1;
     }
 }
 
-/// Whether a row is Alive or Suspect.
-fn is_row_eligible(row: &Row) -> bool
-    ensures { result ≡ is_eligible row.now }
+/// Removes the row of a member, if there is one.
+fn remove_in(rows: &mut ArrayVec<Row, ROWS_MAX>, eligible: &mut usize, who: Endpoint)
+    requires order { AreInOrder rows.old.items }
+    requires counted { eligible.old ≡ length (filter is_eligible rows.old.items) }
+    ensures rows { rows.new.items ≡ remove_row rows.old.items who }
+    ensures counted { eligible.new ≡ length (filter is_eligible rows.new.items) }
+    ensures most { length rows.new.items ≤ 256 }
 {
-    row.update.kind != UpdateKind::Confirm
+    if let Ok(place) = find_row(rows, who) {
+        remove(rows, eligible, place);
+    }
 }
 
 /// The row at this place, or none past the end.
@@ -241,6 +294,7 @@ impl Table {
             suspect,
             forget,
             rows: ArrayVec::new(),
+            eligible: 0,
         }
     }
 
@@ -254,7 +308,7 @@ impl Table {
         ensures tops { (base : List Row) (told : List Told) → rows base told ≡ self.old.rows
             → rows base (told_with result told update now) ≡ self.new.rows }
     {
-        hear_in(&mut self.rows, update, now)
+        hear_in(&mut self.rows, &mut self.eligible, update, now)
     }
 
     /// Turns the first Suspect that is due at the tick `now`, in the order of the members, into a
@@ -269,7 +323,7 @@ impl Table {
         match first_due(&self.rows, UpdateKind::Suspect, self.suspect, now) {
             None => None,
             Some(row) => {
-                hear_in(&mut self.rows, confirm(&row), now);
+                hear_in(&mut self.rows, &mut self.eligible, confirm(&row), now);
                 Some(confirm(&row))
             }
         }
@@ -288,7 +342,7 @@ impl Table {
             None => None,
             Some(row) => {
                 let who = member_of(&row);
-                remove_in(&mut self.rows, who);
+                remove_in(&mut self.rows, &mut self.eligible, who);
                 Some(who)
             }
         }
@@ -336,10 +390,9 @@ impl Table {
         ensures count { result ≡ length (filter is_eligible self.now.rows) }
         ensures bound { result ≤ 256 }
     {
-        self.rows
-            .iter()
-            .filter(|row| row.update.kind != UpdateKind::Confirm)
-            .count()
+        // no more than there are rows
+        let _ = self.rows.len();
+        self.eligible
     }
 
     /// The row with this number, from 0, among those that are Alive or Suspect, in the order of the
