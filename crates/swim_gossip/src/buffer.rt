@@ -1,7 +1,7 @@
 //! The buffer.
 
 ghost use Rattle.std.specs.Prelude.{◌≡◌, ℕ, ◌+◌, ◌<◌, ◌≤◌, ◌==◌, List, [], ◌∷◌, ◌++◌, length, map, take, filter, not, All};
-ghost use Rattle.swim_gossip.specs.Queue.{without, offered, sent_times, in_turn, least_count, picked, is_about_any, raise, raised, raise_all, update_of, AreApart};
+ghost use Rattle.swim_gossip.specs.Queue.{without, offered, sent_times, in_turn, least_count, place, picked, is_about_any, raise, raised, raise_all, update_of, AreApart};
 
 use arrayvec::ArrayVec;
 use std::marker::Model;
@@ -45,17 +45,39 @@ impl Model for Buffer {
     ghost invariant = { λ b. AreApart b.queue.items };
 }
 
-/// Removes the updates about a member.
+/// Where the update about a member stands, or how many wait. It is looked for from both ends: what
+/// is told anew began to wait mostly long ago or just now.
+fn place_of(queue: &[Waiting], who: Endpoint) -> usize
+    requires { AreApart queue.now }
+    ensures { result ≡ place who queue.now }
+{
+    for i in 0..queue.len() {
+        if queue[i].update.who == who {
+            return i;
+        }
+        let back = queue.len() - 1 - i;
+        if queue[back].update.who == who {
+            return back;
+        }
+    }
+    queue.len()
+}
+
+/// Removes the update about a member, if there is one.
 fn remove_about(queue: &mut ArrayVec<Waiting, WAITING_MAX>, who: Endpoint)
+    requires { AreApart queue.old.items }
     ensures { queue.new.items ≡ without who queue.old.items }
 {
-    let gone = who.number();
-    queue.retain(|waiting| waiting.update.who.number() != gone);
+    let place = place_of(queue, who);
+    if place < queue.len() {
+        queue.remove(place);
+    }
 }
 
 /// Puts an update at the end, in the place of the one about the same member.
 fn offer_in(queue: &mut ArrayVec<Waiting, WAITING_MAX>, update: Update)
-    requires { length (without update.who queue.old.items) < 257 }
+    requires apart { AreApart queue.old.items }
+    requires room { length (without update.who queue.old.items) < 257 }
     ensures { queue.new.items ≡ offered queue.old.items update }
 {
     remove_about(queue, update.who);
@@ -93,19 +115,29 @@ fn next_count(queue: &[Waiting], from: u32, limit: u32) -> u32
     least
 }
 
-/// The first of those that were sent fewer than `limit` times. Only the counts that some update
-/// has are looked for, and none once there is no more room.
-fn pick_from(queue: &[Waiting], limit: u32, room: usize) -> ArrayVec<Update, UPDATES_MAX>
-    requires { room ≤ 30 }
-    ensures { result.items ≡ picked limit room queue.now }
+/// Puts the first of those that were sent fewer than `limit` times into an empty list, and gives a
+/// count below which all of them are. Only the counts that some update has are looked for, and none
+/// once there is no more room.
+fn pick_from(
+    queue: &[Waiting],
+    limit: u32,
+    room: usize,
+    updates: &mut ArrayVec<Update, UPDATES_MAX>,
+) -> u32
+    requires room { room ≤ 30 }
+    requires empty { updates.old.items ≡ [] }
+    ensures picked { updates.new.items ≡ picked limit room queue.now }
+    ensures below { picked limit room queue.now ≡ picked result room queue.now }
 {
-    let mut picked = ArrayVec::new();
     let mut count = next_count(queue, 0, limit);
-    while count < limit && picked.len() < room {
-        pick_count(queue, count, room, &mut picked);
-        count = next_count(queue, count + 1, limit);
+    while count < limit && updates.len() < room {
+        pick_count(queue, count, room, updates);
+        count += 1;
+        if updates.len() < room {
+            count = next_count(queue, count, limit);
+        }
     }
-    picked
+    count
 }
 
 /// Whether an update about this member is among them.
@@ -120,17 +152,12 @@ fn is_about(updates: &[Update], who: Endpoint) -> bool
     false
 }
 
-/// What waits, after one more send of these updates.
-fn raise_one(waiting: &Waiting, limit: u32, sent: &[Update]) -> Waiting
-    ensures { result ≡ raise limit sent.now waiting.now }
+/// Counts one more send, where it is one of these updates.
+fn raise_one(waiting: &mut Waiting, limit: u32, sent: &[Update])
+    ensures { waiting.new ≡ raise limit sent.now waiting.old }
 {
     if waiting.count < limit && is_about(sent, waiting.update.who) {
-        Waiting {
-            update: waiting.update,
-            count: waiting.count + 1,
-        }
-    } else {
-        *waiting
+        waiting.count += 1;
     }
 }
 
@@ -138,8 +165,11 @@ fn raise_one(waiting: &Waiting, limit: u32, sent: &[Update]) -> Waiting
 fn raise_counts(queue: &mut [Waiting], limit: u32, sent: &[Update])
     ensures { queue.new ≡ raised limit sent.now queue.old }
 {
+    if sent.is_empty() {
+        return;
+    }
     for waiting in queue.iter_mut() {
-        *waiting = raise_one(waiting, limit, sent);
+        raise_one(waiting, limit, sent);
     }
 }
 
@@ -149,12 +179,14 @@ fn pick_in(
     limit: u32,
     room: usize,
 ) -> ArrayVec<Update, UPDATES_MAX>
-    requires { room ≤ 30 }
+    requires room { room ≤ 30 }
+    requires apart { AreApart queue.old.items }
     ensures picked { result.items ≡ picked limit room queue.old.items }
-    ensures counted { queue.new.items ≡ raised limit (picked limit room queue.old.items) queue.old.items }
+    ensures counted { queue.new.items ≡ map (raise_all (picked limit room queue.old.items)) queue.old.items }
 {
-    let picked = pick_from(queue, limit, room);
-    raise_counts(queue, limit, &picked);
+    let mut picked = ArrayVec::new();
+    let below = pick_from(queue, limit, room, &mut picked);
+    raise_counts(queue, below, &picked);
     picked
 }
 

@@ -4,7 +4,7 @@ use Rattle.swim_gossip.proofs.buffer.pick_from.Given as goal
 
 -- those of lower counts
 abbrev pub invariant-loop-count : goal.invariant-loop-count
-invariant-loop-count l = record { picked : l.picked.items ≡ picked l.count l.room l.queue; within : l.count ≤ l.limit }
+invariant-loop-count l = record { picked : l.updates.items ≡ picked l.count l.room l.queue; within : l.count ≤ l.limit }
 
 -- the counts to come
 abbrev pub decreases-loop-count : goal.decreases-loop-count

@@ -1,0 +1,43 @@
+-- Where an update stands, and the list without it.
+use Rattle.std.proofs.Common.{◌≡◌, ℕ, ◌<◌, ◌≤◌, ◌==◌, Bool, true, false, not, cond, refl, sym, ◌∙◌, ap, List, [], ◌∷◌, length, suc, zero, get_or, arith}
+use Rattle.std.specs.List.{remove}
+use Rattle.std.proofs.lemmas.Bool.{false≢true, eqb-true, eq-eqb, ne_eqb, or_parts, or_right}
+use Rattle.swim_gossip.specs.declared.buffer.Waiting.{Waiting}
+use Rattle.swim_gossip.specs.Queue.{without, place, is_queued, AreApart}
+
+-- nothing is taken out where nothing is about x
+without-absent : (x : ℕ) (queue : List Waiting) → is_queued x queue ≡ false → without x queue ≡ queue
+without-absent x [] h = refl
+without-absent x (w ∷ queue) h =
+    let parts : ((w.update.who == x) ≡ false) × (is_queued x queue ≡ false) = or_parts (w.update.who == x) (is_queued x queue) h in
+    rw parts.0 (ap (λ rest. w ∷ rest) (without-absent x queue parts.1))
+
+-- the update about x is removed at its place
+pub remove-place : (x : ℕ) (queue : List Waiting) → AreApart queue → place x queue < length queue → remove queue (place x queue) ≡ without x queue
+remove-place x [] h k = absurd (omega arith)
+remove-place x (w ∷ queue) h k = at (w.update.who == x) refl k (λ l. remove-place x queue h.1 l)
+  where
+    at : (b : Bool) → (w.update.who == x) ≡ b → cond b 0 (suc (place x queue)) < length (w ∷ queue) → (place x queue < length queue → remove queue (place x queue) ≡ without x queue) → remove (w ∷ queue) (cond b 0 (suc (place x queue))) ≡ cond (not b) (w ∷ without x queue) (without x queue)
+    at true e k f = sym (without-absent x queue (ap (λ y. is_queued y queue) (sym (eqb-true w.update.who x e)) ∙ h.0))
+    at false e k f = ap (λ rest. w ∷ rest) (f (omega arith))
+
+pub without-place : (x : ℕ) (queue : List Waiting) → length queue ≤ place x queue → queue ≡ without x queue
+without-place x [] h = refl
+without-place x (w ∷ queue) h = at (w.update.who == x) h (λ l. without-place x queue l)
+  where
+    at : (b : Bool) → length (w ∷ queue) ≤ cond b 0 (suc (place x queue)) → (length queue ≤ place x queue → queue ≡ without x queue) → w ∷ queue ≡ cond (not b) (w ∷ without x queue) (without x queue)
+    at true k f = absurd (omega arith)
+    at false k f = ap (λ rest. w ∷ rest) (f (omega arith))
+
+queued-at : (x : ℕ) (queue : List Waiting) (i : ℕ) (d : Waiting) → i < length queue → (get_or queue i d).update.who ≡ x → is_queued x queue ≡ true
+queued-at x [] i d h k = absurd (omega arith)
+queued-at x (w ∷ queue) zero d h k = rw (eq-eqb w.update.who x k) refl
+queued-at x (w ∷ queue) (suc i) d h k = or_right (w.update.who == x) (is_queued x queue) (queued-at x queue i d (omega arith) k)
+
+-- of those that are apart one alone is about x
+pub place-at : (x : ℕ) (queue : List Waiting) (i : ℕ) (d : Waiting) → AreApart queue → i < length queue → (get_or queue i d).update.who ≡ x → i ≡ place x queue
+place-at x [] i d h l k = absurd (omega arith)
+place-at x (w ∷ queue) zero d h l k = rw (eq-eqb w.update.who x k) refl
+place-at x (w ∷ queue) (suc i) d h l k =
+    let other : (w.update.who == x) ≡ false = ne_eqb w.update.who x (λ e. false≢true (sym h.0 ∙ ap (λ y. is_queued y queue) e ∙ queued-at x queue i d (omega arith) k)) in
+    rw other (ap suc (place-at x queue i d h.1 (omega arith) k))
