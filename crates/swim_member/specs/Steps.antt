@@ -80,6 +80,10 @@ relay_place r (q ∷ relays) = if is_relay r q then 0 else suc (relay_place r re
 abbrev pub earlier : Update → Bool → Row → Update
 earlier own comes row = if comes && nat_lt own.who row.update.who then own else row.update
 
+-- an answer that has nothing to say
+abbrev pub no_answer : Answer
+no_answer = record { outs = record { items = [] }; notes = record { items = [] }; page = record { items = [] } }
+
 -- the answer of these moves
 abbrev pub answer_by : State → List Move → Answer
 answer_by s moves = record { outs = record { items = outs_by s moves }; notes = record { items = notes_by s moves }; page = record { items = page (news_from s moves) } }

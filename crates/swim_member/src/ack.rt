@@ -1,6 +1,6 @@
 //! Acks.
 
-ghost use Rattle.std.specs.Prelude.{◌≡◌, ◌≤◌, ◌&&◌, ◌==◌, length, Option, true};
+ghost use Rattle.std.specs.Prelude.{◌≡◌, ◌≤◌, ◌&&◌, ◌==◌, [], length, Option, true};
 ghost use Rattle.std.specs.List.{find, list_all};
 ghost use Rattle.swim_member.specs.Fit.{is_fit};
 ghost use Rattle.std.specs.Option.{option_to_list};
@@ -8,7 +8,7 @@ ghost use Rattle.swim_member.specs.Readings.{is_relay, without_relay};
 ghost use Rattle.swim_member.specs.Events.{on_ack, on_other_ack, is_for, is_answered, outs, notes};
 ghost use Rattle.swim_member.specs.Steps.{apply_all, relay_place};
 
-use crate::answer::Reaction;
+use crate::answer::{OUTS_MAX, Out};
 use crate::member::{Member, RELAYS_MAX};
 use crate::note::Note;
 use crate::state::{Probe, Relay};
@@ -77,40 +77,49 @@ fn remove_relay(relays: &mut ArrayVec<Relay, RELAYS_MAX>, relay: &Relay)
 impl Member {
     /// Takes an ack that does not answer the probe: one that answers a relay goes on to the member
     /// that asked.
-    fn on_other_ack(&mut self, ack: &Datagram) -> Reaction
+    fn on_other_ack(&mut self, ack: &Datagram, sent: &mut ArrayVec<Out, OUTS_MAX>) -> Option<Note>
+        requires { sent.old.items ≡ [] }
         ensures state { self.new ≡ apply_all (on_other_ack self.old ack.now) self.old }
-        ensures out { option_to_list result.out ≡ outs (on_other_ack self.old ack.now) }
-        ensures note { option_to_list result.note ≡ notes (on_other_ack self.old ack.now) }
-        ensures fit { list_all (is_fit self.new.settings.me self.new.number) (option_to_list result.out) ≡ true }
+        ensures sent { sent.new.items ≡ outs (on_other_ack self.old ack.now) }
+        ensures note { option_to_list result ≡ notes (on_other_ack self.old ack.now) }
+        ensures fit { list_all (is_fit self.new.settings.me self.new.number) sent.new.items ≡ true }
+        ensures few { length sent.new.items ≤ 1 }
     {
         match answered_relay(&self.relays, ack) {
-            None => Reaction::quiet(Some(Note::Unasked)),
+            None => Some(Note::Unasked),
             Some(relay) => {
                 remove_relay(&mut self.relays, &relay);
-                Reaction::sent(self.send(relay.asker, Kind::Ack, relay.asked, relay.target))
+                sent.push(self.send(relay.asker, Kind::Ack, relay.asked, relay.target));
+                None
             }
         }
     }
 
     /// Takes an ack.
-    pub(crate) fn on_ack(&mut self, ack: &Datagram) -> Reaction
+    pub(crate) fn on_ack(
+        &mut self,
+        ack: &Datagram,
+        sent: &mut ArrayVec<Out, OUTS_MAX>,
+    ) -> Option<Note>
+        requires { sent.old.items ≡ [] }
         ensures state { self.new ≡ apply_all (on_ack self.old ack.now self.old.probe) self.old }
-        ensures out { option_to_list result.out ≡ outs (on_ack self.old ack.now self.old.probe) }
-        ensures note { option_to_list result.note ≡ notes (on_ack self.old ack.now self.old.probe) }
-        ensures fit { list_all (is_fit self.new.settings.me self.new.number) (option_to_list result.out) ≡ true }
+        ensures sent { sent.new.items ≡ outs (on_ack self.old ack.now self.old.probe) }
+        ensures note { option_to_list result ≡ notes (on_ack self.old ack.now self.old.probe) }
+        ensures fit { list_all (is_fit self.new.settings.me self.new.number) sent.new.items ≡ true }
+        ensures few { length sent.new.items ≤ 1 }
     {
         match self.probe {
-            None => self.on_other_ack(ack),
+            None => self.on_other_ack(ack, sent),
             Some(probe) => {
                 if !is_ack_for(ack, probe.seq, probe.target) {
-                    return self.on_other_ack(ack);
+                    return self.on_other_ack(ack, sent);
                 }
                 self.probe = Some(Probe {
                     target: probe.target,
                     seq: probe.seq,
                     answered: true,
                 });
-                Reaction::quiet(None)
+                None
             }
         }
     }

@@ -4,6 +4,7 @@ ghost use Rattle.std.specs.Prelude.{◌≡◌, ℕ, ◌<◌, [], ◌∷◌, ◌+
 ghost use Rattle.std.specs.List.{list_all};
 ghost use Rattle.std.specs.Option.{option_to_list};
 ghost use Rattle.swim_member.specs.Fit.{is_fit};
+ghost use Rattle.swim_member.specs.Steps.{no_answer};
 
 use crate::note::Note;
 use arrayvec::ArrayVec;
@@ -55,7 +56,7 @@ pub struct Answer {
 impl Answer {
     /// An answer that has nothing to say.
     pub(crate) fn nothing() -> Answer
-        ensures { result ≡ record { outs = record { items = [] }; notes = record { items = [] }; page = record { items = [] } } }
+        ensures { result ≡ no_answer }
     {
         Answer {
             outs: ArrayVec::new(),
@@ -64,49 +65,12 @@ impl Answer {
         }
     }
 
-    /// An answer that takes one note.
-    pub(crate) fn noted(note: Note) -> Answer
-        ensures { result ≡ record { outs = record { items = [] }; notes = record { items = note ∷ [] }; page = record { items = [] } } }
+    /// Takes a note, and says no more.
+    pub(crate) fn take_note(&mut self, note: Note)
+        requires { self.old ≡ no_answer }
+        ensures { self.new ≡ record { outs = record { items = [] }; notes = record { items = note ∷ [] }; page = record { items = [] } } }
     {
-        let mut answer = Answer::nothing();
-        answer.notes.push(note);
-        answer
-    }
-
-    /// What a reaction sends and notes.
-    pub(crate) fn of(reaction: Reaction) -> Answer
-        ensures { result ≡ record { outs = record { items = option_to_list reaction.out }; notes = record { items = option_to_list reaction.note }; page = record { items = [] } } }
-    {
-        let mut answer = Answer::nothing();
-        send_out(&mut answer.outs, reaction.out);
-        note_down(&mut answer.notes, reaction.note);
-        answer
-    }
-}
-
-/// What one part of a step sends and notes.
-#[derive(Drop)]
-pub(crate) struct Reaction {
-    pub(crate) out: Option<Out>,
-    pub(crate) note: Option<Note>,
-}
-
-impl Reaction {
-    /// Nothing is sent.
-    pub(crate) fn quiet(note: Option<Note>) -> Reaction
-        ensures { result ≡ record { out = None; note = note } }
-    {
-        Reaction { out: None, note }
-    }
-
-    /// One datagram is sent.
-    pub(crate) fn sent(out: Out) -> Reaction
-        ensures { result ≡ record { out = Some out; note = None } }
-    {
-        Reaction {
-            out: Some(out),
-            note: None,
-        }
+        self.notes.push(note);
     }
 }
 

@@ -1,13 +1,13 @@
 //! Joins, asked for and answered.
 
-ghost use Rattle.std.specs.Prelude.{◌≡◌, [], Some, true};
+ghost use Rattle.std.specs.Prelude.{◌≡◌, ◌≤◌, [], ◌∷◌, length, Some, true};
 ghost use Rattle.std.specs.List.{list_all};
 ghost use Rattle.swim_member.specs.Fit.{may_say, is_fit};
 ghost use Rattle.std.specs.Option.{option_to_list};
 ghost use Rattle.swim_member.specs.Events.{Join_peer, perform, join_to, own, own_kind, on_join, outs, notes};
-ghost use Rattle.swim_member.specs.Steps.{apply_all};
+ghost use Rattle.swim_member.specs.Steps.{apply_all, after, answer_by, no_answer};
 
-use crate::answer::{Out, Reaction};
+use crate::answer::{Answer, OUTS_MAX, Out, note_down};
 use crate::member::Member;
 use crate::note::Note;
 use crate::state::{Joining, Phase};
@@ -57,26 +57,47 @@ impl Member {
     }
 
     /// Joins by a member, from the first page on.
-    pub(crate) fn join(&mut self, peer: Endpoint) -> Reaction
+    fn join(&mut self, peer: Endpoint, sent: &mut ArrayVec<Out, OUTS_MAX>) -> Option<Note>
+        requires { sent.old.items ≡ [] }
         ensures state { self.new ≡ apply_all (perform self.old (Join_peer peer)) self.old }
-        ensures out { option_to_list result.out ≡ outs (perform self.old (Join_peer peer)) }
-        ensures note { option_to_list result.note ≡ notes (perform self.old (Join_peer peer)) }
-        ensures fit { list_all (is_fit self.new.settings.me self.new.number) (option_to_list result.out) ≡ true }
+        ensures sent { sent.new.items ≡ outs (perform self.old (Join_peer peer)) }
+        ensures note { option_to_list result ≡ notes (perform self.old (Join_peer peer)) }
+        ensures fit { list_all (is_fit self.new.settings.me self.new.number) sent.new.items ≡ true }
+        ensures few { length sent.new.items ≤ 1 }
     {
         if peer == self.settings.me {
-            return Reaction::quiet(Some(Note::Misdirected));
+            return Some(Note::Misdirected);
         }
-        Reaction::sent(self.join_to(peer, Cursor::zero()))
+        sent.push(self.join_to(peer, Cursor::zero()));
+        None
+    }
+
+    /// Takes the wish to join by a member.
+    pub(crate) fn on_wish_to_join(&mut self, peer: Endpoint, answer: &mut Answer)
+        requires { answer.old ≡ no_answer }
+        ensures state { self.new ≡ after self.old (Join_peer peer ∷ []) }
+        ensures answer { answer.new ≡ answer_by self.old (Join_peer peer ∷ []) }
+        ensures fit { list_all (is_fit self.new.settings.me self.new.number) answer.new.outs.items ≡ true }
+        ensures few { length answer.new.outs.items ≤ 1 }
+    {
+        let noted = self.join(peer, &mut answer.outs);
+        note_down(&mut answer.notes, noted);
     }
 
     /// Answers a join with the page that it asks for.
-    pub(crate) fn on_join(&self, join: &Datagram) -> Reaction
-        ensures out { option_to_list result.out ≡ outs (on_join self.now join.now) }
-        ensures note { option_to_list result.note ≡ notes (on_join self.now join.now) }
-        ensures fit { list_all (is_fit self.now.settings.me self.now.number) (option_to_list result.out) ≡ true }
+    pub(crate) fn on_join(
+        &self,
+        join: &Datagram,
+        sent: &mut ArrayVec<Out, OUTS_MAX>,
+    ) -> Option<Note>
+        requires { sent.old.items ≡ [] }
+        ensures sent { sent.new.items ≡ outs (on_join self.now join.now) }
+        ensures note { option_to_list result ≡ notes (on_join self.now join.now) }
+        ensures fit { list_all (is_fit self.now.settings.me self.now.number) sent.new.items ≡ true }
+        ensures few { length sent.new.items ≤ 1 }
     {
         let updates = self.page_after(join.subject);
-        Reaction::sent(Out {
+        sent.push(Out {
             to: join.sender,
             datagram: Datagram {
                 kind: Kind::Page,
@@ -86,6 +107,7 @@ impl Member {
                 subject: join.subject,
                 updates,
             },
-        })
+        });
+        None
     }
 }

@@ -5,7 +5,7 @@ ghost use Rattle.std.specs.List.{list_all};
 ghost use Rattle.swim_member.specs.Fit.{is_fit};
 ghost use Rattle.std.specs.Option.{option_to_list};
 ghost use Rattle.swim_member.specs.Events.{Depart, Bye, each_from, perform, outs};
-ghost use Rattle.swim_member.specs.Steps.{apply_all, after, outs_by, answer_by};
+ghost use Rattle.swim_member.specs.Steps.{apply_all, after, outs_by, answer_by, no_answer};
 
 use crate::answer::{Answer, OUTS_MAX, Out, send_out};
 use crate::member::Member;
@@ -62,15 +62,14 @@ impl Member {
     }
 
     /// Leaves the group.
-    pub(crate) fn leave(&mut self) -> Answer
+    pub(crate) fn leave(&mut self, answer: &mut Answer)
+        requires { answer.old ≡ no_answer }
         ensures state { self.new ≡ after self.old (Depart ∷ each_from 0 9 (λ k. Bye k)) }
-        ensures answer { result ≡ answer_by self.old (Depart ∷ each_from 0 9 (λ k. Bye k)) }
-        ensures fit { list_all (is_fit self.new.settings.me self.new.number) result.outs.items ≡ true }
-        ensures few { length result.outs.items ≤ self.old.settings.helpers + 2 }
+        ensures answer { answer.new ≡ answer_by self.old (Depart ∷ each_from 0 9 (λ k. Bye k)) }
+        ensures fit { list_all (is_fit self.new.settings.me self.new.number) answer.new.outs.items ≡ true }
+        ensures few { length answer.new.outs.items ≤ self.old.settings.helpers + 2 }
     {
-        let mut answer = Answer::nothing();
         self.depart();
         self.say_bye(&mut answer.outs);
-        answer
     }
 }

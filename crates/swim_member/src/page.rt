@@ -1,6 +1,6 @@
 //! Pages of what a member knows.
 
-ghost use Rattle.std.specs.Prelude.{◌≡◌, take, true};
+ghost use Rattle.std.specs.Prelude.{◌≡◌, ◌≤◌, [], length, take, true};
 ghost use Rattle.std.specs.List.{find, filter, list_all};
 ghost use Rattle.swim_member.specs.Fit.{may_say, is_fit};
 ghost use Rattle.std.specs.Option.{option_to_list};
@@ -8,7 +8,7 @@ ghost use Rattle.swim_rules.specs.Rows.{AreInOrder, LacksRow};
 ghost use Rattle.swim_member.specs.Events.{updates_with, page_after, is_update_after, last_name, on_page, outs, notes};
 ghost use Rattle.swim_member.specs.Steps.{apply_all, earlier};
 
-use crate::answer::Reaction;
+use crate::answer::{OUTS_MAX, Out};
 use crate::member::Member;
 use crate::note::Note;
 use arrayvec::ArrayVec;
@@ -89,27 +89,34 @@ impl Member {
     }
 
     /// Takes a page. A full one that answers the last join leads to the next join.
-    pub(crate) fn on_page(&mut self, page: &Datagram) -> Reaction
+    pub(crate) fn on_page(
+        &mut self,
+        page: &Datagram,
+        sent: &mut ArrayVec<Out, OUTS_MAX>,
+    ) -> Option<Note>
+        requires { sent.old.items ≡ [] }
         ensures state { self.new ≡ apply_all (on_page self.old page.now self.old.joining) self.old }
-        ensures out { option_to_list result.out ≡ outs (on_page self.old page.now self.old.joining) }
-        ensures note { option_to_list result.note ≡ notes (on_page self.old page.now self.old.joining) }
-        ensures fit { list_all (is_fit self.new.settings.me self.new.number) (option_to_list result.out) ≡ true }
+        ensures sent { sent.new.items ≡ outs (on_page self.old page.now self.old.joining) }
+        ensures note { option_to_list result ≡ notes (on_page self.old page.now self.old.joining) }
+        ensures fit { list_all (is_fit self.new.settings.me self.new.number) sent.new.items ≡ true }
+        ensures few { length sent.new.items ≤ 1 }
     {
         match self.joining {
-            None => Reaction::quiet(Some(Note::Unasked)),
+            None => Some(Note::Unasked),
             Some(joining) => {
                 if page.sender != joining.peer
                     || page.seq != joining.seq
                     || page.subject != joining.cursor
                 {
-                    return Reaction::quiet(Some(Note::Unasked));
+                    return Some(Note::Unasked);
                 }
                 let last = last_of(&page.updates);
                 if page.updates.is_full() && joining.cursor.number() < last.number() {
-                    return Reaction::sent(self.join_to(joining.peer, last));
+                    sent.push(self.join_to(joining.peer, last));
+                    return None;
                 }
                 self.joining = None;
-                Reaction::quiet(None)
+                None
             }
         }
     }

@@ -1,6 +1,6 @@
 //! Requests to ping another member.
 
-ghost use Rattle.std.specs.Prelude.{◌≡◌, ◌≢◌, ◌<◌, ◌==◌, length, true};
+ghost use Rattle.std.specs.Prelude.{◌≡◌, ◌≢◌, ◌<◌, ◌≤◌, ◌==◌, [], length, true};
 ghost use Rattle.std.specs.List.{filter, list_any, list_all};
 ghost use Rattle.swim_member.specs.Fit.{is_fit};
 ghost use Rattle.std.specs.Option.{option_to_list};
@@ -8,10 +8,11 @@ ghost use Rattle.swim_rules.specs.Rows.{is_eligible};
 ghost use Rattle.swim_member.specs.Events.{name, on_ping_req, is_eligible_name, relayed, outs, notes};
 ghost use Rattle.swim_member.specs.Steps.{apply_all};
 
-use crate::answer::Reaction;
+use crate::answer::{OUTS_MAX, Out};
 use crate::member::Member;
 use crate::note::Note;
 use crate::state::Relay;
+use arrayvec::ArrayVec;
 use swim_rules::Table;
 use swim_wire::{Datagram, Endpoint, Kind, UpdateKind};
 
@@ -34,13 +35,20 @@ impl Member {
     }
 
     /// Pings a member for the one that asked, and remembers who asked.
-    fn relay(&mut self, request: &Datagram, target: Endpoint) -> Reaction
+    fn relay(
+        &mut self,
+        request: &Datagram,
+        target: Endpoint,
+        sent: &mut ArrayVec<Out, OUTS_MAX>,
+    ) -> Option<Note>
         requires subject { target ≡ request.now.subject }
         requires room { length self.old.relays < 16 }
+        requires empty { sent.old.items ≡ [] }
         ensures state { self.new ≡ apply_all (relayed self.old request.now) self.old }
-        ensures out { option_to_list result.out ≡ outs (relayed self.old request.now) }
-        ensures note { option_to_list result.note ≡ notes (relayed self.old request.now) }
-        ensures fit { list_all (is_fit self.new.settings.me self.new.number) (option_to_list result.out) ≡ true }
+        ensures sent { sent.new.items ≡ outs (relayed self.old request.now) }
+        ensures note { option_to_list result ≡ notes (relayed self.old request.now) }
+        ensures fit { list_all (is_fit self.new.settings.me self.new.number) sent.new.items ≡ true }
+        ensures few { length sent.new.items ≤ 1 }
     {
         let seq = self.take_seq();
         self.relays.push(Relay {
@@ -50,30 +58,38 @@ impl Member {
             asked: request.seq,
             made: self.time,
         });
-        Reaction::sent(self.send(target, Kind::Ping, seq, target))
+        sent.push(self.send(target, Kind::Ping, seq, target));
+        None
     }
 
     /// Answers a ping-req: for this member by an ack, for another one by a ping to it.
-    pub(crate) fn on_ping_req(&mut self, request: &Datagram) -> Reaction
-        requires { request.now.subject ≢ 0 }
+    pub(crate) fn on_ping_req(
+        &mut self,
+        request: &Datagram,
+        sent: &mut ArrayVec<Out, OUTS_MAX>,
+    ) -> Option<Note>
+        requires empty { sent.old.items ≡ [] }
+        requires subject { request.now.subject ≢ 0 }
         ensures state { self.new ≡ apply_all (on_ping_req self.old request.now) self.old }
-        ensures out { option_to_list result.out ≡ outs (on_ping_req self.old request.now) }
-        ensures note { option_to_list result.note ≡ notes (on_ping_req self.old request.now) }
-        ensures fit { list_all (is_fit self.new.settings.me self.new.number) (option_to_list result.out) ≡ true }
+        ensures sent { sent.new.items ≡ outs (on_ping_req self.old request.now) }
+        ensures note { option_to_list result ≡ notes (on_ping_req self.old request.now) }
+        ensures fit { list_all (is_fit self.new.settings.me self.new.number) sent.new.items ≡ true }
+        ensures few { length sent.new.items ≤ 1 }
     {
         let me = self.settings.me;
         let Some(target) = request.subject.endpoint() else {
             unreachable!()
         };
         if target == me {
-            return Reaction::sent(self.send(request.sender, Kind::Ack, request.seq, me));
+            sent.push(self.send(request.sender, Kind::Ack, request.seq, me));
+            return None;
         }
         if !self.is_eligible(target) {
-            return Reaction::quiet(Some(Note::UnknownTarget));
+            return Some(Note::UnknownTarget);
         }
         if self.relays.is_full() {
-            return Reaction::quiet(Some(Note::RelaysFull));
+            return Some(Note::RelaysFull);
         }
-        self.relay(request, target)
+        self.relay(request, target, sent)
     }
 }

@@ -6,55 +6,56 @@ ghost use Rattle.swim_member.specs.Fit.{is_fit};
 ghost use Rattle.std.specs.Option.{option_to_list};
 ghost use Rattle.swim_wire.specs.Codes.{MayHaveZero};
 ghost use Rattle.swim_member.specs.Events.{Reply, perform, datagram_moves, moves_of_datagram, refused, outs, notes};
-ghost use Rattle.swim_member.specs.Steps.{apply_all, after, notes_by, outs_by, answer_by};
+ghost use Rattle.swim_member.specs.Steps.{apply_all, after, notes_by, outs_by, answer_by, no_answer};
 ghost use Rattle.swim_wire.specs.Decoding.{reading};
 
-use crate::answer::{Answer, Reaction, note_down, send_out};
+use crate::answer::{Answer, OUTS_MAX, Out, note_down};
 use crate::member::Member;
 use crate::note::Note;
 use crate::state::Phase;
+use arrayvec::ArrayVec;
 use swim_wire::{Datagram, Endpoint, Kind, decode};
 
 impl Member {
     /// Does what the kind of a datagram asks for, unless the member was expelled by its updates.
-    fn reply(&mut self, datagram: &Datagram) -> Reaction
-        requires { datagram.now.subject ≡ 0 → MayHaveZero datagram.now.kind }
+    fn reply(&mut self, datagram: &Datagram, sent: &mut ArrayVec<Out, OUTS_MAX>) -> Option<Note>
+        requires subject { datagram.now.subject ≡ 0 → MayHaveZero datagram.now.kind }
+        requires empty { sent.old.items ≡ [] }
         ensures state { self.new ≡ apply_all (perform self.old (Reply datagram.now)) self.old }
-        ensures out { option_to_list result.out ≡ outs (perform self.old (Reply datagram.now)) }
-        ensures note { option_to_list result.note ≡ notes (perform self.old (Reply datagram.now)) }
-        ensures fit { list_all (is_fit self.new.settings.me self.new.number) (option_to_list result.out) ≡ true }
+        ensures sent { sent.new.items ≡ outs (perform self.old (Reply datagram.now)) }
+        ensures note { option_to_list result ≡ notes (perform self.old (Reply datagram.now)) }
+        ensures fit { list_all (is_fit self.new.settings.me self.new.number) sent.new.items ≡ true }
+        ensures few { length sent.new.items ≤ 1 }
     {
         if self.phase != Phase::Running {
-            return Reaction::quiet(None);
+            return None;
         }
         match datagram.kind {
-            Kind::Ping => self.on_ping(datagram),
-            Kind::PingReq => self.on_ping_req(datagram),
-            Kind::Ack => self.on_ack(datagram),
-            Kind::Join => self.on_join(datagram),
-            Kind::Page => self.on_page(datagram),
+            Kind::Ping => self.on_ping(datagram, sent),
+            Kind::PingReq => self.on_ping_req(datagram, sent),
+            Kind::Ack => self.on_ack(datagram, sent),
+            Kind::Join => self.on_join(datagram, sent),
+            Kind::Page => self.on_page(datagram, sent),
         }
     }
 
     /// Takes a datagram that is accepted: hears its updates, settles the own number, and does what
     /// its kind asks for.
-    fn receive(&mut self, datagram: &Datagram, granted: u64) -> Answer
+    fn receive(&mut self, datagram: &Datagram, granted: u64, answer: &mut Answer)
         requires subject { datagram.now.subject ≡ 0 → MayHaveZero datagram.now.kind }
         requires numbers { All (λ u. u.number ≤ 2 ^ 62) datagram.now.updates.items }
+        requires nothing { answer.old ≡ no_answer }
         ensures state { self.new ≡ after self.old (datagram_moves datagram.now granted) }
-        ensures outs { result.outs.items ≡ outs_by self.old (datagram_moves datagram.now granted) }
-        ensures notes { result.notes.items ≡ notes_by self.old (datagram_moves datagram.now granted) }
-        ensures page { result.page.items ≡ [] }
-        ensures fit { list_all (is_fit self.new.settings.me self.new.number) result.outs.items ≡ true }
-        ensures few { length result.outs.items ≤ 1 }
+        ensures outs { answer.new.outs.items ≡ outs_by self.old (datagram_moves datagram.now granted) }
+        ensures notes { answer.new.notes.items ≡ notes_by self.old (datagram_moves datagram.now granted) }
+        ensures page { answer.new.page.items ≡ [] }
+        ensures fit { list_all (is_fit self.new.settings.me self.new.number) answer.new.outs.items ≡ true }
+        ensures few { length answer.new.outs.items ≤ 1 }
     {
-        let mut answer = Answer::nothing();
         self.hear_all(&datagram.updates, &mut answer.notes);
         note_down(&mut answer.notes, self.settle(&datagram.updates, granted));
-        let reaction = self.reply(datagram);
-        note_down(&mut answer.notes, reaction.note);
-        send_out(&mut answer.outs, reaction.out);
-        answer
+        let replied = self.reply(datagram, &mut answer.outs);
+        note_down(&mut answer.notes, replied);
     }
 
     /// Why a datagram that came from here is not accepted, if it is not.
@@ -73,17 +74,24 @@ impl Member {
     }
 
     /// Takes a received datagram, if it is accepted.
-    pub(crate) fn on_datagram(&mut self, from: Endpoint, bytes: &[u8], granted: u64) -> Answer
+    pub(crate) fn on_datagram(
+        &mut self,
+        from: Endpoint,
+        bytes: &[u8],
+        granted: u64,
+        answer: &mut Answer,
+    )
+        requires { answer.old ≡ no_answer }
         ensures state { self.new ≡ after self.old (moves_of_datagram self.old from bytes.now granted) }
-        ensures answer { result ≡ answer_by self.old (moves_of_datagram self.old from bytes.now granted) }
-        ensures fit { list_all (is_fit self.new.settings.me self.new.number) result.outs.items ≡ true }
-        ensures few { length result.outs.items ≤ self.old.settings.helpers + 2 }
+        ensures answer { answer.new ≡ answer_by self.old (moves_of_datagram self.old from bytes.now granted) }
+        ensures fit { list_all (is_fit self.new.settings.me self.new.number) answer.new.outs.items ≡ true }
+        ensures few { length answer.new.outs.items ≤ self.old.settings.helpers + 2 }
     {
         match decode(bytes) {
-            Err(fault) => Answer::noted(Note::BadDatagram(fault)),
+            Err(fault) => answer.take_note(Note::BadDatagram(fault)),
             Ok(datagram) => match self.refuse(from, &datagram) {
-                Some(note) => Answer::noted(note),
-                None => self.receive(&datagram, granted),
+                Some(note) => answer.take_note(note),
+                None => self.receive(&datagram, granted, answer),
             },
         }
     }

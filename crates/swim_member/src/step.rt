@@ -6,69 +6,68 @@ ghost use Rattle.swim_wire.specs.Spelling.{HasText};
 ghost use Rattle.swim_member.specs.State.{State};
 ghost use Rattle.swim_member.specs.Events.{Step, state_of, answer, number_after, wanted, moves, running_moves, stopped_moves, Show};
 ghost use Rattle.swim_member.specs.Fit.{is_fit, AreAll, own_numbers_in};
-ghost use Rattle.swim_member.specs.Steps.{after, answer_by};
+ghost use Rattle.swim_member.specs.Steps.{after, answer_by, no_answer};
 
 use crate::answer::Answer;
 use crate::event::Event;
 use crate::member::Member;
 use crate::note::Note;
 use crate::state::Phase;
-use arrayvec::ArrayVec;
 use swim_wire::Cursor;
 
 impl Member {
     /// Shows the members after a cursor.
-    fn show(&self, cursor: Cursor) -> Answer
-        ensures { result ≡ answer_by self.now (Show cursor ∷ []) }
+    fn show(&self, cursor: Cursor, answer: &mut Answer)
+        requires { answer.old ≡ no_answer }
+        ensures { answer.new ≡ answer_by self.now (Show cursor ∷ []) }
     {
-        Answer {
-            outs: ArrayVec::new(),
-            notes: ArrayVec::new(),
-            page: self.page_after(cursor),
-        }
+        answer.page = self.page_after(cursor);
     }
 
     /// Takes an event while running.
-    fn act_running(&mut self, event: &Event, granted: u64) -> Answer
+    fn act_running(&mut self, event: &Event, granted: u64, answer: &mut Answer)
+        requires { answer.old ≡ no_answer }
         ensures state { self.new ≡ after self.old (running_moves self.old event.now granted) }
-        ensures answer { result ≡ answer_by self.old (running_moves self.old event.now granted) }
-        ensures fit { list_all (is_fit self.new.settings.me self.new.number) result.outs.items ≡ true }
-        ensures few { length result.outs.items ≤ self.old.settings.helpers + 2 }
+        ensures answer { answer.new ≡ answer_by self.old (running_moves self.old event.now granted) }
+        ensures fit { list_all (is_fit self.new.settings.me self.new.number) answer.new.outs.items ≡ true }
+        ensures few { length answer.new.outs.items ≤ self.old.settings.helpers + 2 }
     {
         match event {
-            Event::Tick { word } => self.on_tick(*word),
-            Event::Datagram { from, bytes } => self.on_datagram(*from, bytes, granted),
-            Event::ReceiveFailed => Answer::noted(Note::ReceiveFailed),
-            Event::SendFailed { count } => Answer::noted(Note::SendFailed(*count)),
-            Event::Join { peer } => Answer::of(self.join(*peer)),
-            Event::Leave => self.leave(),
-            Event::Members { after } => self.show(*after),
+            Event::Tick { word } => self.on_tick(*word, answer),
+            Event::Datagram { from, bytes } => self.on_datagram(*from, bytes, granted, answer),
+            Event::ReceiveFailed => answer.take_note(Note::ReceiveFailed),
+            Event::SendFailed { count } => answer.take_note(Note::SendFailed(*count)),
+            Event::Join { peer } => self.on_wish_to_join(*peer, answer),
+            Event::Leave => self.leave(answer),
+            Event::Members { after } => self.show(*after, answer),
         }
     }
 
     /// Takes an event after running: shows members, and nothing else.
-    fn act_stopped(&self, event: &Event) -> Answer
-        ensures answer { result ≡ answer_by self.now (stopped_moves event.now) }
-        ensures fit { list_all (is_fit self.now.settings.me self.now.number) result.outs.items ≡ true }
-        ensures few { length result.outs.items ≤ self.now.settings.helpers + 2 }
+    fn act_stopped(&self, event: &Event, answer: &mut Answer)
+        requires { answer.old ≡ no_answer }
+        ensures answer { answer.new ≡ answer_by self.now (stopped_moves event.now) }
+        ensures fit { list_all (is_fit self.now.settings.me self.now.number) answer.new.outs.items ≡ true }
+        ensures few { length answer.new.outs.items ≤ self.now.settings.helpers + 2 }
     {
         match event {
-            Event::Members { after } => self.show(*after),
-            _ => Answer::noted(Note::Stopped),
+            Event::Members { after } => self.show(*after, answer),
+            _ => answer.take_note(Note::Stopped),
         }
     }
 
     /// Takes an event.
-    fn act(&mut self, event: &Event, granted: u64) -> Answer
+    fn act(&mut self, event: &Event, granted: u64, answer: &mut Answer)
+        requires { answer.old ≡ no_answer }
         ensures state { self.new ≡ after self.old (moves self.old event.now granted) }
-        ensures answer { result ≡ answer_by self.old (moves self.old event.now granted) }
-        ensures fit { list_all (is_fit self.new.settings.me self.new.number) result.outs.items ≡ true }
-        ensures few { length result.outs.items ≤ self.old.settings.helpers + 2 }
+        ensures answer { answer.new ≡ answer_by self.old (moves self.old event.now granted) }
+        ensures fit { list_all (is_fit self.new.settings.me self.new.number) answer.new.outs.items ≡ true }
+        ensures few { length answer.new.outs.items ≤ self.old.settings.helpers + 2 }
     {
         if self.phase == Phase::Running {
-            self.act_running(event, granted)
+            self.act_running(event, granted, answer);
         } else {
-            self.act_stopped(event)
+            self.act_stopped(event, answer);
         }
     }
 
@@ -90,7 +89,8 @@ impl Member {
         // a history may begin anew from the new state
         ensures base { state_of self.new [] ≡ self.new }
     {
-        let answer = self.act(event, granted);
+        let mut answer = Answer::nothing();
+        self.act(event, granted, &mut answer);
         // the type's invariant holds of the new state
         let _ = &self.settings;
         answer

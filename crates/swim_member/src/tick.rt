@@ -6,7 +6,7 @@ ghost use Rattle.swim_member.specs.Fit.{is_fit};
 ghost use Rattle.std.specs.Option.{option_to_list};
 ghost use Rattle.swim_rules.specs.Rows.{row_of};
 ghost use Rattle.swim_member.specs.Events.{Advance, Expire, Forget, Blame, Probe_next, moves_of_tick, tick_moves, perform, outs, notes, suspect_of, suspected, chosen, probe_of};
-ghost use Rattle.swim_member.specs.Steps.{apply_all, after, answer_by};
+ghost use Rattle.swim_member.specs.Steps.{apply_all, after, answer_by, no_answer};
 
 use crate::answer::{Answer, Out, note_down, send_out};
 use crate::member::Member;
@@ -178,34 +178,36 @@ impl Member {
             Some(row) => Some(self.begin_probe(member_of(&row))),
         }
     }
+
     /// A tick that counts: time goes on, rows change by it, and a probe ends, is asked about or begins.
-    fn tick(&mut self, word: u32) -> Answer
-        requires { self.old.time < 2 ^ 62 }
+    fn tick(&mut self, word: u32, answer: &mut Answer)
+        requires time { self.old.time < 2 ^ 62 }
+        requires nothing { answer.old ≡ no_answer }
         ensures state { self.new ≡ after self.old (tick_moves word) }
-        ensures answer { result ≡ answer_by self.old (tick_moves word) }
-        ensures fit { list_all (is_fit self.new.settings.me self.new.number) result.outs.items ≡ true }
-        ensures few { length result.outs.items ≤ self.old.settings.helpers + 2 }
+        ensures answer { answer.new ≡ answer_by self.old (tick_moves word) }
+        ensures fit { list_all (is_fit self.new.settings.me self.new.number) answer.new.outs.items ≡ true }
+        ensures few { length answer.new.outs.items ≤ self.old.settings.helpers + 2 }
     {
-        let mut answer = Answer::nothing();
         self.advance();
         self.expire_all();
         self.forget_all();
         note_down(&mut answer.notes, self.blame());
         send_out(&mut answer.outs, self.probe_next(word));
         self.ask_all(&mut answer.outs);
-        answer
     }
 
     /// Takes a tick, unless time is over.
-    pub(crate) fn on_tick(&mut self, word: u32) -> Answer
+    pub(crate) fn on_tick(&mut self, word: u32, answer: &mut Answer)
+        requires { answer.old ≡ no_answer }
         ensures state { self.new ≡ after self.old (moves_of_tick self.old word) }
-        ensures answer { result ≡ answer_by self.old (moves_of_tick self.old word) }
-        ensures fit { list_all (is_fit self.new.settings.me self.new.number) result.outs.items ≡ true }
-        ensures few { length result.outs.items ≤ self.old.settings.helpers + 2 }
+        ensures answer { answer.new ≡ answer_by self.old (moves_of_tick self.old word) }
+        ensures fit { list_all (is_fit self.new.settings.me self.new.number) answer.new.outs.items ≡ true }
+        ensures few { length answer.new.outs.items ≤ self.old.settings.helpers + 2 }
     {
         if self.time == LAST_TIME {
-            return Answer::noted(Note::TimeOver);
+            answer.take_note(Note::TimeOver);
+            return;
         }
-        self.tick(word)
+        self.tick(word, answer);
     }
 }

@@ -12,7 +12,7 @@ returns-clause-state c = c.say_bye.ensures.state ∙ ap (λ (s : State). after s
 
 pub returns-clause-answer : goal.returns-clause-answer
 returns-clause-answer c =
-    answer-parts (record { outs = c.say_bye.new.outs; notes = c.nothing-answer.result.notes; page = c.nothing-answer.result.page }) c.args.self.now (Depart ∷ each_from 0 9 (λ k. Bye k))
+    answer-parts (record { outs = c.say_bye.new.outs; notes = c.args.answer.now.notes; page = c.args.answer.now.page }) c.args.self.now (Depart ∷ each_from 0 9 (λ k. Bye k))
     (c.say_bye.ensures.outs ∙ ap (λ (s : State). outs_by s (each_from 0 9 (λ k. Bye k))) c.depart.ensures)
-    (ap (λ (a : Answer). a.notes.items) c.nothing-answer.ensures ∙ sym (notes-each (λ k. Bye k) notes-bye 9 0 c.depart.new.self) ∙ ap (λ (s : State). notes_by s (each_from 0 9 (λ k. Bye k))) c.depart.ensures)
-    (ap (λ (a : Answer). a.page.items) c.nothing-answer.ensures ∙ sym (page-left c.args.self.now 9))
+    (ap (λ (a : Answer). a.notes.items) c.requires ∙ sym (notes-each (λ k. Bye k) notes-bye 9 0 c.depart.new.self) ∙ ap (λ (s : State). notes_by s (each_from 0 9 (λ k. Bye k))) c.depart.ensures)
+    (ap (λ (a : Answer). a.page.items) c.requires ∙ sym (page-left c.args.self.now 9))

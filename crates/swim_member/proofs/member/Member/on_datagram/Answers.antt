@@ -15,6 +15,6 @@ returns-in-None-clause-answer c =
     let same : moves_of_datagram c.args.self.now c.args.from c.args.bytes.now c.args.granted ≡ datagram_moves c.in-Ok.datagram c.args.granted =
     ap (λ (r : Result Datagram WireFault). accepted_moves (refused c.args.self.now.settings c.args.from r) r c.args.granted) read
     ∙ ap (λ (o : Option Note). accepted_moves o (Ok c.in-Ok.datagram) c.args.granted) accepted in
-    answer-parts c.receive.result c.args.self.now (datagram_moves c.in-Ok.datagram c.args.granted) c.receive.ensures.outs c.receive.ensures.notes
+    answer-parts c.receive.new.answer c.args.self.now (datagram_moves c.in-Ok.datagram c.args.granted) c.receive.ensures.outs c.receive.ensures.notes
     (c.receive.ensures.page ∙ sym (page-received c.args.self.now c.in-Ok.datagram c.args.granted))
     ∙ ap (λ (ms : List Move). answer_by c.args.self.now ms) (sym same)

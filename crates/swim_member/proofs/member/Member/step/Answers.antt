@@ -13,26 +13,26 @@ pub returns-clause-state : goal.returns-clause-state
 returns-clause-state c base steps h =
     state_of-snoc base steps (record { event = c.args.event.now; granted = c.args.granted }) c.args.self.now h
     ∙ after-news c.args.self.now (moves c.args.self.now c.args.event.now c.args.granted)
-    ∙ sym c.act-answer.ensures.state
+    ∙ sym c.act.ensures.state
 
 pub returns-clause-answer : goal.returns-clause-answer
 returns-clause-answer c base steps h =
     answer-step base steps c.args.event.now c.args.granted c.args.self.now h
     ∙ answer-news c.args.self.now (moves c.args.self.now c.args.event.now c.args.granted)
-    ∙ sym c.act-answer.ensures.answer
+    ∙ sym c.act.ensures.answer
 
 pub returns-clause-fit : goal.returns-clause-fit
-returns-clause-fit c = fit-texts c.act-answer.new.self.settings.me c.act-answer.new.self.number c.act-answer.result.outs.items c.act-answer.ensures.fit
+returns-clause-fit c = fit-texts c.act.new.self.settings.me c.act.new.self.number c.act.new.answer.outs.items c.act.ensures.fit
 
 pub returns-clause-own : goal.returns-clause-own
-returns-clause-own c = fit-own c.act-answer.new.self.settings.me c.act-answer.new.self.number c.act-answer.result.outs.items c.act-answer.ensures.fit
+returns-clause-own c = fit-own c.act.new.self.settings.me c.act.new.self.number c.act.new.answer.outs.items c.act.ensures.fit
 
 pub returns-clause-number : goal.returns-clause-number
-returns-clause-number c = ap (λ (s : State). s.number) c.act-answer.ensures.state ∙ number-step c.args.self.now c.args.event.now c.args.granted
+returns-clause-number c = ap (λ (s : State). s.number) c.act.ensures.state ∙ number-step c.args.self.now c.args.event.now c.args.granted
 
 pub returns-clause-settings : goal.returns-clause-settings
 returns-clause-settings c =
-    ap (λ (s : State). s.settings) c.act-answer.ensures.state ∙ settings-after c.args.self.now (moves c.args.self.now c.args.event.now c.args.granted)
+    ap (λ (s : State). s.settings) c.act.ensures.state ∙ settings-after c.args.self.now (moves c.args.self.now c.args.event.now c.args.granted)
 
 pub returns-clause-base : goal.returns-clause-base
 returns-clause-base c =
