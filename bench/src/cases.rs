@@ -1,0 +1,128 @@
+//! What is measured.
+
+use crate::scene::{NUMBER, before, ping};
+use crate::{plain, proved};
+
+/// So many turns, whose bytes go to the slice, and a count that both sides must answer alike.
+pub type Turns = Box<dyn FnMut(u32, &mut [u8]) -> u64>;
+
+/// One line of the table.
+pub struct Case {
+    pub name: String,
+    /// The greatest ratio that is wanted, if one is.
+    pub bar: Option<f64>,
+    /// The turns before the timed ones, which let what waits be sent.
+    pub warm: u32,
+    /// The timed turns of one run.
+    pub turns: u32,
+    pub proved: Turns,
+    pub plain: Turns,
+}
+
+fn case<F, G>(name: &str, bar: Option<f64>, turns: u32, proved: F, plain: G) -> Case
+where
+    F: FnMut(u32, &mut [u8]) -> u64 + 'static,
+    G: FnMut(u32, &mut [u8]) -> u64 + 'static,
+{
+    Case {
+        name: name.to_string(),
+        bar,
+        warm: 0,
+        turns,
+        proved: Box::new(proved),
+        plain: Box::new(plain),
+    }
+}
+
+/// Enough turns for all 257 updates to be sent as often as they are.
+const SENT_OUT: u32 = 300;
+
+fn decoding(count: u32) -> Case {
+    let text = ping(0, count, NUMBER);
+    let same = text.clone();
+    case(
+        &format!("decode, {count} updates"),
+        Some(1.5),
+        20_000,
+        move |turns, _| proved::decode_turns(&text, turns),
+        move |turns, _| plain::work::decode_turns(&same, turns),
+    )
+}
+
+fn encoding(count: u32) -> Case {
+    let text = ping(0, count, NUMBER);
+    let same = text.clone();
+    case(
+        &format!("encode, {count} updates"),
+        Some(1.5),
+        20_000,
+        move |turns, out| proved::encode_turns(&text, turns, out),
+        move |turns, out| plain::work::encode_turns(&same, turns, out),
+    )
+}
+
+fn pinging(name: &str, bar: f64, count: u32, number: u64, turns: u32) -> Case {
+    let (texts, text) = (before(), ping(0, count, number));
+    let (same_texts, same) = (texts.clone(), text.clone());
+    let pings = case(
+        name,
+        Some(bar),
+        turns,
+        move |turns, out| proved::ping_turns(&texts, &text, turns, out),
+        move |turns, out| plain::work::ping_turns(&same_texts, &same, turns, out),
+    );
+    Case {
+        warm: SENT_OUT,
+        ..pings
+    }
+}
+
+fn newer_pinging() -> Case {
+    let (texts, mut text) = (before(), ping(0, 30, NUMBER));
+    let (same_texts, mut same) = (texts.clone(), text.clone());
+    case(
+        "ping with 30 accepted updates to a full ack",
+        Some(2.0),
+        200,
+        move |turns, out| proved::newer_ping_turns(&texts, &mut text, turns, out),
+        move |turns, out| plain::work::newer_ping_turns(&same_texts, &mut same, turns, out),
+    )
+}
+
+fn ticking(name: &str, period: u64, turns: u32) -> Case {
+    let texts = before();
+    let same = texts.clone();
+    case(
+        name,
+        None,
+        turns,
+        move |turns, out| proved::tick_turns(&texts, period, turns, out),
+        move |turns, out| plain::work::tick_turns(&same, period, turns, out),
+    )
+}
+
+fn hearing(name: &str, step: u32) -> Case {
+    let texts = before();
+    let same = texts.clone();
+    case(
+        name,
+        None,
+        50_000,
+        move |turns, out| proved::hear_turns(&texts, step, turns, out),
+        move |turns, out| plain::work::hear_turns(&same, step, turns, out),
+    )
+}
+
+/// All that run in this process.
+pub fn cases() -> Vec<Case> {
+    let mut cases: Vec<Case> = [0, 10, 30].map(decoding).into();
+    cases.extend([0, 10, 30].map(encoding));
+    cases.push(pinging("ping without updates to an ack", 1.5, 0, NUMBER, 3_000));
+    cases.push(pinging("ping with 30 kept updates", 2.0, 30, NUMBER, 2_000));
+    cases.push(newer_pinging());
+    cases.push(ticking("tick over 256 rows", 1000, 3_000));
+    cases.push(ticking("tick of a probe, 256 rows", 2, 500));
+    cases.push(hearing("one update heard by 256 rows, accepted", 1));
+    cases.push(hearing("one update heard by 256 rows, kept", 0));
+    cases
+}

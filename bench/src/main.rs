@@ -1,0 +1,66 @@
+//! The proved crates beside plain Rust of the same work: nanoseconds, ratios, allocations. `bench/run` builds and runs it,
+//! with the program that saves and a folder for the state files as its words, and then a part of the cases' names, if any.
+
+mod allocations;
+mod cases;
+mod measure;
+mod plain;
+mod proved;
+mod save;
+mod scene;
+mod table;
+
+use std::env;
+use std::io;
+use std::path::Path;
+use std::process::ExitCode;
+
+/// How often each side runs a case, in turns with the other.
+const ROUNDS: u32 = 100;
+
+/// How often each side runs its saves.
+const SAVE_ROUNDS: u32 = 400;
+
+const SAVE: &str = "save of the state file";
+
+/// Measures the cases whose name has this part.
+fn run(program: &Path, folder: &Path, part: &str) -> io::Result<()> {
+    table::head();
+    for mut case in cases::cases() {
+        if case.name.contains(part) {
+            measure::check(&mut case);
+            let (proved, plain) = measure::measure(&mut case, ROUNDS);
+            table::row(
+                &case.name,
+                proved.nanos,
+                plain.nanos,
+                case.bar,
+                &table::counts(proved, plain),
+            );
+        }
+    }
+    if SAVE.contains(part) {
+        let (proved, plain) = save::measure(program, folder, SAVE_ROUNDS)?;
+        table::row(SAVE, proved, plain, Some(1.05), "");
+    }
+    Ok(())
+}
+
+fn main() -> ExitCode {
+    let words: Vec<String> = env::args().skip(1).collect();
+    let (program, folder, part) = match words.as_slice() {
+        [program, folder] => (program, folder, ""),
+        [program, folder, part] => (program, folder, part.as_str()),
+        _ => {
+            eprintln!("usage: bench SAVING-PROGRAM FOLDER [PART]");
+            return ExitCode::from(2);
+        }
+    };
+    match run(Path::new(program), Path::new(folder), part) {
+        Ok(()) => ExitCode::SUCCESS,
+        Err(error) => {
+            eprintln!("bench: {error}");
+            ExitCode::FAILURE
+        }
+    }
+}

@@ -1,0 +1,243 @@
+//! The part of a member that pings and ticks need: the own number, table, buffer, the probe, the acks.
+
+use super::buffer::Buffer;
+use super::table::{Heard, Row, Table};
+use super::wire::{
+    Datagram, Endpoint, Kind, NUMBER_MAX, Packet, Update, UpdateKind, WireFault, decode, encode,
+};
+
+const LEAP: u64 = 1 << 20;
+const HELPERS_MAX: usize = 8;
+
+/// What a member is told at its start.
+#[derive(Clone, Copy)]
+pub struct Settings {
+    pub group: u64,
+    pub me: Endpoint,
+    pub lambda: u32,
+    pub period: u64,
+    pub direct: u64,
+    pub suspect: u64,
+    pub forget: u64,
+    pub helpers: usize,
+}
+
+/// Why a datagram is not answered.
+#[derive(Clone, Copy, Debug, PartialEq, Eq)]
+pub enum Refusal {
+    BadDatagram(WireFault),
+    OtherGroup,
+    NotSender,
+    FromSelf,
+    Expelled,
+    Misdirected,
+    NotMeasured,
+}
+
+/// A ping that waits for its ack.
+struct Probe {
+    target: Endpoint,
+    seq: u32,
+}
+
+/// A member of a group, as far as the cases need it.
+pub struct Member {
+    settings: Settings,
+    number: u64,
+    time: u64,
+    seq: u32,
+    probe: Option<Probe>,
+    table: Table,
+    buffer: Buffer,
+}
+
+impl Member {
+    pub fn new(settings: Settings, number: u64) -> Member {
+        let mut buffer = Buffer::new();
+        buffer.offer(Update {
+            kind: UpdateKind::Alive,
+            who: settings.me,
+            number,
+        });
+        Member {
+            settings,
+            number,
+            time: 0,
+            seq: 1,
+            probe: None,
+            table: Table::new(),
+            buffer,
+        }
+    }
+
+    fn hear(&mut self, update: Update) {
+        if self.table.hear(update, self.time) == Heard::Accepted {
+            self.buffer.offer(update);
+        }
+    }
+
+    /// `lambda * bits(n)`, n being 1 plus the eligible rows.
+    fn limit(&self) -> u32 {
+        self.settings.lambda * (usize::BITS - (1 + self.table.eligible_count()).leading_zeros())
+    }
+
+    /// A ping, a ping-req or an ack, with what waits.
+    fn send(&mut self, kind: Kind, seq: u32, subject: Endpoint) -> Packet {
+        let updates = self.buffer.pick(self.limit());
+        let Settings { group, me, .. } = self.settings;
+        encode(&Datagram {
+            kind,
+            group,
+            seq,
+            sender: me,
+            subject,
+            updates,
+        })
+    }
+
+    fn refuse(&self, from: Endpoint, datagram: &Datagram) -> Result<(), Refusal> {
+        if datagram.group != self.settings.group {
+            return Err(Refusal::OtherGroup);
+        }
+        if datagram.sender != from {
+            return Err(Refusal::NotSender);
+        }
+        if datagram.sender == self.settings.me {
+            return Err(Refusal::FromSelf);
+        }
+        Ok(())
+    }
+
+    /// Hears the updates, and takes the number that they want where it is granted.
+    fn hear_all(&mut self, updates: &[Update], granted: u64) -> Result<(), Refusal> {
+        let (me, old) = (self.settings.me, self.number);
+        let mut wanted = None;
+        let mut expelled = false;
+        for update in updates {
+            if update.who != me {
+                self.hear(*update);
+            } else if update.kind == UpdateKind::Confirm {
+                expelled = true;
+            } else if update.kind == UpdateKind::Suspect
+                && update.number >= old
+                && update.number - old <= LEAP
+                && update.number < NUMBER_MAX
+            {
+                wanted = wanted.max(Some(update.number + 1));
+            }
+        }
+        if expelled {
+            return Err(Refusal::Expelled);
+        }
+        if let Some(number) = wanted.filter(|number| *number <= granted) {
+            self.number = number;
+            self.buffer.offer(Update {
+                kind: UpdateKind::Alive,
+                who: me,
+                number,
+            });
+        }
+        Ok(())
+    }
+
+    /// One received datagram: the ack to a ping, or why there is none.
+    pub fn receive(&mut self, from: Endpoint, bytes: &[u8], granted: u64) -> Result<Packet, Refusal> {
+        let datagram = decode(bytes).map_err(Refusal::BadDatagram)?;
+        self.refuse(from, &datagram)?;
+        self.hear_all(datagram.updates.as_slice(), granted)?;
+        if datagram.kind != Kind::Ping {
+            return Err(Refusal::NotMeasured);
+        }
+        let me = self.settings.me;
+        if datagram.subject != me {
+            return Err(Refusal::Misdirected);
+        }
+        Ok(self.send(Kind::Ack, datagram.seq, me))
+    }
+
+    /// Suspects and confirms in time, and forgets.
+    fn age(&mut self) {
+        let Settings { suspect, forget, .. } = self.settings;
+        self.table
+            .expire(suspect, self.time, |update| self.buffer.offer(update));
+        self.table
+            .forget(forget, self.time, |who| self.buffer.remove(who));
+    }
+
+    /// Suspects the target of a probe that was not answered.
+    fn blame(&mut self) {
+        let Some(probe) = &self.probe else { return };
+        let Some(row) = self.table.get(probe.target) else {
+            return;
+        };
+        if row.update.kind == UpdateKind::Alive {
+            self.hear(Update {
+                kind: UpdateKind::Suspect,
+                ..row.update
+            });
+        }
+    }
+
+    /// Pings the eligible member that the word chooses.
+    fn probe_next(&mut self, word: u32, sent: &mut impl FnMut(Endpoint, &Packet)) {
+        self.probe = None;
+        let count = self.table.eligible_count();
+        if count == 0 {
+            return;
+        }
+        let Some(row) = self.table.eligible(word as usize % count) else {
+            return;
+        };
+        let target = row.update.who;
+        let seq = self.seq;
+        self.seq = seq.wrapping_add(1);
+        self.probe = Some(Probe { target, seq });
+        sent(target, &self.send(Kind::Ping, seq, target));
+    }
+
+    /// The eligible members after the target, around the end of the rows, and how many there are.
+    fn helpers_about(&self, target: Endpoint) -> ([Endpoint; HELPERS_MAX], usize) {
+        let beside = |later: bool| {
+            let eligible = self.table.rows().iter().filter(|row| row.is_eligible());
+            eligible
+                .map(|row| row.update.who)
+                .filter(move |who| *who != target && (*who > target) == later)
+        };
+        let mut helpers = [Endpoint::default(); HELPERS_MAX];
+        let mut count = 0;
+        for who in beside(true).chain(beside(false)).take(self.settings.helpers) {
+            helpers[count] = who;
+            count += 1;
+        }
+        (helpers, count)
+    }
+
+    /// Asks others about the target of the probe.
+    fn ask_all(&mut self, sent: &mut impl FnMut(Endpoint, &Packet)) {
+        let Some(Probe { target, seq }) = self.probe else {
+            return;
+        };
+        if !self.table.get(target).is_some_and(Row::is_eligible) {
+            return;
+        }
+        let (helpers, count) = self.helpers_about(target);
+        for helper in &helpers[..count] {
+            sent(*helper, &self.send(Kind::PingReq, seq, target));
+        }
+    }
+
+    /// One tick, with what it sends.
+    pub fn tick(&mut self, word: u32, mut sent: impl FnMut(Endpoint, &Packet)) {
+        self.time += 1;
+        self.age();
+        let Settings { period, direct, .. } = self.settings;
+        let moment = self.time % period;
+        if moment == 0 {
+            self.blame();
+            self.probe_next(word, &mut sent);
+        }
+        if moment == direct {
+            self.ask_all(&mut sent);
+        }
+    }
+}

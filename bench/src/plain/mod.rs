@@ -1,0 +1,8 @@
+//! The same work in plain Rust, which the proved crates are measured against: std only, no allocation, sorted arrays with
+//! stored counts, straight loops. It has the parts of a member that the cases need, with the same rules.
+
+pub mod buffer;
+pub mod member;
+pub mod table;
+pub mod wire;
+pub mod work;

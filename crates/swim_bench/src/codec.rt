@@ -1,0 +1,64 @@
+//! Turns of the codec.
+
+ghost use Rattle.std.specs.Prelude.{◌≡◌, ◌≤◌, ◌<◌, length, take, IsOk, IsErr};
+ghost use Rattle.swim_wire.specs.Decoding.{reading};
+ghost use Rattle.swim_wire.specs.Spelling.{HasText, Spells};
+
+use swim_wire::{Datagram, decode, encode};
+
+/// Writes the datagram's text over the first bytes, and answers its length.
+pub(crate) fn write(datagram: &Datagram, out: &mut [u8]) -> usize
+    requires text { HasText datagram.now }
+    requires room { 512 ≤ length out.old }
+    ensures text { Spells (take result out.new) datagram.now }
+{
+    let bytes = encode(datagram);
+    let len = bytes.len();
+    out[..len].copy_from_slice(bytes.as_slice());
+    len
+}
+
+/// Decodes the text in each turn, and answers in how many it was a datagram.
+#[unsafe(no_mangle)]
+pub extern "C" fn swim_bench_decode(text: &[u8], turns: u32) -> u64
+    ensures good { IsOk (reading text.now) → result ≡ turns }
+    ensures bad { IsErr (reading text.now) → result ≡ 0 }
+{
+    let mut good = 0;
+    for _ in 0..turns {
+        if decode(text).is_ok() {
+            good += 1;
+        }
+    }
+    good
+}
+
+/// Decodes the text, encodes the datagram in each turn, and answers the length of what was written last.
+/// It is the text that was read.
+#[unsafe(no_mangle)]
+pub extern "C" fn swim_bench_encode(text: &[u8], turns: u32, out: &mut [u8]) -> usize
+    requires { 512 ≤ length out.old }
+    ensures same { 0 < result → take result out.new ≡ text.now }
+{
+    match decode(text) {
+        Err(_) => 0,
+        Ok(datagram) => {
+            if !datagram.has_text() {
+                return 0;
+            }
+            encode_turns(&datagram, turns, out)
+        }
+    }
+}
+
+fn encode_turns(datagram: &Datagram, turns: u32, out: &mut [u8]) -> usize
+    requires text { HasText datagram.now }
+    requires room { 512 ≤ length out.old }
+    ensures { 0 < result → Spells (take result out.new) datagram.now }
+{
+    let mut written = 0;
+    for _ in 0..turns {
+        written = write(datagram, out);
+    }
+    written
+}

@@ -1,0 +1,93 @@
+//! Turns of a member.
+
+ghost use Rattle.std.specs.Prelude.{◌≡◌, ◌≤◌, ◌<◌, ℕ, length, take, All};
+ghost use Rattle.swim_wire.specs.Spelling.{HasText, Spells};
+ghost use Rattle.swim_bench.specs.Texts.{BeginsWithText};
+
+use crate::codec::write;
+use crate::scene::{make_newer, member_after, received, word};
+use swim_member::{Event, Member, Out};
+
+/// Writes the datagrams over the first bytes, one after the other, and answers how many there are.
+fn write_all(outs: &[Out], out: &mut [u8]) -> usize
+    requires texts { All (λ o. HasText o.datagram) outs.now }
+    requires room { 512 ≤ length out.old }
+    ensures count { result ≡ length outs.now }
+    ensures text { 0 < result → BeginsWithText out.new }
+    ensures kept { result ≡ 0 → out.new ≡ out.old }
+{
+    for sent in outs {
+        write(&sent.datagram, out);
+    }
+    outs.len()
+}
+
+/// One step, in which no number is granted above the own one, and what it sends.
+fn turn_of(member: &mut Member, event: &Event, out: &mut [u8]) -> usize
+    requires { 512 ≤ length out.old }
+    ensures few { result ≤ 10 }
+    ensures text { 0 < result → BeginsWithText out.new }
+    ensures kept { result ≡ 0 → out.new ≡ out.old }
+{
+    let granted = member.number();
+    let answer = member.step(event, granted);
+    write_all(&answer.outs, out)
+}
+
+/// Answers the same ping in each turn, and answers how many datagrams were sent. The last one's text
+/// stands in `out`.
+#[unsafe(no_mangle)]
+pub extern "C" fn swim_bench_pings(before: &[u8], text: &[u8], turns: u32, out: &mut [u8]) -> u64
+    requires { 512 ≤ length out.old }
+    ensures text { 0 < result → BeginsWithText out.new }
+{
+    let Some(mut member) = member_after(before, 1000) else {
+        return 0;
+    };
+    let event = received(text);
+    let mut sent = 0;
+    for _ in 0..turns {
+        sent += turn_of(&mut member, &event, out) as u64;
+    }
+    sent
+}
+
+/// The same with pings whose updates are newer in each turn.
+#[unsafe(no_mangle)]
+pub extern "C" fn swim_bench_newer_pings(
+    before: &[u8],
+    text: &mut [u8],
+    turns: u32,
+    out: &mut [u8],
+) -> u64
+    requires ping { 512 ≤ length text.old }
+    requires room { 512 ≤ length out.old }
+    ensures text { 0 < result → BeginsWithText out.new }
+{
+    let Some(mut member) = member_after(before, 1000) else {
+        return 0;
+    };
+    let mut sent = 0;
+    for turn in 0..turns {
+        make_newer(text, turn);
+        sent += turn_of(&mut member, &received(text), out) as u64;
+    }
+    sent
+}
+
+/// The same with ticks, of which one in so many begins a probe.
+#[unsafe(no_mangle)]
+pub extern "C" fn swim_bench_ticks(before: &[u8], period: u64, turns: u32, out: &mut [u8]) -> u64
+    requires { 512 ≤ length out.old }
+    ensures text { 0 < result → BeginsWithText out.new }
+{
+    let Some(mut member) = member_after(before, period) else {
+        return 0;
+    };
+    let mut sent = 0;
+    for turn in 0..turns {
+        let event = Event::Tick { word: word(turn) };
+        sent += turn_of(&mut member, &event, out) as u64;
+    }
+    sent
+}
