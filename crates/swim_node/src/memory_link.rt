@@ -1,6 +1,6 @@
 //! A link in memory that fails by a plan.
 
-ghost use Rattle.std.specs.Prelude.{◌≡◌, ◌+◌, ◌++◌, ◌∷◌, []};
+ghost use Rattle.std.specs.Prelude.{◌≡◌, ◌+◌, ◌++◌, ◌∷◌, [], None, Some};
 
 use crate::{Link, LinkFault};
 use http_server::Log;
@@ -33,6 +33,7 @@ impl MemoryLink {
         ensures taken { result.taken.items ≡ [] }
         ensures failures { result.failures.items ≡ [] }
         ensures number { result.number ≡ number }
+        ensures plan { result.loses ≡ None }
     {
         MemoryLink {
             number,
@@ -51,7 +52,8 @@ impl MemoryLink {
 
     /// The k-th send from now on fails, and only that one. 0 counts as 1.
     pub fn lose(&mut self, k: u64)
-        ensures { (self.new.taken ≡ self.old.taken) × (self.new.failures ≡ self.old.failures) × (self.new.number ≡ self.old.number) }
+        ensures same { (self.new.taken ≡ self.old.taken) × (self.new.failures ≡ self.old.failures) × (self.new.number ≡ self.old.number) }
+        ensures plan { self.new.loses ≡ Some k }
     {
         self.loses = Some(k);
     }

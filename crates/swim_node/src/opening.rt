@@ -1,6 +1,7 @@
 //! Opening a node.
 
-ghost use Rattle.std.specs.Prelude.{◌≡◌, ◌≢◌, ◌↔◌, ◌⊎◌, ◌+◌, ◌<◌, ◌≤◌, ◌^◌, [], Some, ℕ, IfOk, IfErr};
+ghost use Rattle.std.specs.Prelude.{◌≡◌, ◌≢◌, ◌↔◌, ◌⊎◌, ◌+◌, ◌<◌, ◌≤◌, ◌^◌, [], None, Some, ℕ, IfOk, IfErr};
+ghost use Rattle.swim_disk.specs.Disk.{Rests};
 ghost use Rattle.swim_member.specs.Checks.{AreSound};
 ghost use Rattle.swim_state.specs.File.{floor};
 ghost use Rattle.swim_state.specs.Held.{Held, HeldSince, Through, Covers};
@@ -45,6 +46,10 @@ impl<D: Disk> Node<D> {
         ensures untouched { IfErr result (λ refused. (refused.1 ≡ OpenFault.Limit → refused.0 ≡ disk) × (refused.1 ≡ OpenFault.NoMemory → refused.0 ≡ disk)) }
         ensures device { IfErr result (λ refused. refused.1 ≡ OpenFault.Refused Device → (D.state disk).failures < (D.state refused.0).failures) }
         ensures fault { D.keeps_model → IfErr result (λ refused. (fault : Faults) → fault ≢ Device → refused.1 ≡ OpenFault.Refused fault → fault_of (owner_of settings) (D.state disk).content ≡ Some fault) }
+
+        // What shows a fault isn't opened, and isn't written.
+        ensures none { D.keeps_model → IfOk result (λ n. fault_of (owner_of settings) (D.state disk).content ≡ None) }
+        ensures rests { D.keeps_model → IfErr result (λ refused. refused.1 ≢ OpenFault.Refused Device → Rests (D.state disk) (D.state refused.0)) }
 
         // No moment of the call leaves less than what was held before it, and the first number is above that.
         ensures moments { D.keeps_model → (b : ℕ) → Held (owner_of settings) (D.state disk) b → Through (Covers (owner_of settings) b) (D.state disk) (D.state (disk_of result)) }
