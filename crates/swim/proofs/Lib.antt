@@ -1,4 +1,5 @@
 mod Digits
 mod Lines
 mod Lives
+mod Openings
 mod Stories

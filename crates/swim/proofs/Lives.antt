@@ -1,5 +1,5 @@
 -- One entry, one era, one life more.
-use Rattle.std.proofs.Common.{◌≡◌, ℕ, List, [], ◌∷◌, ◌++◌, refl}
+use Rattle.std.proofs.Common.{◌≡◌, ℕ, ◌<◌, List, [], ◌∷◌, ◌++◌, length, refl, sym, ap, ◌∙◌, arith}
 use Rattle.std.proofs.lemmas.List.Elements.{All-append, All-cons, All-nil}
 use Rattle.swim_disk.specs.Disk.{State, IsSettled}
 use Rattle.swim_state.specs.declared.owner.Owner.{Owner}
@@ -110,3 +110,15 @@ module _ (owner : Owner) (lives : List (Life PlayDisk)) where
 
   pub on_one_disk : (d : PlayDisk) → Leads owner lives d → AreOnOneDisk lives
   on_one_disk d h = record { owner = owner; lives_are = h.lives_are; mine = h.mine }
+
+-- ---- the last of a list
+
+split-last : {A : Type 0} (xs : List A) → 0 < length xs → (before : List A) × (x : A) × (xs ≡ before ++ x ∷ [])
+split-last [] more = absurd (omega (arith, more))
+split-last (x ∷ []) more = ([], x, refl)
+split-last (x ∷ y ∷ xs) more = let rest = split-last (y ∷ xs) (omega arith) in (x ∷ rest.0, rest.1, ap (λ (l : List _). x ∷ l) rest.2)
+
+pub ends-with : {A : Type 0} (xs : List A) (y : A) → 0 < length xs → ((before : List A) → (x : A) → xs ≡ before ++ x ∷ [] → y ≡ x) → (before : List A) × (xs ≡ before ++ y ∷ [])
+ends-with xs y more same =
+    let parts = split-last xs more in
+    (parts.0, parts.2 ∙ ap (λ (x : _). parts.0 ++ x ∷ []) (sym (same parts.0 parts.1 parts.2)))

@@ -1,6 +1,6 @@
 -- What happens to a story, and what that is to a script.
-use Rattle.std.proofs.Common.{◌≡◌, ℕ, Bool, true, false, Some, None, inr, List, [], ◌∷◌, ◌++◌, refl, sym, subst}
-use Rattle.std.specs.Prelude.{All, Option, is_some, Result, Ok, Err, OnOk}
+use Rattle.std.proofs.Common.{◌≡◌, Bool, true, false, List, [], ◌∷◌, ◌++◌, refl, sym, subst}
+use Rattle.std.specs.Prelude.{All, Result, Ok, Err, OnOk}
 use Rattle.std.proofs.lemmas.List.Elements.{All-nil}
 use Rattle.swim_disk.specs.Disk.{IsSettled}
 use Rattle.swim_state.specs.declared.owner.Owner.{Owner}
@@ -11,8 +11,8 @@ use Rattle.swim.specs.declared.story.Run.{Run}
 use Rattle.swim.specs.declared.story.Stage.{Stage}
 use Rattle.swim.specs.declared.story.Stage.TheVariants.{Bare, Idle, Open}
 use Rattle.swim.specs.Life.{PlayDisk, disk_state, IsOfOne, Spares, AreOnOneDisk}
-use Rattle.swim.specs.Story.{Leads, IsStory, Tale, begins, playing}
-use Rattle.swim.specs.Play.{Setup, Playing, IsRun, can_open, IfClosed, IfDisk, Opens, Does, Plays}
+use Rattle.swim.specs.Story.{Leads, IsStory}
+use Rattle.swim.specs.Play.{Playing, IsRun, Does, Plays}
 use Rattle.swim.proofs.Lives.{leads-none, leads-spared, leads-crashed, leads-ended, on_one_disk}
 
 -- the lives since the last other disk or owner are of one owner on one disk
@@ -76,16 +76,6 @@ on_ok P Q (Err e) so p = p
 pub always_ok : {T E : Type 0} (P : Type 0) (result : Result T E) → P → OnOk result P
 always_ok P (Ok v) p = p
 always_ok P (Err e) p = tt
-
-none-of : {A : Type 0} (o : Option A) → is_some o ≡ false → o ≡ None
-none-of None h = refl
-none-of (Some x) h = absurd (cc)
-
--- the line `open`, where a life began
-pub opens-begun : (setup : Setup) (old new : Tale) (first : ℕ) → is_some old.life ≡ false → is_some old.disk ≡ true → can_open setup ≡ true → new ≡ begins setup.settings setup.limit first old
-    → IfClosed old.life (playing setup old) (playing setup new) (IfDisk (playing setup old).disk (playing setup old) (playing setup new) (Opens (playing setup old) (playing setup new)))
-opens-begun setup old new first closed idle can is =
-    rw (is, none-of old.life closed, idle) (inr (first, can, refl))
 
 -- one line more
 pub plays-snoc : (p : Playing) (commands : List Command) (q : Playing) (command : Command) (r : Playing) → Plays p commands q → Does q command r → Plays p (commands ++ command ∷ []) r

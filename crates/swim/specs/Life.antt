@@ -55,11 +55,11 @@ pub record Adds (old new : Life PlayDisk) (event : Event) : Type 0 where
   pub entries : new ≡ record old { entries = old.entries ++ entry ∷ []; left = new.left }
   pub room : length old.entries < old.limit
 
--- when each refusal comes; the only caller is never out of turn
-abbrev pub IsRefused : Life PlayDisk → ApplyFault → Type 0
-IsRefused life EraFull = length life.entries ≡ life.limit
-IsRefused life NoMemory = length life.entries < life.limit
-IsRefused life OutOfTurn = ⊥
+-- when each refusal of an event comes; the only caller is never out of turn
+abbrev pub IsDeclined : Life PlayDisk → ApplyFault → Type 0
+IsDeclined life EraFull = length life.entries ≡ life.limit
+IsDeclined life NoMemory = length life.entries < life.limit
+IsDeclined life OutOfTurn = ⊥
 
 -- the era that is going on
 abbrev pub era_now : Life PlayDisk → Era

@@ -1,39 +1,63 @@
--- What a script asks for: which members are opened, which events they get, and how they end.
-use Rattle.std.specs.Prelude.{◌≡◌, ◌==◌, ◌&&◌, ◌⊎◌, ℕ, ◌+◌, ◌*◌, nat_le, Bool, true, false, List, [], ◌∷◌, ◌++◌, length, map, All, Option, Some, None, if◌then◌else◌}
+-- What a script asks for: which disks there are, which members are opened, which events they get, and how they end.
+use Rattle.std.specs.Prelude.{◌≡◌, ◌⊎◌, ℕ, ◌+◌, ◌-◌, ◌*◌, ◌^◌, ◌<◌, ◌≤◌, Bool, true, false, List, [], ◌∷◌, ◌++◌, length, map, All, Option, Some, None, Result, OnOk, OnErr, IfErr}
+use Rattle.swim_disk.specs.Disk.{IsSettled, Rests}
+use Rattle.swim_disk.specs.Part.{AlwaysHas}
+use Rattle.swim_disk.specs.Choice.{left_by}
+use Rattle.swim_disk.specs.MemDisk.{disk_of}
+use Rattle.swim_disk.specs.Fault.{inner_of}
+use Rattle.swim_disk.specs.declared.mem.Choice.{Choice}
+use Rattle.swim_state.specs.File.{IsSound, floor}
+use Rattle.swim_state.specs.Recovery.{fault_of as shown}
+use Rattle.swim_state.specs.declared.owner.Owner.{Owner}
+use Rattle.swim_state.specs.declared.fault.InitFault.{InitFault}
+use Rattle.swim_state.specs.declared.fault.InitFault.TheVariants as init
+use Rattle.swim_state.specs.declared.fault.RecoverFault.TheVariants as recover
 use Rattle.swim_member.specs.declared.event.Event.{Event}
 use Rattle.swim_member.specs.declared.settings.Settings.{Settings}
-use Rattle.swim_member.specs.declared.settings.SettingsFault.{SettingsFault}
-use Rattle.swim_member.specs.Checks.{fault_of}
+use Rattle.swim_member.specs.Checks.{AreSound, fault_of}
 use Rattle.swim_node.specs.declared.entry.Entry.{Entry}
+use Rattle.swim_node.specs.declared.fault.OpenFault.TheVariants as node
 use Rattle.swim_node.specs.Lives.{Era, Life, AreRising}
+use Rattle.swim_node.specs.Node.{owner_of}
 use Rattle.swim.specs.declared.command.Command.{Command}
 use Rattle.swim.specs.declared.command.Command.TheVariants.{Group, Me, Set, Start, Init, Open, Happen, Plan, Kill, Crash, Overwrite, Slots, Rebase}
 use Rattle.swim.specs.declared.command.Setting.{Setting}
 use Rattle.swim.specs.declared.command.Setting.TheVariants as setting
+use Rattle.swim.specs.declared.setup.Setup.{Setup}
+use Rattle.swim.specs.declared.story.Opening.{Opening}
+use Rattle.swim.specs.declared.story.Opening.TheVariants.{Begun, Refused}
+use Rattle.swim.specs.declared.story.Refusal.{Refusal}
+use Rattle.swim.specs.declared.story.Refusal.TheVariants as refusal
 use Rattle.swim.specs.declared.story.Run.{Run}
-use Rattle.swim.specs.Life.{PlayDisk, AreOnOneDisk}
+use Rattle.swim.specs.Life.{PlayDisk, disk_state, AreOnOneDisk}
 
--- what the next opening is to have
-pub record Setup : Type 0 where
-  pub settings : Settings
-  pub limit : ℕ
-
--- a life, as a script asks for it: how it is opened, and the events of its eras that a rebase ended and of its last one
+-- a life, as a script asks for it: how and on which disk it is opened, with which number it begins, the events of its eras that a rebase ended and of its last one, and its disk now
 pub record Asked : Type 0 where
   pub settings : Settings
   pub limit : ℕ
+  pub opened : PlayDisk
   pub first : ℕ
   pub eras : List (List Event)
   pub events : List Event
+  pub left : PlayDisk
 
--- the setup, whether there is a disk, whether a line made or overwrote the disk or named an owner since the last opening, the lives before that, those that ended since, and the open one
+-- the setup of the next opening, the disk that there is, whether a line made or overwrote the disk or named an owner since the last opening, the lives before that, those that ended since, and the open one
 pub record Playing : Type 0 where
   pub setup : Setup
-  pub disk : Bool
+  pub disk : Option PlayDisk
   pub apart : Bool
   pub runs : List (List Asked)
   pub lives : List Asked
   pub life : Option Asked
+
+-- ---- the setup
+
+-- group 7, 10.0.0.1:7000, and eras of 4,096 entries
+abbrev pub first_setup : Setup
+first_setup = record {
+  settings = record { group = 7; me = 0x0a000001 * 65536 + 7000; lambda = 2; period = 4; direct = 2; suspect = 8; forget = 40; helpers = 2 };
+  limit = 4096;
+}
 
 abbrev pub with_setting : Setup → Setting → ℕ → Setup
 with_setting s setting.Lambda n = record s { settings = record s.settings { lambda = n } }
@@ -44,13 +68,48 @@ with_setting s setting.Forget n = record s { settings = record s.settings { forg
 with_setting s setting.Helpers n = record s { settings = record s.settings { helpers = n } }
 with_setting s setting.Limit n = record s { limit = n }
 
-abbrev pub is_sound : Option SettingsFault → Bool
-is_sound None = true
-is_sound (Some fault) = false
+-- another group or another member is named
+abbrev pub named : Settings → Playing → Playing
+named settings p = record p { setup = record p.setup { settings = settings }; apart = true }
 
--- the settings pass their check, and an era has 1 to 65,536 entries
-abbrev pub can_open : Setup → Bool
-can_open s = is_sound (fault_of s.settings) && (nat_le 1 s.limit && nat_le s.limit 65536)
+-- the settings are sound, and an era has 1 to 65,536 entries
+pub record CanOpen (s : Setup) : Type 0 where
+  pub sound : AreSound s.settings
+  pub least : 1 ≤ s.limit
+  pub most : s.limit ≤ 65536
+
+-- ---- the disk
+
+-- the disk becomes another one, of which this holds
+abbrev pub Becomes : (PlayDisk → Type 0) → Playing → Playing → Type 0
+Becomes Is p q = (disk : PlayDisk) × Is disk × (q ≡ record p { disk = Some disk })
+
+-- whatever a crash now may leave is a state file with this floor
+abbrev pub HasFloor : Owner → ℕ → PlayDisk → Type 0
+HasFloor owner b disk = (c : List ℕ) → (disk_state disk).images c → IsSound owner c × (floor c ≡ b)
+
+-- when making a state file on a new disk is refused
+abbrev pub IsUnmade : ℕ → PlayDisk → InitFault → Type 0
+IsUnmade ceiling disk init.Range = (2 ^ 62 < ceiling) × ((disk_state disk).content ≡ [])
+IsUnmade ceiling disk init.NotEmpty = ⊥
+IsUnmade ceiling disk init.Device = 0 < (disk_state disk).failures
+
+-- a new disk, and what came of making a state file with this ceiling there
+pub record IsMade (owner : Owner) (ceiling : ℕ) (disk : PlayDisk) (answer : Result (Unit {0}) InitFault) : Type 0 where
+  pub ok : OnOk answer (HasFloor owner ceiling disk)
+  pub err : IfErr answer (λ fault. IsUnmade ceiling disk fault)
+
+-- there is a new disk
+abbrev pub made : PlayDisk → Playing → Playing
+made disk p = record p { disk = Some disk; apart = true }
+
+-- what a crash with this choice leaves of a disk: one of its images, and a later crash leaves the same
+pub record IsCrashed (choice : Choice) (old new : PlayDisk) : Type 0 where
+  pub chosen : (disk_state new).content ≡ left_by choice (disk_of (inner_of old))
+  pub image : (disk_state old).images (disk_state new).content
+  pub settled : IsSettled (disk_state new)
+
+-- ---- lives
 
 -- these lives as a run of their own, unless there are none
 abbrev pub and_run : {A : Type 0} → List (List A) → List A → List (List A)
@@ -65,16 +124,65 @@ abbrev pub runs_before : {A : Type 0} → Bool → List (List A) → List A → 
 runs_before true runs lives = and_run runs lives
 runs_before false runs lives = runs
 
--- a life is opened with this number; it begins a run where the disk or the owner is another one
-abbrev pub opened : ℕ → Playing → Playing
-opened first p = record p {
+-- a life is opened with this number on the old disk, which has become the new one; it begins a run where the disk or the owner is another one
+abbrev pub opened : PlayDisk → ℕ → PlayDisk → Playing → Playing
+opened old first new p = record p {
+  disk = Some new;
   apart = false;
   runs = runs_before p.apart p.runs p.lives;
   lives = unless p.apart p.lives;
-  life = Some (record { settings = p.setup.settings; limit = p.setup.limit; first = first; eras = []; events = [] });
+  life = Some (record { settings = p.setup.settings; limit = p.setup.limit; opened = old; first = first; eras = []; events = []; left = new });
 }
 
--- the open life, if there is one, has ended
+-- a life begins with this number, the next one of a disk that shows no fault
+pub record Begins (old : PlayDisk) (first : ℕ) (p q : Playing) : Type 0 where
+  pub can : CanOpen p.setup
+  pub sound : shown (owner_of p.setup.settings) (disk_state old).content ≡ None
+  pub next : first ≡ floor (disk_state old).content + 1
+  pub disk : PlayDisk
+  pub is : q ≡ opened old first disk p
+
+-- when an opening is refused, and what that leaves of the disk; where memory is wanting the script ends
+abbrev pub IsRefused : Setup → PlayDisk → Refusal → PlayDisk → Type 0
+IsRefused s old (refusal.Settings fault) new = (fault_of s.settings ≡ Some fault) × (new ≡ old)
+IsRefused s old (refusal.Open node.Limit) new = ((s.limit ≡ 0) ⊎ (65536 < s.limit)) × (new ≡ old)
+IsRefused s old (refusal.Open node.NoMemory) new = ⊥
+IsRefused s old (refusal.Open (node.Refused recover.Device)) new = (disk_state old).failures < (disk_state new).failures
+IsRefused s old (refusal.Open (node.Refused fault)) new = (shown (owner_of s.settings) (disk_state old).content ≡ Some fault) × Rests (disk_state old) (disk_state new)
+
+-- what comes of an opening on this disk
+abbrev pub IsOpening : PlayDisk → Opening → Playing → Playing → Type 0
+IsOpening disk (Begun first) p q = Begins disk first p q
+IsOpening disk (Refused refusal) p q = Becomes (IsRefused p.setup disk refusal) p q
+
+abbrev pub Opens : PlayDisk → Playing → Playing → Type 0
+Opens disk p q = (opening : Opening) × IsOpening disk opening p q
+
+-- there is a new disk with a state file below this number, and a life begins with it, or is refused; where there is no state file nothing is opened
+pub record Starts (first : ℕ) (p q : Playing) : Type 0 where
+  pub disk : PlayDisk
+  pub answer : Result (Unit {0}) InitFault
+  pub is_made : IsMade (owner_of p.setup.settings) (first - 1) disk answer
+  pub ok : OnOk answer (Opens disk (made disk p) q)
+  pub err : OnErr answer (q ≡ made disk p)
+
+-- the open life has one event more, and its disk may have become another one
+pub record Takes (event : Event) (life : Asked) (p q : Playing) : Type 0 where
+  pub room : length life.events < life.limit
+  pub disk : PlayDisk
+  pub is : q ≡ record p { disk = Some disk; life = Some (record life { events = life.events ++ event ∷ []; left = disk }) }
+
+-- an event comes; without an open member nothing happens, and a full era takes no more
+abbrev pub Happens : Event → Option Asked → Playing → Playing → Type 0
+Happens event None p q = q ≡ p
+Happens event (Some life) p q = Takes event life p q ⊎ ((length life.events ≡ life.limit) × (q ≡ p))
+
+-- an era begins
+abbrev pub rebased : Option Asked → Option Asked
+rebased None = None
+rebased (Some life) = Some (record life { eras = life.eras ++ life.events ∷ []; events = [] })
+
+-- the open life, if there is one, has ended; its disk stays
 abbrev pub ended_with : Option Asked → Playing → Playing
 ended_with None p = p
 ended_with (Some life) p = record p { lives = p.lives ++ life ∷ []; life = None }
@@ -82,28 +190,7 @@ ended_with (Some life) p = record p { lives = p.lives ++ life ∷ []; life = Non
 abbrev pub ended : Playing → Playing
 ended p = ended_with p.life p
 
--- an event comes to an open member; a full era takes no more
-abbrev pub happened : Event → Option Asked → Option Asked
-happened event None = None
-happened event (Some life) =
-    if length life.events == life.limit then Some life else Some (record life { events = life.events ++ event ∷ [] })
-
--- an era begins
-abbrev pub rebased : Option Asked → Option Asked
-rebased None = None
-rebased (Some life) = Some (record life { eras = life.eras ++ life.events ∷ []; events = [] })
-
--- there is a new disk
-abbrev pub made : Playing → Playing
-made p = record p { disk = true; apart = true }
-
--- an opening was refused, or it began a life with a number
-abbrev pub Opens : Playing → Playing → Type 0
-Opens p q = (q ≡ p) ⊎ ((first : ℕ) × (can_open p.setup ≡ true) × (q ≡ opened first p))
-
--- so was one with this number
-abbrev pub Starts : ℕ → Playing → Playing → Type 0
-Starts first p q = (q ≡ p) ⊎ ((can_open p.setup ≡ true) × (q ≡ opened first p))
+-- ---- lines
 
 -- with an open member nothing happens
 abbrev pub IfClosed : Option Asked → Playing → Playing → Type 0 → Type 0
@@ -111,23 +198,23 @@ IfClosed None p q done = done
 IfClosed (Some life) p q done = q ≡ p
 
 -- without a disk nothing happens
-abbrev pub IfDisk : Bool → Playing → Playing → Type 0 → Type 0
-IfDisk true p q done = done
-IfDisk false p q done = q ≡ p
+abbrev pub IfDisk : Option PlayDisk → Playing → Playing → (PlayDisk → Type 0) → Type 0
+IfDisk None p q done = q ≡ p
+IfDisk (Some disk) p q done = done disk
 
 -- what a line may make of what plays
 abbrev pub Does : Playing → Command → Playing → Type 0
-Does p (Group group) q = q ≡ record p { setup = record p.setup { settings = record p.setup.settings { group = group } }; apart = true }
-Does p (Me me) q = q ≡ record p { setup = record p.setup { settings = record p.setup.settings { me = me } }; apart = true }
+Does p (Group group) q = q ≡ named (record p.setup.settings { group = group }) p
+Does p (Me me) q = q ≡ named (record p.setup.settings { me = me }) p
 Does p (Set setting n) q = q ≡ record p { setup = with_setting p.setup setting n }
-Does p (Start first) q = IfClosed p.life p q (Starts first.value (made p) q)
-Does p (Init ceiling) q = IfClosed p.life p q (q ≡ made p)
-Does p Open q = IfClosed p.life p q (IfDisk p.disk p q (Opens p q))
-Does p (Happen event) q = q ≡ record p { life = happened event p.life }
+Does p (Start first) q = IfClosed p.life p q (Starts first.value p q)
+Does p (Init ceiling) q = IfClosed p.life p q ((answer : Result (Unit {0}) InitFault) × Becomes (λ disk. IsMade (owner_of p.setup.settings) ceiling disk answer) (record p { apart = true }) q)
+Does p Open q = IfClosed p.life p q (IfDisk p.disk p q (λ disk. Opens disk p q))
+Does p (Happen event) q = Happens event p.life p q
 Does p (Plan failure) q = q ≡ p
 Does p Kill q = q ≡ ended p
-Does p (Crash choice) q = q ≡ ended p
-Does p (Overwrite patch) q = IfClosed p.life p q (IfDisk p.disk p q (q ≡ record p { apart = true }))
+Does p (Crash choice) q = IfDisk p.disk p q (λ disk. Becomes (IsCrashed choice disk) (ended p) q)
+Does p (Overwrite patch) q = IfClosed p.life p q (IfDisk p.disk p q (λ disk. Becomes (λ new. AlwaysHas patch.at patch.bytes.items (disk_state new)) (record p { apart = true }) q))
 Does p Slots q = q ≡ p
 Does p Rebase q = q ≡ record p { life = rebased p.life }
 
@@ -136,12 +223,8 @@ abbrev pub Plays : Playing → List Command → Playing → Type 0
 Plays p [] q = q ≡ p
 Plays p (command ∷ commands) q = (r : Playing) × Does p command r × Plays r commands q
 
--- group 7 and 10.0.0.1:7000
-abbrev pub first_settings : Settings
-first_settings = record { group = 7; me = 0x0a000001 * 65536 + 7000; lambda = 2; period = 4; direct = 2; suspect = 8; forget = 40; helpers = 2 }
-
 abbrev pub beginning : Playing
-beginning = record { setup = record { settings = first_settings; limit = 4096 }; disk = false; apart = false; runs = []; lives = []; life = None }
+beginning = record { setup = first_setup; disk = None; apart = false; runs = []; lives = []; life = None }
 
 -- all lives, an open one among them; those of one disk and owner are together
 abbrev pub all_of : Playing → List (List Asked)
@@ -155,7 +238,7 @@ events_of era = map event_of era.entries
 
 -- what was asked for where this life was lived
 abbrev pub asked_of : Life PlayDisk → Asked
-asked_of life = record { settings = life.settings; limit = life.limit; first = life.first; eras = map events_of life.eras; events = map event_of life.entries }
+asked_of life = record { settings = life.settings; limit = life.limit; opened = life.opened; first = life.first; eras = map events_of life.eras; events = map event_of life.entries; left = life.left }
 
 abbrev pub run_of : Run → List Asked
 run_of run = map asked_of run.lives.items

@@ -1,6 +1,6 @@
 //! The number that a life begins with.
 
-ghost use Rattle.std.specs.Prelude.{◌≡◌, ◌^◌, ◌≤◌, IfSome};
+ghost use Rattle.std.specs.Prelude.{◌≡◌, ◌-◌, ◌^◌, ◌≤◌, IfSome};
 ghost use Rattle.std.specs.Fmt.{decimal};
 
 use crate::words::read_within;
@@ -14,12 +14,11 @@ pub struct FirstNumber {
 }
 
 impl FirstNumber {
-    /// The number.
-    pub(crate) fn value(self) -> u64
-        ensures value { result ≡ self.value }
-        ensures range { (1 ≤ result) × (result ≤ 2 ^ 62) }
+    /// The ceiling of a file on which a life begins with it.
+    pub(crate) fn ceiling(self) -> u64
+        ensures { result ≡ self.value - 1 }
     {
-        self.value
+        self.value - 1
     }
 }
 

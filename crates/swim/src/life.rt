@@ -1,18 +1,24 @@
 //! The lives of a script's members, on a disk in memory that fails by a plan.
 
-ghost use Rattle.std.specs.Prelude.{◌≡◌, ◌+◌, ◌≤◌, ◌++◌, ◌∷◌, [], IfOk, IfErr, OnOk, OnErr, IfSome, length};
+ghost use Rattle.std.specs.Prelude.{◌≡◌, ◌≢◌, ◌+◌, ◌≤◌, ◌++◌, ◌∷◌, [], None, List, IfOk, IfErr, OnOk, OnErr, IfSome, length};
 ghost use Rattle.swim_member.specs.Checks.{AreSound};
 ghost use Rattle.swim_state.specs.File.{floor};
+ghost use Rattle.swim_state.specs.Recovery.{fault_of};
 ghost use Rattle.swim_node.specs.Lives.{IsLived};
 ghost use Rattle.swim_node.specs.Node.{owner_of, rebased};
 ghost use Rattle.swim_node.specs.Sending.{HasTexts};
-ghost use Rattle.swim.specs.Life.{disk_state, IsOfOne, Spares, Adds, IsRefused, era_now};
+ghost use Rattle.swim_node.specs.declared.entry.Entry.{Entry as Entries};
+ghost use Rattle.swim_node.specs.declared.fault.OpenFault.TheVariants as faults;
+ghost use Rattle.swim.specs.declared.story.Refusal.TheVariants as refusals;
+ghost use Rattle.swim.specs.Life.{disk_state, IsOfOne, Spares, Adds, IsDeclined, era_now};
+ghost use Rattle.swim.specs.Play.{IsRefused};
 
+use crate::setup::Setup;
 use std::alloc::{AllocError, Global};
 use std::marker::Model;
 use std::snapshot::Snapshot;
 use swim_disk::{FaultDisk, MemDisk};
-use swim_member::{Event, Settings};
+use swim_member::Event;
 use swim_node::{ApplyFault, Entry, Era, MemoryLink, Node, OpenFault, Tag};
 
 /// The disk of a script.
@@ -21,8 +27,7 @@ pub type PlayDisk = FaultDisk<MemDisk>;
 /// A life that has ended: how it was opened, its eras in order, and the disk that it left.
 #[derive(Drop)]
 pub struct Life {
-    settings: Settings,
-    limit: u32,
+    setup: Setup,
     opened: Snapshot<PlayDisk>,
     first: u64,
     eras: Vec<Era>,
@@ -37,8 +42,8 @@ impl Model for Life {
     ghost Value = { Lives Disks };
 
     ghost view = { λ l. record {
-      settings = l.settings;
-      limit = l.limit;
+      settings = l.setup.settings;
+      limit = l.setup.limit;
       opened = l.opened.value;
       first = l.first;
       eras = l.eras.items;
@@ -67,8 +72,7 @@ impl Life {
 /// A life that goes on.
 #[derive(Drop)]
 pub(crate) struct Living {
-    settings: Settings,
-    limit: u32,
+    setup: Setup,
     opened: Snapshot<PlayDisk>,
     eras: Vec<Era>,
     node: Node<PlayDisk>,
@@ -81,8 +85,8 @@ impl Model for Living {
     ghost Value = { Lives Disks };
 
     ghost view = { λ l. record {
-      settings = l.settings;
-      limit = l.limit;
+      settings = l.setup.settings;
+      limit = l.setup.limit;
       opened = l.opened.value;
       first = l.node.first;
       eras = l.eras.items;
@@ -92,8 +96,8 @@ impl Model for Living {
     } };
 
     ghost invariant = { λ l. IsLiving l.node.owner (record {
-      settings = l.settings;
-      limit = l.limit;
+      settings = l.setup.settings;
+      limit = l.setup.limit;
       opened = l.opened.value;
       first = l.node.first;
       eras = l.eras.items;
@@ -108,23 +112,22 @@ impl Living {
     pub(crate) fn open(
         alloc: Global,
         disk: PlayDisk,
-        settings: Settings,
-        limit: u32,
+        setup: Setup,
     ) -> Result<Living, (PlayDisk, OpenFault)>
-        requires sound { AreSound settings }
-        ensures settings { IfOk result (λ l. (l.settings ≡ settings) × (l.limit ≡ limit)) }
+        requires sound { AreSound setup.settings }
+        ensures setup { IfOk result (λ l. (l.settings ≡ setup.settings) × (l.limit ≡ setup.limit)) }
         ensures opened { IfOk result (λ l. l.opened ≡ disk) }
         ensures first { IfOk result (λ l. l.first ≡ floor (disk_state disk).content + 1) }
+        ensures whole { IfOk result (λ l. fault_of (owner_of setup.settings) (disk_state disk).content ≡ None) }
         ensures empty { IfOk result (λ l. (l.eras ≡ []) × (l.entries ≡ [])) }
-        ensures limit { IfOk result (λ l. (1 ≤ limit) × (limit ≤ 65536)) }
-        ensures refused { IfErr result (λ refused. Spares (owner_of settings) disk refused.0) }
+        ensures limit { IfOk result (λ l. (1 ≤ setup.limit) × (setup.limit ≤ 65536)) }
+        ensures cause { IfErr result (λ refused. refused.1 ≢ faults.NoMemory → IsRefused setup disk (refusals.Open refused.1) refused.0) }
+        ensures spared { IfErr result (λ refused. Spares (owner_of setup.settings) disk refused.0) }
     {
         let opened = Snapshot::of(&disk);
-        let kept = settings;
-        let node = Node::open(alloc, disk, settings, limit)?;
+        let node = Node::open(alloc, disk, setup.settings, setup.limit)?;
         Ok(Living {
-            settings: kept,
-            limit,
+            setup,
             opened,
             eras: Vec::new(alloc),
             node,
@@ -139,13 +142,17 @@ impl Living {
     }
 
     /// Its disk.
-    pub(crate) fn disk(&self) -> &PlayDisk {
+    pub(crate) fn disk(&self) -> &PlayDisk
+        ensures { result.now ≡ self.now.left }
+    {
         self.node.disk()
     }
 
     /// The last entry of this era, if it has any.
     pub(crate) fn last(&self) -> Option<&Entry>
-        ensures { IfSome result (λ e. HasTexts e.now) }
+        ensures some { IfSome result (λ e. (before : List Entries) × (self.now.entries ≡ before ++ e.now ∷ [])) }
+        ensures texts { IfSome result (λ e. HasTexts e.now) }
+        ensures none { result ≡ None → self.now.entries ≡ [] }
     {
         if self.node.len() == 0 {
             return None;
@@ -156,7 +163,7 @@ impl Living {
     /// Gives the member an event, as the next call of the one caller.
     pub(crate) fn happen(&mut self, link: &mut MemoryLink, event: Event) -> Result<(), ApplyFault>
         ensures ok { OnOk result (Adds self.old self.new event) }
-        ensures refused { IfErr result (λ fault. IsRefused self.old fault) }
+        ensures refused { IfErr result (λ fault. IsDeclined self.old fault) }
         ensures err { OnErr result (self.new ≡ self.old) }
     {
         let tag = Tag {
@@ -185,8 +192,7 @@ impl Living {
         ensures mine { IsOfOne self }
     {
         let Living {
-            settings,
-            limit,
+            setup,
             opened,
             eras,
             mut node,
@@ -197,8 +203,7 @@ impl Living {
         let last = node.end_era();
         let disk = node.into_disk();
         let life = Life {
-            settings,
-            limit,
+            setup,
             opened,
             first,
             eras,

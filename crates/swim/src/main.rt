@@ -12,6 +12,7 @@ mod line;
 mod patch;
 mod player;
 mod script;
+mod setup;
 mod story;
 #[cfg(test)]
 mod tests;

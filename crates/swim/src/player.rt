@@ -1,14 +1,12 @@
 //! Plays the commands of a script.
 
-ghost use Rattle.std.specs.Prelude.{◌≡◌, ◌+◌, ◌≤◌, ◌^◌, List, map, All, OnOk, IfOk};
-ghost use Rattle.swim_state.specs.File.{floor};
-ghost use Rattle.swim_node.specs.Node.{owner_of};
-ghost use Rattle.swim.specs.Life.{disk_state};
+ghost use Rattle.std.specs.Prelude.{◌≡◌, ℕ, List, None, Some, true, false, is_some, map, All, OnOk, IfOk};
 ghost use Rattle.swim.specs.Commands.{IsScript};
 ghost use Rattle.swim.specs.declared.command.Command.{Command as Commands};
-ghost use Rattle.swim.specs.Play.{Does, Plays, ArePlayed, beginning, all_of, happened, rebased, ended, made, with_setting, run_of, IsRun, IsRising, IfClosed, IfDisk, Opens, Starts};
+ghost use Rattle.swim.specs.declared.command.Failure.{Failure as Failures};
+ghost use Rattle.swim.specs.Play.{ArePlayed, Does, IfDisk, IsMade, Opens, IsRun, IsRising, Plays, all_of, beginning, run_of};
 
-use crate::command::{Command, Failure, Setting};
+use crate::command::{Command, Failure};
 use crate::fault::ScriptFault;
 use crate::first::FirstNumber;
 use crate::life::PlayDisk;
@@ -20,10 +18,9 @@ use std::alloc::{AllocError, Global};
 use std::fmt::Write;
 use std::marker::Model;
 use swim_disk::{Choice, FaultDisk, MemDisk, Plan};
-use swim_member::{Event, Settings};
+use swim_member::Event;
 use swim_node::{ApplyFault, MemoryLink};
-use swim_state::{InitFault, Owner, init, slots_in};
-use swim_wire::Endpoint;
+use swim_state::{InitFault, Owner, init};
 
 /// What a script did.
 #[derive(Drop)]
@@ -33,41 +30,6 @@ pub struct Transcript {
     /// The lives that were lived, each with its journals. Those between two lines that make or overwrite a disk or name
     /// an owner are together.
     pub lives: Vec<Run>,
-}
-
-/// What plays: what the next opening is to have, the lives, and the plans of what is to fail.
-#[derive(Drop)]
-struct Player {
-    alloc: Global,
-    settings: Settings,
-    limit: u32,
-    story: Story,
-    plan: Option<Plan>,
-    link: MemoryLink,
-    text: String,
-}
-
-impl Model for Player {
-    ghost use Rattle.std.specs.Prelude.{◌≡◌};
-    ghost use Rattle.swim_node.specs.Node.{owner_of};
-    ghost use Rattle.swim.specs.Play.{Playing};
-    ghost use Rattle.swim.specs.Story.{playing};
-
-    ghost Value = { Playing };
-
-    ghost view = { λ p. playing (record { settings = p.settings; limit = p.limit }) p.story };
-
-    ghost invariant = { λ p. p.story.owner ≡ owner_of p.settings };
-}
-
-/// Whose state file a member with these settings has.
-fn owner_in(settings: &Settings) -> Owner
-    ensures { result ≡ owner_of settings.now }
-{
-    Owner {
-        group: settings.group,
-        me: settings.me,
-    }
 }
 
 /// A new disk, the plan of what it is to fail, and what came of making a state file there.
@@ -80,7 +42,7 @@ struct Made {
 
 /// A new disk with a state file of this ceiling.
 fn make_disk(alloc: Global, owner: Owner, ceiling: u64) -> Result<Made, AllocError>
-    ensures { IfOk result (λ made. OnOk made.answer (floor (disk_state made.disk).content ≡ ceiling)) }
+    ensures { IfOk result (λ made. IsMade owner ceiling made.disk made.answer) }
 {
     let Ok((mut disk, plan)) = FaultDisk::new(alloc, MemDisk::new(alloc, Vec::new(alloc))) else {
         return Err(AllocError);
@@ -89,67 +51,59 @@ fn make_disk(alloc: Global, owner: Owner, ceiling: u64) -> Result<Made, AllocErr
     Ok(Made { disk, plan, answer })
 }
 
-/// The settings of a player at its start.
-fn first_settings() -> Settings
-    ensures { result ≡ beginning.setup.settings }
+/// Plans a failure. Without a disk only a send can be planned.
+fn plan_failure(plan: Option<&Plan>, link: &mut MemoryLink, failure: Failure)
+    ensures { (k : ℕ) → failure ≡ Failures.Send k → link.new.loses ≡ Some k }
 {
-    let Some(me) = Endpoint::new(0x0a00_0001, 7000) else {
-        unreachable!()
-    };
-    Settings {
-        group: 7,
-        me,
-        lambda: 2,
-        period: 4,
-        direct: 2,
-        suspect: 8,
-        forget: 40,
-        helpers: 2,
+    match (failure, plan) {
+        (Failure::Send(k), _) => link.lose(u64::from(k)),
+        (Failure::Read(k), Some(plan)) => plan.fail_read(u64::from(k)),
+        (Failure::Write(k), Some(plan)) => plan.fail_write(u64::from(k)),
+        (Failure::TornWrite(k), Some(plan)) => plan.tear_write(u64::from(k)),
+        (Failure::Sync(k), Some(plan)) => plan.fail_sync(u64::from(k)),
+        (Failure::Halt(k), Some(plan)) => plan.halt(u64::from(k)),
+        (_, None) => {}
     }
+}
+
+/// Nothing more is planned to fail.
+fn clear_plans(alloc: Global, plan: Option<&Plan>, link: &mut MemoryLink)
+    ensures { link.new.loses ≡ None }
+{
+    *link = MemoryLink::new(alloc, 0);
+    if let Some(plan) = plan {
+        plan.clear();
+    }
+}
+
+/// What plays: the lives, the plans of what is to fail, and the text so far.
+#[derive(Drop)]
+struct Player {
+    alloc: Global,
+    story: Story,
+    plan: Option<Plan>,
+    link: MemoryLink,
+    text: String,
+}
+
+impl Model for Player {
+    ghost use Rattle.swim.specs.Play.{Playing};
+
+    ghost Value = { Playing };
+
+    ghost view = { λ p. p.story };
 }
 
 impl Player {
     fn new(alloc: Global) -> Player
         ensures { result ≡ beginning }
     {
-        let settings = first_settings();
         Player {
             alloc,
-            settings,
-            limit: 4096,
-            story: Story::new(alloc, owner_in(&settings)),
+            story: Story::new(alloc),
             plan: None,
             link: MemoryLink::new(alloc, 0),
             text: String::new(alloc),
-        }
-    }
-
-    fn set_group(&mut self, group: u64)
-        ensures { Does self.old (Command.Group group) self.new }
-    {
-        self.settings.group = group;
-        self.story.name(owner_in(&self.settings));
-    }
-
-    fn set_me(&mut self, me: Endpoint)
-        ensures { Does self.old (Command.Me me) self.new }
-    {
-        self.settings.me = me;
-        self.story.name(owner_in(&self.settings));
-    }
-
-    /// Changes a setting of the next opening.
-    fn set(&mut self, setting: Setting, value: u32)
-        ensures { Does self.old (Command.Set setting value) self.new }
-    {
-        match setting {
-            Setting::Lambda => self.settings.lambda = value,
-            Setting::Period => self.settings.period = u64::from(value),
-            Setting::Direct => self.settings.direct = u64::from(value),
-            Setting::Suspect => self.settings.suspect = u64::from(value),
-            Setting::Forget => self.settings.forget = u64::from(value),
-            Setting::Helpers => self.settings.helpers = value as usize,
-            Setting::Limit => self.limit = value,
         }
     }
 
@@ -160,12 +114,24 @@ impl Player {
         if self.story.is_open() {
             return writeln!(self.text, "open already");
         }
-        let made = make_disk(self.alloc, owner_in(&self.settings), ceiling)?;
+        let made = make_disk(self.alloc, self.story.owner(), ceiling)?;
         self.plan = Some(made.plan);
         self.story.put(made.disk);
         match made.answer {
             Ok(()) => writeln!(self.text, "init ok"),
             Err(fault) => writeln!(self.text, "init refused {fault}"),
+        }
+    }
+
+    /// Opens a member on the disk that there is, for the line with this word.
+    fn begin(&mut self, word: &str) -> Result<(), AllocError>
+        requires closed { is_some self.old.life ≡ false }
+        requires disk { is_some self.old.disk ≡ true }
+        ensures { OnOk result (IfDisk self.old.disk self.old self.new (λ disk. Opens disk self.old self.new)) }
+    {
+        match self.story.open(self.alloc)? {
+            Opening::Begun(number) => writeln!(self.text, "{word} ok number {number}"),
+            Opening::Refused(refusal) => writeln!(self.text, "{refusal}"),
         }
     }
 
@@ -176,15 +142,12 @@ impl Player {
         if self.story.is_open() {
             return writeln!(self.text, "open already");
         }
-        let made = make_disk(self.alloc, owner_in(&self.settings), first.value() - 1)?;
+        let made = make_disk(self.alloc, self.story.owner(), first.ceiling())?;
         self.plan = Some(made.plan);
         self.story.put(made.disk);
-        if let Err(fault) = made.answer {
-            return writeln!(self.text, "init refused {fault}");
-        }
-        match self.story.open(self.alloc, self.settings, self.limit)? {
-            Opening::Begun(number) => writeln!(self.text, "start ok number {number}"),
-            Opening::Refused(refusal) => writeln!(self.text, "{refusal}"),
+        match made.answer {
+            Ok(()) => self.begin("start"),
+            Err(fault) => writeln!(self.text, "init refused {fault}"),
         }
     }
 
@@ -195,13 +158,10 @@ impl Player {
         if self.story.is_open() {
             return writeln!(self.text, "open already");
         }
-        if !self.story.is_idle() {
+        if !self.story.has_disk() {
             return writeln!(self.text, "no disk");
         }
-        match self.story.open(self.alloc, self.settings, self.limit)? {
-            Opening::Begun(number) => writeln!(self.text, "open ok number {number}"),
-            Opening::Refused(refusal) => writeln!(self.text, "{refusal}"),
-        }
+        self.begin("open")
     }
 
     /// Gives the open member an event.
@@ -214,25 +174,10 @@ impl Player {
         match self.story.happen(&mut self.link, event) {
             Ok(()) => match self.story.last() {
                 Some(entry) => write_entry(self.alloc, &mut self.text, entry),
-                None => Ok(()),
+                None => unreachable!(),
             },
             Err(ApplyFault::NoMemory) => Err(AllocError),
             Err(fault) => writeln!(self.text, "refused {fault}"),
-        }
-    }
-
-    /// Plans a failure. Without a disk only a send can be planned.
-    fn plan_failure(&mut self, failure: Failure)
-        ensures { self.new ≡ self.old }
-    {
-        match (failure, &self.plan) {
-            (Failure::Send(k), _) => self.link.lose(u64::from(k)),
-            (Failure::Read(k), Some(plan)) => plan.fail_read(u64::from(k)),
-            (Failure::Write(k), Some(plan)) => plan.fail_write(u64::from(k)),
-            (Failure::TornWrite(k), Some(plan)) => plan.tear_write(u64::from(k)),
-            (Failure::Sync(k), Some(plan)) => plan.fail_sync(u64::from(k)),
-            (Failure::Halt(k), Some(plan)) => plan.halt(u64::from(k)),
-            (_, None) => {}
         }
     }
 
@@ -254,14 +199,11 @@ impl Player {
         if self.story.is_open() {
             self.story.end()?;
         }
-        if !self.story.is_idle() {
+        if !self.story.has_disk() {
             return writeln!(self.text, "no disk");
         }
         self.story.crash(self.alloc, choice);
-        self.link = MemoryLink::new(self.alloc, 0);
-        if let Some(plan) = &self.plan {
-            plan.clear();
-        }
+        clear_plans(self.alloc, self.plan.as_ref(), &mut self.link);
         writeln!(self.text, "crashed")
     }
 
@@ -272,20 +214,10 @@ impl Player {
         if self.story.is_open() {
             return writeln!(self.text, "open already");
         }
-        if !self.story.is_idle() {
+        if !self.story.has_disk() {
             return writeln!(self.text, "no disk");
         }
         self.story.overwrite(&patch)
-    }
-
-    /// Shows the slots of the state file.
-    fn slots(&mut self) -> Result<(), AllocError>
-        ensures { self.new ≡ self.old }
-    {
-        match self.story.image() {
-            Some(image) => write_slots(&mut self.text, &slots_in(image)),
-            None => writeln!(self.text, "no disk"),
-        }
     }
 
     /// Begins an era.
@@ -304,32 +236,21 @@ impl Player {
         ensures { OnOk result (Does self.old command self.new) }
     {
         match command {
-            Command::Group(group) => {
-                self.set_group(group);
-                Ok(())
-            }
-            Command::Me(me) => {
-                self.set_me(me);
-                Ok(())
-            }
-            Command::Set(setting, value) => {
-                self.set(setting, value);
-                Ok(())
-            }
-            Command::Start(first) => self.start(first),
-            Command::Init(ceiling) => self.init(ceiling),
-            Command::Open => self.open(),
-            Command::Happen(event) => self.happen(event),
-            Command::Plan(failure) => {
-                self.plan_failure(failure);
-                Ok(())
-            }
-            Command::Kill => self.kill(),
-            Command::Crash(choice) => self.crash(choice),
-            Command::Overwrite(patch) => self.overwrite(patch),
-            Command::Slots => self.slots(),
-            Command::Rebase => self.rebase(),
+            Command::Group(group) => self.story.set_group(group),
+            Command::Me(me) => self.story.set_me(me),
+            Command::Set(setting, value) => self.story.set(setting, value),
+            Command::Start(first) => self.start(first)?,
+            Command::Init(ceiling) => self.init(ceiling)?,
+            Command::Open => self.open()?,
+            Command::Happen(event) => self.happen(event)?,
+            Command::Plan(failure) => plan_failure(self.plan.as_ref(), &mut self.link, failure),
+            Command::Kill => self.kill()?,
+            Command::Crash(choice) => self.crash(choice)?,
+            Command::Overwrite(patch) => self.overwrite(patch)?,
+            Command::Slots => write_slots(&mut self.text, self.story.image())?,
+            Command::Rebase => self.rebase()?,
         }
+        Ok(())
     }
 
     /// What the script did.
@@ -340,8 +261,6 @@ impl Player {
     {
         let Player {
             alloc: _,
-            settings: _,
-            limit: _,
             story,
             plan: _,
             link: _,

@@ -1,22 +1,26 @@
 //! The lives of a script, one after another on the disks that it makes.
 
-ghost use Rattle.std.specs.Prelude.{◌≡◌, ◌≢◌, ℕ, ◌+◌, ◌≤◌, ◌<◌, [], Some, None, true, false, map, length, vec_capacity, is_some, All, Ok, Err, IfOk, IfSome, OnOk};
-ghost use Rattle.swim_disk.specs.Disk.{IsSettled};
+ghost use Rattle.std.specs.Prelude.{◌≡◌, ◌≢◌, ◌+◌, ◌<◌, ◌++◌, ◌∷◌, [], None, Some, false, true, List, map, length, vec_capacity, is_some, All, IfOk, IfSome, OnOk};
+ghost use Rattle.swim_disk.specs.Part.{AlwaysHas};
 ghost use Rattle.swim_node.specs.Node.{owner_of};
 ghost use Rattle.swim_node.specs.Sending.{HasTexts};
-ghost use Rattle.swim.specs.Life.{disk_state, AreOnOneDisk};
-ghost use Rattle.swim.specs.Play.{happened, rebased, and_run, asked_of, run_of, IsRun, IsRising};
-ghost use Rattle.swim.specs.Story.{IsOpening, Ends, Moves, told};
+ghost use Rattle.swim_member.specs.declared.event.Event.{Event as Events};
+ghost use Rattle.swim.specs.Life.{PlayDisk as PlayDisks, disk_state, AreOnOneDisk};
+ghost use Rattle.swim.specs.Play.{Becomes, IfDisk, IsCrashed, IsOpening, IsRefused, IsRun, IsRising, all_of, and_run, asked_of, beginning, ended, made, named, rebased, run_of, with_setting};
+ghost use Rattle.swim.specs.Story.{IsAnswered, events_in};
 
+use crate::command::Setting;
 use crate::life::{Life, Living, PlayDisk};
 use crate::patch::Patch;
+use crate::setup::Setup;
 use std::alloc::{AllocError, Global};
 use std::marker::Model;
 use std::mem;
 use swim_disk::{Choice, MemDisk};
-use swim_member::{Event, Settings, SettingsFault};
+use swim_member::{Event, SettingsFault};
 use swim_node::{ApplyFault, Entry, MemoryLink, OpenFault, own_numbers_rise};
 use swim_state::Owner;
+use swim_wire::Endpoint;
 use thiserror::Error;
 
 /// Lives of one owner on one disk, one after another.
@@ -57,10 +61,10 @@ pub(crate) enum Opening {
     Refused(Refusal),
 }
 
-/// What there is now, and the lives that ended before.
+/// The setup of the next opening, what there is now, and the lives that ended before.
 #[derive(Drop)]
 pub(crate) struct Story {
-    owner: Owner,
+    setup: Setup,
     apart: bool,
     runs: Vec<Run>,
     lives: Vec<Life>,
@@ -69,21 +73,22 @@ pub(crate) struct Story {
 
 impl Model for Story {
     ghost use Rattle.std.specs.Prelude.{map};
-    ghost use Rattle.swim.specs.Play.{run_of, asked_of};
-    ghost use Rattle.swim.specs.Story.{Tale, IsStory, disk_in, life_in};
+    ghost use Rattle.swim_node.specs.Node.{owner_of};
+    ghost use Rattle.swim.specs.Play.{Playing, run_of, asked_of};
+    ghost use Rattle.swim.specs.Story.{IsStory, disk_in, life_in};
 
-    ghost Value = { Tale };
+    ghost Value = { Playing };
 
     ghost view = { λ s. record {
-      owner = s.owner;
-      apart = s.apart;
+      setup = s.setup;
       disk = disk_in s.stage;
+      apart = s.apart;
       runs = map run_of s.runs.items;
       lives = map asked_of s.lives.items;
       life = life_in s.stage;
     } };
 
-    ghost invariant = { λ s. IsStory s.owner s.apart s.runs.items s.lives.items s.stage };
+    ghost invariant = { λ s. IsStory (owner_of s.setup.settings) s.apart s.runs.items s.lives.items s.stage };
 }
 
 /// Puts these lives into a run of their own, if there are any. It takes no memory.
@@ -103,8 +108,7 @@ fn close_run(runs: &mut Vec<Run>, lives: &mut Vec<Life>)
 
 /// The disk becomes what a crash leaves of it.
 fn crash_disk(alloc: Global, disk: &mut PlayDisk, choice: Choice)
-    ensures image { (disk_state disk.old).images (disk_state disk.new).content }
-    ensures settled { IsSettled (disk_state disk.new) }
+    ensures { IsCrashed choice disk.old disk.new }
 {
     let before = disk.replace(MemDisk::new(alloc, Vec::new(alloc)));
     disk.replace(before.crash(choice));
@@ -112,7 +116,8 @@ fn crash_disk(alloc: Global, disk: &mut PlayDisk, choice: Choice)
 
 /// What an opening that the node refused comes to: want of memory is the whole script's.
 fn refused(fault: OpenFault) -> Result<Opening, AllocError>
-    ensures { IfOk result (λ opening. opening ≡ Opening.Refused (Refusal.Open fault)) }
+    ensures ok { IfOk result (λ opening. opening ≡ Opening.Refused (Refusal.Open fault)) }
+    ensures memory { OnOk result (fault ≢ OpenFault.NoMemory) }
 {
     match fault {
         OpenFault::NoMemory => Err(AllocError),
@@ -122,15 +127,48 @@ fn refused(fault: OpenFault) -> Result<Opening, AllocError>
 
 impl Story {
     /// No disk, and no life so far.
-    pub(crate) fn new(alloc: Global, owner: Owner) -> Story
-        ensures { result ≡ record { owner = owner; apart = false; disk = None; runs = []; lives = []; life = None } }
+    pub(crate) fn new(alloc: Global) -> Story
+        ensures { result ≡ beginning }
     {
         Story {
-            owner,
+            setup: Setup::first(),
             apart: false,
             runs: Vec::new(alloc),
             lives: Vec::new(alloc),
             stage: Stage::Bare,
+        }
+    }
+
+    /// Names the group of the next opening.
+    pub(crate) fn set_group(&mut self, group: u64)
+        ensures { self.new ≡ named (record self.old.setup.settings { group = group }) self.old }
+    {
+        self.setup.settings.group = group;
+        self.apart = true;
+    }
+
+    /// Names the member of the next opening.
+    pub(crate) fn set_me(&mut self, me: Endpoint)
+        ensures { self.new ≡ named (record self.old.setup.settings { me = me }) self.old }
+    {
+        self.setup.settings.me = me;
+        self.apart = true;
+    }
+
+    /// Changes a setting of the next opening.
+    pub(crate) fn set(&mut self, setting: Setting, value: u32)
+        ensures { self.new ≡ record self.old { setup = with_setting self.old.setup setting value } }
+    {
+        self.setup.set(setting, value);
+    }
+
+    /// Whose state file the next opening is to find.
+    pub(crate) fn owner(&self) -> Owner
+        ensures { result ≡ owner_of self.now.setup.settings }
+    {
+        Owner {
+            group: self.setup.settings.group,
+            me: self.setup.settings.me,
         }
     }
 
@@ -141,15 +179,18 @@ impl Story {
         matches!(self.stage, Stage::Open(_))
     }
 
-    /// Whether there is a disk, and no member.
-    pub(crate) fn is_idle(&self) -> bool
+    /// Whether there is a disk.
+    pub(crate) fn has_disk(&self) -> bool
         ensures { result ≡ is_some self.now.disk }
     {
-        matches!(self.stage, Stage::Idle(_))
+        !matches!(self.stage, Stage::Bare)
     }
 
     /// What the disk reads, if there is one.
-    pub(crate) fn image(&self) -> Option<&[u8]> {
+    pub(crate) fn image(&self) -> Option<&[u8]>
+        ensures some { IfSome result (λ image. (disk : PlayDisks) × (self.now.disk ≡ Some disk) × (image.now ≡ (disk_state disk).content)) }
+        ensures none { result ≡ None → self.now.disk ≡ None }
+    {
         match &self.stage {
             Stage::Bare => None,
             Stage::Idle(disk) => Some(disk.inner().bytes()),
@@ -159,7 +200,9 @@ impl Story {
 
     /// The last entry of the open member's era, if it has any.
     pub(crate) fn last(&self) -> Option<&Entry>
-        ensures { IfSome result (λ e. HasTexts e.now) }
+        ensures some { IfSome result (λ e. (before : List Events) × (events_in self.now.life ≡ before ++ e.now.event ∷ [])) }
+        ensures texts { IfSome result (λ e. HasTexts e.now) }
+        ensures none { result ≡ None → events_in self.now.life ≡ [] }
     {
         match &self.stage {
             Stage::Open(living) => living.last(),
@@ -167,43 +210,29 @@ impl Story {
         }
     }
 
-    /// Names the owner of the next opening.
-    pub(crate) fn name(&mut self, owner: Owner)
-        ensures { self.new ≡ record self.old { owner = owner; apart = true } }
-    {
-        self.owner = owner;
-        self.apart = true;
-    }
-
     /// Puts another disk in the place of the one that there is.
     pub(crate) fn put(&mut self, disk: PlayDisk)
-        requires { is_some self.old.life ≡ false }
-        ensures { self.new ≡ record self.old { apart = true; disk = Some disk } }
+        requires closed { is_some self.old.life ≡ false }
+        ensures { self.new ≡ made disk self.old }
     {
         self.apart = true;
         self.stage = Stage::Idle(disk);
     }
 
     /// Opens a member on the disk, if its settings are sound. Err: the node, or the list of runs, found no memory.
-    pub(crate) fn open(
-        &mut self,
-        alloc: Global,
-        settings: Settings,
-        limit: u32,
-    ) -> Result<Opening, AllocError>
-        requires idle { is_some self.old.disk ≡ true }
-        requires owner { self.old.owner ≡ owner_of settings }
-        ensures opening { IfOk result (λ opening. IsOpening settings limit self.old self.new opening) }
-        ensures owner { self.new.owner ≡ self.old.owner }
+    pub(crate) fn open(&mut self, alloc: Global) -> Result<Opening, AllocError>
+        requires closed { is_some self.old.life ≡ false }
+        requires disk { is_some self.old.disk ≡ true }
+        ensures { IfOk result (λ opening. IfDisk self.old.disk self.old self.new (λ disk. IsOpening disk opening self.old self.new)) }
     {
-        if let Err(fault) = settings.check() {
+        if let Err(fault) = self.setup.settings.check() {
             return Ok(Opening::Refused(Refusal::Settings(fault)));
         }
         self.runs.reserve(1)?;
         let Stage::Idle(disk) = mem::replace(&mut self.stage, Stage::Bare) else {
             unreachable!()
         };
-        match Living::open(alloc, disk, settings, limit) {
+        match Living::open(alloc, disk, self.setup) {
             Ok(living) => {
                 let first = living.first();
                 if self.apart {
@@ -222,10 +251,8 @@ impl Story {
 
     /// Gives the open member an event.
     pub(crate) fn happen(&mut self, link: &mut MemoryLink, event: Event) -> Result<(), ApplyFault>
-        requires { is_some self.old.life ≡ true }
-        ensures played { result ≢ Err ApplyFault.NoMemory → self.new ≡ record self.old { life = happened event self.old.life } }
-        ensures turn { result ≢ Err ApplyFault.OutOfTurn }
-        ensures owner { self.new.owner ≡ self.old.owner }
+        requires opened { is_some self.old.life ≡ true }
+        ensures { IsAnswered event self.old.life self.old self.new result }
     {
         match &mut self.stage {
             Stage::Open(living) => living.happen(link, event),
@@ -235,9 +262,8 @@ impl Story {
 
     /// Begins an era of the open member.
     pub(crate) fn rebase(&mut self) -> Result<(), AllocError>
-        requires { is_some self.old.life ≡ true }
-        ensures ok { OnOk result (self.new ≡ record self.old { life = rebased self.old.life }) }
-        ensures owner { self.new.owner ≡ self.old.owner }
+        requires opened { is_some self.old.life ≡ true }
+        ensures { OnOk result (self.new ≡ record self.old { life = rebased self.old.life }) }
     {
         match &mut self.stage {
             Stage::Open(living) => living.rebase(),
@@ -247,9 +273,10 @@ impl Story {
 
     /// Ends the open life: the member is dropped, and the disk stays as it is.
     pub(crate) fn end(&mut self) -> Result<(), AllocError>
-        requires { is_some self.old.life ≡ true }
-        ensures ok { OnOk result (Ends self.old self.new) }
-        ensures owner { self.new.owner ≡ self.old.owner }
+        requires opened { is_some self.old.life ≡ true }
+        ensures ended { OnOk result (self.new ≡ ended self.old) }
+        ensures closed { OnOk result (is_some self.new.life ≡ false) }
+        ensures disk { OnOk result (is_some self.new.disk ≡ true) }
     {
         self.lives.reserve(1)?;
         let Stage::Open(living) = mem::replace(&mut self.stage, Stage::Bare) else {
@@ -263,8 +290,9 @@ impl Story {
 
     /// The disk becomes what a crash leaves of it.
     pub(crate) fn crash(&mut self, alloc: Global, choice: Choice)
-        requires { is_some self.old.disk ≡ true }
-        ensures { Moves self.old self.new }
+        requires closed { is_some self.old.life ≡ false }
+        requires disk { is_some self.old.disk ≡ true }
+        ensures { IfDisk self.old.disk self.old self.new (λ disk. Becomes (IsCrashed choice disk) self.old self.new) }
     {
         match &mut self.stage {
             Stage::Idle(disk) => crash_disk(alloc, disk, choice),
@@ -274,9 +302,9 @@ impl Story {
 
     /// Writes over a part of the disk, at once and for good.
     pub(crate) fn overwrite(&mut self, patch: &Patch) -> Result<(), AllocError>
-        requires { is_some self.old.disk ≡ true }
-        ensures ok { OnOk result (Moves (record self.old { apart = true }) self.new) }
-        ensures owner { self.new.owner ≡ self.old.owner }
+        requires closed { is_some self.old.life ≡ false }
+        requires disk { is_some self.old.disk ≡ true }
+        ensures { OnOk result (Becomes (λ new. AlwaysHas patch.now.at patch.now.bytes.items (disk_state new)) (record self.old { apart = true }) self.new) }
     {
         match &mut self.stage {
             Stage::Idle(disk) => {
@@ -291,7 +319,7 @@ impl Story {
 
     /// All lives, the open one among them.
     pub(crate) fn finish(mut self) -> Result<Vec<Run>, AllocError>
-        ensures told { IfOk result (λ runs. map run_of runs.items ≡ told self) }
+        ensures told { IfOk result (λ runs. map run_of runs.items ≡ all_of self) }
         ensures lived { IfOk result (λ runs. All IsRun runs.items) }
         ensures rising { IfOk result (λ runs. All IsRising runs.items) }
     {
@@ -300,7 +328,7 @@ impl Story {
         }
         self.runs.reserve(1)?;
         let Story {
-            owner: _,
+            setup: _,
             apart: _,
             mut runs,
             mut lives,

@@ -8,7 +8,7 @@ use std::alloc::{AllocError, Global};
 use std::fmt::Write;
 use swim_member::{Note, Out, Phase};
 use swim_node::{Entry, Outcome, Save, Status};
-use swim_state::{Reading, Slots};
+use swim_state::{Reading, slots_in};
 use swim_wire::{Update, UpdateKind, encode};
 
 /// The name of a phase.
@@ -139,8 +139,12 @@ fn write_slot(text: &mut String, reading: Reading) -> Result<(), AllocError> {
     }
 }
 
-/// The line of the slots of a state file.
-pub(crate) fn write_slots(text: &mut String, slots: &Slots) -> Result<(), AllocError> {
+/// The line of the slots of a state file, or of a disk that is missing.
+pub(crate) fn write_slots(text: &mut String, image: Option<&[u8]>) -> Result<(), AllocError> {
+    let Some(image) = image else {
+        return writeln!(text, "no disk");
+    };
+    let slots = slots_in(image);
     write!(text, "slots a ")?;
     write_slot(text, slots.a)?;
     write!(text, " b ")?;

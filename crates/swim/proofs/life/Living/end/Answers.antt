@@ -7,7 +7,7 @@ use Rattle.swim.proofs.life.Living.end.Goals as goal
 pub returns-clause-lived : goal.returns-clause-lived
 returns-clause-lived c =
     let living = c.self.inside in
-    let life : Life PlayDisk = record { settings = living.settings; limit = living.limit; opened = living.opened.value; first = living.node.first; eras = living.eras.items; base = living.node.base; entries = living.node.entries; left = living.node.disk } in
+    let life : Life PlayDisk = record { settings = living.setup.settings; limit = living.setup.limit; opened = living.opened.value; first = living.node.first; eras = living.eras.items; base = living.node.base; entries = living.node.entries; left = living.node.disk } in
     rw (← c.self.view_is) (record {
       same_owner = refl;
       joined = c.self.invariant.joined;

@@ -1,3 +1,4 @@
+use Rattle.swim_node.specs.Node.{owner_of}
 use Rattle.std.specs.Prelude.{All}
 use Rattle.swim.specs.Play.{IsRun}
 use Rattle.swim.proofs.Stories.{story-run}
@@ -6,10 +7,10 @@ use Rattle.swim.proofs.story.Story.finish.Goals as goal
 pub returns-clause-lived : goal.returns-clause-lived
 returns-clause-lived c =
     let story = c.self-2.inside in
-    c.close_run.ensures.kept (rw c.reserve.ensures.items c.self-2.invariant.ended) (story-run story.owner story.apart story.runs.items story.lives.items story.stage c.self-2.invariant)
+    c.close_run.ensures.kept (rw c.reserve.ensures.items c.self-2.invariant.ended) (story-run (owner_of story.setup.settings) story.apart story.runs.items story.lives.items story.stage c.self-2.invariant)
 
 pub returns-clause-rising : goal.returns-clause-rising
 returns-clause-rising c =
     let story = c.self-2.inside in
-    let lived : All IsRun c.close_run.new.runs.items = c.close_run.ensures.kept (rw c.reserve.ensures.items c.self-2.invariant.ended) (story-run story.owner story.apart story.runs.items story.lives.items story.stage c.self-2.invariant) in
+    let lived : All IsRun c.close_run.new.runs.items = c.close_run.ensures.kept (rw c.reserve.ensures.items c.self-2.invariant.ended) (story-run (owner_of story.setup.settings) story.apart story.runs.items story.lives.items story.stage c.self-2.invariant) in
     λ k d less. c.own_numbers_rise.ensures (lived k d less).owner _ (lived k d less).lives_are

@@ -1,0 +1,16 @@
+use Rattle.std.proofs.Common.{◌≡◌, sym, ◌∙◌}
+use Rattle.swim.specs.Play.{ended}
+use Rattle.swim.proofs.Openings.{crash-does, ended-none}
+use Rattle.swim.proofs.Stories.{always_ok}
+use Rattle.swim.proofs.player.Player.crash.Goals.{then-is_open+in_ok-end, else-is_open}
+use Rattle.swim.proofs.player.Player.crash.Goals as goal
+
+pub returns : goal.returns
+returns c =
+    let p = c.self.inside.story in
+    let m = c.if-is_open.self-inside.story in
+    let closed : m ≡ ended p = elim c.if-is_open.branch [
+      | then-is_open+in_ok-end w ↦ rw w.self-inside-is w.in_ok-end.ensures.ended
+      | else-is_open w ↦ rw w.self-inside-is (ended-none p (sym c.is_open.ensures ∙ w.if-is_open.false))
+    ] in
+    rw (← c.self.view_is) (always_ok _ c.writeln-2.result (crash-does p m c.crash.new.self c.args.choice closed (sym c.has_disk.ensures ∙ c.if-not-has_disk.false) c.crash.ensures))
