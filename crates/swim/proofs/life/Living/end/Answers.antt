@@ -1,13 +1,12 @@
 use Rattle.std.proofs.Common.{refl}
-use Rattle.swim_node.specs.Lives.{Life}
-use Rattle.swim.specs.Life.{PlayDisk}
+use Rattle.swim.specs.contracts.life.Living.{the_view}
 use Rattle.swim.proofs.Lives.{life-begun}
 use Rattle.swim.proofs.life.Living.end.Goals as goal
 
 pub returns-clause-lived : goal.returns-clause-lived
 returns-clause-lived c =
     let living = c.self.inside in
-    let life : Life PlayDisk = record { settings = living.setup.settings; limit = living.setup.limit; opened = living.opened.value; first = living.node.first; eras = living.eras.items; base = living.node.base; entries = living.node.entries; left = living.node.disk } in
+    let life = the_view living in
     rw (← c.self.view_is) (record {
       same_owner = refl;
       joined = c.self.invariant.joined;

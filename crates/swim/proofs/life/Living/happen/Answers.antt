@@ -1,14 +1,13 @@
 use Rattle.std.proofs.Common.{ap, refl}
 use Rattle.swim_node.specs.declared.entry.Tag.{Tag}
-use Rattle.swim_node.specs.Lives.{Life}
-use Rattle.swim.specs.Life.{PlayDisk}
+use Rattle.swim.specs.contracts.life.Living.{the_view}
 use Rattle.swim.proofs.Lives.{living-happened}
 use Rattle.swim.proofs.life.Living.happen.Goals as goal
 
 pub invariant_of-self-2 : goal.invariant_of-self-2
 invariant_of-self-2 c =
     let living = c.self.inside in
-    let life : Life PlayDisk = record { settings = living.setup.settings; limit = living.setup.limit; opened = living.opened.value; first = living.node.first; eras = living.eras.items; base = living.node.base; entries = living.node.entries; left = living.node.disk } in
+    let life = the_view living in
     let ok = c.in_ok-apply.ensures.ok in
     rw (c.apply.ensures.owner, c.apply.ensures.first, c.apply.ensures.base, ok.1.entries)
     (living-happened living.node.owner life ok.0 c.apply.new.self.disk c.self.invariant (ap (λ (t : Tag). t.caller) ok.1.tag_is))
