@@ -1,8 +1,9 @@
 -- Which line of a script says which command.
-use Rattle.std.specs.Prelude.{◌≡◌, ◌==◌, ◌||◌, ◌&&◌, ℕ, nat_le, nat_lt, if◌then◌else◌, Result, Ok, Err, ◌⊎◌, Bool, true, false, not, Option, Some, None, List, [], ◌∷◌, length, slice_index, codes}
+use Rattle.std.specs.Prelude.{◌≡◌, ◌==◌, ◌||◌, ◌&&◌, ℕ, ◌^◌, ◌<◌, ◌≤◌, nat_le, nat_lt, if◌then◌else◌, Result, Ok, Err, ◌⊎◌, Bool, true, false, not, Option, Some, None, List, [], ◌∷◌, length, slice_index, codes, All}
 use Rattle.std.specs.List.{filter, slice_split, list_all}
 use Rattle.std.specs.Borrow.{Bor}
 use Rattle.std.specs.Fmt.{decimal}
+use Rattle.swim_wire.specs.Numbers.{IsEndpoint}
 use Rattle.swim_member.specs.declared.event.Event.{Event}
 use Rattle.swim_member.specs.declared.event.Event.TheVariants as event
 use Rattle.swim_disk.specs.declared.mem.Choice.{Choice}
@@ -45,6 +46,9 @@ keyword_text keyword.Overwrite = codes "disk"
 keyword_text keyword.Slots = codes "slots"
 keyword_text keyword.Rebase = codes "rebase"
 
+abbrev pub IsKeyword : List ℕ → Keyword → Type 0
+IsKeyword word keyword = word ≡ keyword_text keyword
+
 abbrev pub setting_text : Setting → List ℕ
 setting_text setting.Lambda = codes "lambda"
 setting_text setting.Period = codes "period"
@@ -54,33 +58,60 @@ setting_text setting.Forget = codes "forget"
 setting_text setting.Helpers = codes "helpers"
 setting_text setting.Limit = codes "limit"
 
+abbrev pub IsSetting : List ℕ → Setting → Type 0
+IsSetting word setting = word ≡ setting_text setting
+
 -- a line that begins with a keyword and goes on with its arguments
 abbrev pub line : Keyword → List ℕ → List ℕ
 line keyword rest = spaced (keyword_text keyword) rest
 
+-- the line's first word is this keyword
+abbrev pub BeginsWith : List ℕ → Keyword → Type 0
+BeginsWith text keyword = (text ≡ keyword_text keyword) ⊎ ((rest : List ℕ) × (text ≡ line keyword rest))
+
+-- the keywords whose arguments are read without memory
+abbrev pub IsPlain : Keyword → Type 0
+IsPlain keyword.Receive = ⊥
+IsPlain keyword.Crash = ⊥
+IsPlain keyword.Overwrite = ⊥
+IsPlain _ = Unit {0}
+
 -- a received datagram: whence, and its bytes in hex
 pub record IsReceived (text : List ℕ) (from : ℕ) (bytes : List ℕ) : Type 0 where
   pub word : List ℕ
+  pub sender : IsEndpoint from
   pub hex : IsCut word bytes
   pub says : text ≡ line keyword.Receive (spaced (endpoint_text from) word)
 
 abbrev pub SaysEvent : List ℕ → Event → Type 0
-SaysEvent text (event.Tick word) = text ≡ line keyword.Tick (decimal word)
+SaysEvent text (event.Tick word) = (text ≡ line keyword.Tick (decimal word)) × (word < 2 ^ 32)
 SaysEvent text (event.Datagram from bytes) = IsReceived text from bytes.items
 SaysEvent text event.ReceiveFailed = text ≡ keyword_text keyword.ReceiveFailed
-SaysEvent text (event.SendFailed count) = text ≡ line keyword.SendFailed (decimal count)
-SaysEvent text (event.Join peer) = text ≡ line keyword.Join (endpoint_text peer)
+SaysEvent text (event.SendFailed count) = (text ≡ line keyword.SendFailed (decimal count)) × (count < 2 ^ 32)
+SaysEvent text (event.Join peer) = (text ≡ line keyword.Join (endpoint_text peer)) × IsEndpoint peer
 SaysEvent text event.Leave = text ≡ keyword_text keyword.Leave
 SaysEvent text (event.Members after) =
-    ((text ≡ keyword_text keyword.Members) × (after ≡ 0)) ⊎ (text ≡ line keyword.Members (endpoint_text after))
+    ((text ≡ keyword_text keyword.Members) × (after ≡ 0)) ⊎ ((text ≡ line keyword.Members (endpoint_text after)) × IsEndpoint after)
+
+-- the failure of the k-th call of the sort that the word names, of those with a word of their own
+abbrev pub IsFailure : List ℕ → ℕ → Failure → Type 0
+IsFailure word k (failure.Read n) = (word ≡ codes "read") × (n ≡ k)
+IsFailure word k (failure.Write n) = (word ≡ codes "write") × (n ≡ k)
+IsFailure word k (failure.Sync n) = (word ≡ codes "sync") × (n ≡ k)
+IsFailure word k (failure.Send n) = (word ≡ codes "send") × (n ≡ k)
+IsFailure word k _ = ⊥
+
+-- the calls of a sort that may be planned to fail: the first to the millionth
+abbrev pub IsCall : ℕ → Type 0
+IsCall k = (1 ≤ k) × (k ≤ 1000000)
 
 abbrev pub SaysFailure : List ℕ → Failure → Type 0
-SaysFailure text (failure.Read k) = text ≡ line keyword.Fail (spaced (codes "read") (decimal k))
-SaysFailure text (failure.Write k) = text ≡ line keyword.Fail (spaced (codes "write") (decimal k))
-SaysFailure text (failure.TornWrite k) = text ≡ line keyword.Tear (spaced (codes "write") (decimal k))
-SaysFailure text (failure.Sync k) = text ≡ line keyword.Fail (spaced (codes "sync") (decimal k))
-SaysFailure text (failure.Halt k) = text ≡ line keyword.Halt (decimal k)
-SaysFailure text (failure.Send k) = text ≡ line keyword.Fail (spaced (codes "send") (decimal k))
+SaysFailure text (failure.Read k) = (text ≡ line keyword.Fail (spaced (codes "read") (decimal k))) × IsCall k
+SaysFailure text (failure.Write k) = (text ≡ line keyword.Fail (spaced (codes "write") (decimal k))) × IsCall k
+SaysFailure text (failure.TornWrite k) = (text ≡ line keyword.Tear (spaced (codes "write") (decimal k))) × IsCall k
+SaysFailure text (failure.Sync k) = (text ≡ line keyword.Fail (spaced (codes "sync") (decimal k))) × IsCall k
+SaysFailure text (failure.Halt k) = (text ≡ line keyword.Halt (decimal k)) × IsCall k
+SaysFailure text (failure.Send k) = (text ≡ line keyword.Fail (spaced (codes "send") (decimal k))) × IsCall k
 
 -- what a crash is to leave of what was not synced
 abbrev pub SaysChoice : List ℕ → Choice → Type 0
@@ -102,11 +133,11 @@ pub record IsOverwrite (text : List ℕ) (patch : Patch) : Type 0 where
 
 -- the line says the command
 abbrev pub Says : List ℕ → Command → Type 0
-Says text (Group number) = text ≡ line keyword.Group (decimal number)
-Says text (Me endpoint) = text ≡ line keyword.Me (endpoint_text endpoint)
-Says text (Set setting number) = text ≡ line keyword.Set (spaced (setting_text setting) (decimal number))
+Says text (Group number) = (text ≡ line keyword.Group (decimal number)) × (number < 2 ^ 64)
+Says text (Me endpoint) = (text ≡ line keyword.Me (endpoint_text endpoint)) × IsEndpoint endpoint
+Says text (Set setting number) = (text ≡ line keyword.Set (spaced (setting_text setting) (decimal number))) × (number ≤ 1000000)
 Says text (Start first) = text ≡ line keyword.Start (decimal first.value)
-Says text (Init ceiling) = text ≡ line keyword.Init (decimal ceiling)
+Says text (Init ceiling) = (text ≡ line keyword.Init (decimal ceiling)) × (ceiling < 2 ^ 64)
 Says text Open = text ≡ keyword_text keyword.Open
 Says text (Happen event) = SaysEvent text event
 Says text (Plan failure) = SaysFailure text failure
@@ -130,10 +161,6 @@ AreSaid [] [] = Unit {0}
 AreSaid (text ∷ lines) (command ∷ commands) = Says text command × AreSaid lines commands
 AreSaid _ _ = ⊥
 
--- the script says these commands, in order
-abbrev pub IsScript : List ℕ → List Command → Type 0
-IsScript script commands = AreSaid (filter is_said (lines_of script)) commands
-
 -- the lines of what is left of a script, if anything is left
 abbrev pub and_lines : Option (Bor (List ℕ)) → List (List ℕ)
 and_lines None = []
@@ -147,6 +174,11 @@ is_printed byte = nat_le 0x20 byte && nat_le byte 0x7e
 abbrev pub judged : List ℕ → Result (Unit {0}) FaultKind
 judged text =
     if not (list_all is_printed text) then Err fault.Text else (if nat_lt 1300 (length text) then Err fault.Long else Ok tt)
+
+-- the script says these commands, in order, and its bytes have no fault
+pub record IsScript (script : List ℕ) (commands : List Command) : Type 0 where
+  pub bytes : All (λ text. judged text ≡ Ok tt) (lines_of script)
+  pub said : AreSaid (filter is_said (lines_of script)) commands
 
 -- what a line says, if it says a command
 abbrev pub SaysLine : List ℕ → Option Command → Type 0

@@ -1,6 +1,7 @@
 //! Why a script is refused.
 
-ghost use Rattle.std.specs.Prelude.{◌≡◌};
+ghost use Rattle.std.specs.Prelude.{◌≡◌, ◌≢◌};
+ghost use Rattle.swim.specs.Faults.{no_memory};
 ghost use Rattle.swim.specs.declared.fault.FaultKind.TheVariants as kinds;
 
 use std::alloc::AllocError;
@@ -52,7 +53,10 @@ impl ScriptFault {
     };
 
     /// A fault of the line with this number, unless memory ran out.
-    pub(crate) fn at(line: usize, kind: FaultKind) -> ScriptFault {
+    pub(crate) fn at(line: usize, kind: FaultKind) -> ScriptFault
+        ensures memory { kind ≡ kinds.NoMemory → result ≡ no_memory }
+        ensures fault { kind ≢ kinds.NoMemory → result ≡ record { line = line; kind = kind } }
+    {
         match kind {
             FaultKind::NoMemory => ScriptFault::NO_MEMORY,
             _ => ScriptFault { line, kind },

@@ -1,7 +1,8 @@
 //! The number that a life begins with.
 
-ghost use Rattle.std.specs.Prelude.{◌≡◌, ◌-◌, ◌^◌, ◌≤◌, IfSome};
+ghost use Rattle.std.specs.Prelude.{◌≡◌, ◌-◌, ◌^◌, ◌≤◌, IfSome, IfNone};
 ghost use Rattle.std.specs.Fmt.{decimal};
+ghost use Rattle.swim.specs.Words.{No, SaysNumber};
 
 use crate::words::read_within;
 use swim_wire::NUMBER_MAX;
@@ -24,7 +25,8 @@ impl FirstNumber {
 
 /// The number that decimal digits spell, if a life may begin with it.
 pub(crate) fn read_first(text: &[u8]) -> Option<FirstNumber>
-    ensures { IfSome result (λ first. text.now ≡ decimal first.value) }
+    ensures number { IfSome result (λ first. text.now ≡ decimal first.value) }
+    ensures none { IfNone result (No (SaysNumber text.now 1 (2 ^ 62))) }
 {
     let value = read_within(text, 1, NUMBER_MAX)?;
     Some(FirstNumber { value })

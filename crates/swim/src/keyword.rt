@@ -1,7 +1,8 @@
 //! The words that begin a line.
 
-ghost use Rattle.std.specs.Prelude.{◌≡◌, IfSome};
-ghost use Rattle.swim.specs.Commands.{keyword_text};
+ghost use Rattle.std.specs.Prelude.{◌≡◌, IfSome, IfNone};
+ghost use Rattle.swim.specs.Words.{No};
+ghost use Rattle.swim.specs.Commands.{keyword_text, IsKeyword};
 
 /// The first word of a line.
 #[derive(Clone, Copy, Debug, PartialEq, Eq)]
@@ -32,7 +33,8 @@ pub(crate) enum Keyword {
 impl Keyword {
     /// The keyword that the word is.
     pub(crate) fn of(word: &[u8]) -> Option<Keyword>
-        ensures { IfSome result (λ keyword. word.now ≡ keyword_text keyword) }
+        ensures keyword { IfSome result (λ keyword. word.now ≡ keyword_text keyword) }
+        ensures none { IfNone result (No (IsKeyword word.now)) }
     {
         match word {
             b"group" => Some(Keyword::Group),

@@ -1,9 +1,10 @@
 //! Which line says which command.
 
-ghost use Rattle.std.specs.Prelude.{◌≡◌, ◌<◌, ◌≤◌, IfSome, IfOk};
-ghost use Rattle.std.specs.Fmt.{decimal};
-ghost use Rattle.swim.specs.Words.{spaced};
-ghost use Rattle.swim.specs.Commands.{keyword_text, setting_text, line, Says, SaysFailure, SaysEvent, SaysChoice};
+ghost use Rattle.std.specs.Prelude.{◌≡◌, ◌⊎◌, IfSome, IfNone, IfOk, IfErr};
+ghost use Rattle.swim.specs.Words.{No, Refuses, SaysNumber};
+ghost use Rattle.swim.specs.Commands.{keyword_text, setting_text, IsSetting, line, IsPlain, IsFailure, Says, SaysFailure, SaysChoice};
+ghost use Rattle.swim.specs.Faults.{IsWordFault};
+ghost use Rattle.swim.specs.declared.fault.FaultKind.TheVariants as kinds;
 
 use crate::command::{Command, Failure, Setting};
 use crate::fault::FaultKind;
@@ -23,7 +24,8 @@ const COUNT_MAX: u32 = 1_000_000;
 
 /// A number of 32 bits within these bounds.
 fn read_count(text: &[u8], least: u32, most: u32) -> Option<u32>
-    ensures { IfSome result (λ number. (text.now ≡ decimal number) × (least ≤ number) × (number ≤ most)) }
+    ensures number { IfSome result (λ number. SaysNumber text.now least most number) }
+    ensures none { IfNone result (No (SaysNumber text.now least most)) }
 {
     match read_within(text, u64::from(least), u64::from(most)) {
         Some(number) => Some(number as u32),
@@ -34,7 +36,8 @@ fn read_count(text: &[u8], least: u32, most: u32) -> Option<u32>
 impl Setting {
     /// The setting that the word names.
     fn of(word: &[u8]) -> Option<Setting>
-        ensures { IfSome result (λ setting. word.now ≡ setting_text setting) }
+        ensures setting { IfSome result (λ setting. word.now ≡ setting_text setting) }
+        ensures none { IfNone result (No (IsSetting word.now)) }
     {
         match word {
             b"lambda" => Some(Setting::Lambda),
@@ -49,9 +52,26 @@ impl Setting {
     }
 }
 
+impl Failure {
+    /// The failure of a call of the sort that the word names.
+    fn of(word: &[u8], k: u32) -> Option<Failure>
+        ensures failure { IfSome result (λ failure. IsFailure word.now k failure) }
+        ensures none { IfNone result (No (IsFailure word.now k)) }
+    {
+        match word {
+            b"read" => Some(Failure::Read(k)),
+            b"write" => Some(Failure::Write(k)),
+            b"sync" => Some(Failure::Sync(k)),
+            b"send" => Some(Failure::Send(k)),
+            _ => None,
+        }
+    }
+}
+
 /// The command of a line that is a keyword alone.
 fn bare(keyword: Keyword) -> Option<Command>
-    ensures { IfSome result (λ command. Says (keyword_text keyword) command) }
+    ensures command { IfSome result (λ command. Says (keyword_text keyword) command) }
+    ensures none { IfNone result (No (Says (keyword_text keyword))) }
 {
     match keyword {
         Keyword::Open => Some(Command::Open),
@@ -69,7 +89,8 @@ fn bare(keyword: Keyword) -> Option<Command>
 
 /// The setting that the arguments set.
 fn read_set(arguments: &[u8]) -> Option<Command>
-    ensures { IfSome result (λ command. Says (line Keyword.Set arguments.now) command) }
+    ensures command { IfSome result (λ command. Says (line Keyword.Set arguments.now) command) }
+    ensures none { IfNone result (No (Says (line Keyword.Set arguments.now))) }
 {
     let (word, number) = split_at_byte(arguments, b' ')?;
     let setting = Setting::of(word)?;
@@ -79,22 +100,18 @@ fn read_set(arguments: &[u8]) -> Option<Command>
 
 /// The call that the arguments make fail.
 fn read_failure(arguments: &[u8]) -> Option<Failure>
-    ensures { IfSome result (λ failure. SaysFailure (line Keyword.Fail arguments.now) failure) }
+    ensures failure { IfSome result (λ failure. SaysFailure (line Keyword.Fail arguments.now) failure) }
+    ensures none { IfNone result (No (SaysFailure (line Keyword.Fail arguments.now))) }
 {
     let (word, number) = split_at_byte(arguments, b' ')?;
     let k = read_count(number, 1, COUNT_MAX)?;
-    match word {
-        b"read" => Some(Failure::Read(k)),
-        b"write" => Some(Failure::Write(k)),
-        b"sync" => Some(Failure::Sync(k)),
-        b"send" => Some(Failure::Send(k)),
-        _ => None,
-    }
+    Failure::of(word, k)
 }
 
 /// The write that the arguments tear.
 fn read_torn(arguments: &[u8]) -> Option<Failure>
-    ensures { IfSome result (λ failure. SaysFailure (line Keyword.Tear arguments.now) failure) }
+    ensures failure { IfSome result (λ failure. SaysFailure (line Keyword.Tear arguments.now) failure) }
+    ensures none { IfNone result (No (SaysFailure (line Keyword.Tear arguments.now))) }
 {
     let (word, number) = split_at_byte(arguments, b' ')?;
     if word != b"write".as_slice() {
@@ -104,30 +121,10 @@ fn read_torn(arguments: &[u8]) -> Option<Failure>
     Some(Failure::TornWrite(k))
 }
 
-/// The event of a keyword with arguments, but for a received datagram.
-fn read_event(keyword: Keyword, arguments: &[u8]) -> Option<Event>
-    ensures { IfSome result (λ event. SaysEvent (line keyword arguments.now) event) }
-{
-    match keyword {
-        Keyword::Tick => Some(Event::Tick {
-            word: read_count(arguments, 0, u32::MAX)?,
-        }),
-        Keyword::SendFailed => Some(Event::SendFailed {
-            count: read_count(arguments, 0, u32::MAX)?,
-        }),
-        Keyword::Join => Some(Event::Join {
-            peer: read_endpoint(arguments)?,
-        }),
-        Keyword::Members => Some(Event::Members {
-            after: Cursor::at(read_endpoint(arguments)?),
-        }),
-        _ => None,
-    }
-}
-
 /// The command of a keyword with arguments, for those that take no memory.
 fn read_plain(keyword: Keyword, arguments: &[u8]) -> Option<Command>
-    ensures { IfSome result (λ command. Says (line keyword arguments.now) command) }
+    ensures command { IfSome result (λ command. Says (line keyword arguments.now) command) }
+    ensures none { IfNone result (IsPlain keyword → No (Says (line keyword arguments.now))) }
 {
     match keyword {
         Keyword::Group => Some(Command::Group(read_number(arguments)?)),
@@ -138,13 +135,26 @@ fn read_plain(keyword: Keyword, arguments: &[u8]) -> Option<Command>
         Keyword::Fail => Some(Command::Plan(read_failure(arguments)?)),
         Keyword::Tear => Some(Command::Plan(read_torn(arguments)?)),
         Keyword::Halt => Some(Command::Plan(Failure::Halt(read_count(arguments, 1, COUNT_MAX)?))),
-        _ => Some(Command::Happen(read_event(keyword, arguments)?)),
+        Keyword::Tick => Some(Command::Happen(Event::Tick {
+            word: read_count(arguments, 0, u32::MAX)?,
+        })),
+        Keyword::SendFailed => Some(Command::Happen(Event::SendFailed {
+            count: read_count(arguments, 0, u32::MAX)?,
+        })),
+        Keyword::Join => Some(Command::Happen(Event::Join {
+            peer: read_endpoint(arguments)?,
+        })),
+        Keyword::Members => Some(Command::Happen(Event::Members {
+            after: Cursor::at(read_endpoint(arguments)?),
+        })),
+        _ => None,
     }
 }
 
 /// The received datagram that the arguments give.
 fn read_received(alloc: Global, arguments: &[u8]) -> Result<Command, FaultKind>
-    ensures { IfOk result (λ command. Says (line Keyword.Receive arguments.now) command) }
+    ensures command { IfOk result (λ command. Says (line Keyword.Receive arguments.now) command) }
+    ensures none { IfErr result (λ kind. Refuses kind (Says (line Keyword.Receive arguments.now))) }
 {
     let (from, word) = split_at_byte(arguments, b' ').ok_or(FaultKind::Argument)?;
     let from = read_endpoint(from).ok_or(FaultKind::Argument)?;
@@ -154,7 +164,8 @@ fn read_received(alloc: Global, arguments: &[u8]) -> Result<Command, FaultKind>
 
 /// What a crash leaves of what was not synced.
 fn read_choice(alloc: Global, arguments: &[u8]) -> Result<Choice, FaultKind>
-    ensures { IfOk result (λ choice. SaysChoice arguments.now choice) }
+    ensures choice { IfOk result (λ choice. SaysChoice arguments.now choice) }
+    ensures none { IfErr result (λ kind. Refuses kind (SaysChoice arguments.now)) }
 {
     if arguments == b"keep".as_slice() {
         return Ok(Choice::Keep);
@@ -171,7 +182,8 @@ fn read_choice(alloc: Global, arguments: &[u8]) -> Result<Choice, FaultKind>
 
 /// The part of the disk that the arguments write over.
 fn read_patch(alloc: Global, arguments: &[u8]) -> Result<Command, FaultKind>
-    ensures { IfOk result (λ command. Says (line Keyword.Overwrite arguments.now) command) }
+    ensures command { IfOk result (λ command. Says (line Keyword.Overwrite arguments.now) command) }
+    ensures none { IfErr result (λ kind. Refuses kind (Says (line Keyword.Overwrite arguments.now))) }
 {
     let (at, word) = split_at_byte(arguments, b' ').ok_or(FaultKind::Argument)?;
     let at = read_number(at).ok_or(FaultKind::Argument)?;
@@ -182,7 +194,8 @@ fn read_patch(alloc: Global, arguments: &[u8]) -> Result<Command, FaultKind>
 
 /// The command that a line says, or the first of Command, Argument and NoMemory.
 pub(crate) fn read_command(alloc: Global, text: &[u8]) -> Result<Command, FaultKind>
-    ensures { IfOk result (λ command. Says text.now command) }
+    ensures command { IfOk result (λ command. Says text.now command) }
+    ensures fault { IfErr result (λ kind. (kind ≡ kinds.NoMemory) ⊎ IsWordFault text.now kind) }
 {
     let Some((word, arguments)) = split_at_byte(text, b' ') else {
         let keyword = Keyword::of(text).ok_or(FaultKind::Command)?;

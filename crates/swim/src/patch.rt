@@ -1,6 +1,6 @@
 //! Bytes that a line writes over a disk.
 
-ghost use Rattle.std.specs.Prelude.{◌≡◌, ◌+◌, ◌≤◌, length, IfOk, IfSome};
+ghost use Rattle.std.specs.Prelude.{◌≡◌, ◌+◌, ◌<◌, ◌≤◌, length, IfOk, IfSome, IfNone};
 ghost use Rattle.swim_disk.specs.MemDisk.{state_of};
 ghost use Rattle.swim_disk.specs.Part.{AlwaysHas};
 
@@ -18,7 +18,8 @@ pub struct Patch {
 impl Patch {
     /// These bytes at this offset, unless they would end past the room of a disk.
     pub(crate) fn new(at: u64, bytes: Vec<u8>) -> Option<Patch>
-        ensures { IfSome result (λ patch. (patch.at ≡ at) × (patch.bytes ≡ bytes)) }
+        ensures patch { IfSome result (λ patch. (patch.at ≡ at) × (patch.bytes ≡ bytes)) }
+        ensures none { IfNone result (65536 < at + length bytes.items) }
     {
         if at > MOST_BYTES || bytes.len() as u64 > MOST_BYTES - at {
             return None;

@@ -1,7 +1,8 @@
 //! Plays the commands of a script.
 
-ghost use Rattle.std.specs.Prelude.{◌≡◌, ℕ, List, None, Some, true, false, is_some, map, All, OnOk, IfOk};
+ghost use Rattle.std.specs.Prelude.{◌≡◌, ℕ, List, None, Some, true, false, is_some, map, All, OnOk, IfOk, IfErr};
 ghost use Rattle.swim.specs.Commands.{IsScript};
+ghost use Rattle.swim.specs.Faults.{IsFirstFault};
 ghost use Rattle.swim.specs.declared.command.Command.{Command as Commands};
 ghost use Rattle.swim.specs.declared.command.Failure.{Failure as Failures};
 ghost use Rattle.swim.specs.Play.{ArePlayed, Does, IfDisk, IsMade, Opens, IsRun, IsRising, Plays, all_of, beginning, run_of};
@@ -290,7 +291,8 @@ fn run(alloc: Global, commands: Vec<Command>) -> Result<Transcript, AllocError>
 /// one disk, one after another, and every own number of a later one is above every own number of an earlier one. Err:
 /// the first fault of the first faulty line, and nothing has run; or 5 NoMemory with line 0, where memory ran out.
 pub fn play(alloc: Global, script: &[u8]) -> Result<Transcript, ScriptFault>
-    ensures { IfOk result (λ transcript. (commands : List Commands) × IsScript script.now commands × ArePlayed commands transcript.lives.items) }
+    ensures played { IfOk result (λ transcript. (commands : List Commands) × IsScript script.now commands × ArePlayed commands transcript.lives.items) }
+    ensures err { IfErr result (λ fault. IsFirstFault script.now fault) }
 {
     let commands = read_script(alloc, script)?;
     run(alloc, commands).map_err(|_| ScriptFault::NO_MEMORY)

@@ -1,8 +1,10 @@
 //! A script as a whole, which is read before any of it runs.
 
-ghost use Rattle.std.specs.Prelude.{◌≡◌, ◌==◌, ℕ, ◌+◌, ◌≤◌, ◌<◌, ◌∷◌, [], ◌++◌, List, length, slice_index, IfOk, IfSome, IsTrue, ◌↔◌};
-ghost use Rattle.std.specs.List.{slice_split, filter, list_all};
-ghost use Rattle.swim.specs.Commands.{is_said, lines_of, AreSaid, IsScript, and_lines, SaysLine, is_printed, judged};
+ghost use Rattle.std.specs.Prelude.{◌≡◌, ◌==◌, ◌+◌, ◌<◌, ◌∷◌, length, Ok, IfOk, IfErr, OnOk, IfSome, ◌⊎◌};
+ghost use Rattle.std.specs.List.{list_all};
+ghost use Rattle.swim.specs.Commands.{is_said, lines_of, IsScript, and_lines, SaysLine, is_printed, judged};
+ghost use Rattle.swim.specs.Faults.{IsFaultOf, IsFirstFault};
+ghost use Rattle.swim.specs.declared.fault.FaultKind.TheVariants as kinds;
 
 use crate::command::Command;
 use crate::fault::{FaultKind, ScriptFault};
@@ -57,7 +59,9 @@ fn check_line(line: &[u8]) -> Result<(), FaultKind>
 
 /// The command that a line says, or none where the line is empty or a comment.
 fn read_line(alloc: Global, line: &[u8]) -> Result<Option<Command>, FaultKind>
-    ensures { IfOk result (λ said. SaysLine line.now said) }
+    ensures bytes { OnOk result (judged line.now ≡ Ok tt) }
+    ensures said { IfOk result (λ said. SaysLine line.now said) }
+    ensures fault { IfErr result (λ kind. (kind ≡ kinds.NoMemory) ⊎ IsFaultOf line.now kind) }
 {
     check_line(line)?;
     if !is_command(line) {
@@ -69,7 +73,8 @@ fn read_line(alloc: Global, line: &[u8]) -> Result<Option<Command>, FaultKind>
 
 /// The commands of the script, in order, or the first fault of its first faulty line.
 pub(crate) fn read_script(alloc: Global, script: &[u8]) -> Result<Vec<Command>, ScriptFault>
-    ensures { IfOk result (λ commands. IsScript script.now commands.items) }
+    ensures commands { IfOk result (λ commands. IsScript script.now commands.items) }
+    ensures fault { IfErr result (λ fault. IsFirstFault script.now fault) }
 {
     let mut commands = Vec::new(alloc);
     let mut rest = Some(script);
@@ -77,7 +82,7 @@ pub(crate) fn read_script(alloc: Global, script: &[u8]) -> Result<Vec<Command>, 
     while let Some(text) = rest {
         let (line, next) = split_line(text);
         rest = next;
-        number = number.saturating_add(1);
+        number += 1;
         match read_line(alloc, line) {
             Ok(Some(command)) => {
                 if commands.push(command).is_err() {

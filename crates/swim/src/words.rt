@@ -1,9 +1,9 @@
 //! The words of a line: numbers, endpoints and hex, as scripts write them.
 
-ghost use Rattle.std.specs.Prelude.{◌≡◌, ℕ, ◌+◌, ◌*◌, ◌^◌, ◌<◌, ◌≤◌, ◌∷◌, ◌++◌, [], length, take, Some, IfSome, Ok, IfOk};
+ghost use Rattle.std.specs.Prelude.{◌≡◌, ◌≢◌, ◌⊎◌, ℕ, ◌+◌, ◌*◌, ◌^◌, ◌<◌, ◌∷◌, List, [], take, Some, IfSome, IfNone, Ok, IfOk, IfErr};
 ghost use Rattle.hex.specs.Hex.{decode_of};
 ghost use Rattle.std.specs.Fmt.{decimal};
-ghost use Rattle.swim.specs.Words.{split_by, endpoint_text, IsBytes, IsCut};
+ghost use Rattle.swim.specs.Words.{No, Refuses, Lacks, split_by, SaysNumber, SaysEndpoint, IsBytes, IsCut};
 
 use crate::fault::FaultKind;
 use arrayvec::ArrayVec;
@@ -17,7 +17,9 @@ const HEX_MAX: usize = 600;
 
 /// What stands before the first such byte, and what stands after it; none where it isn't there.
 pub(crate) fn split_at_byte(text: &[u8], byte: u8) -> Option<(&[u8], &[u8])>
-    ensures { IfSome result (λ parts. text.now ≡ split_by byte parts.0.now parts.1.now) }
+    ensures parts { IfSome result (λ parts. text.now ≡ split_by byte parts.0.now parts.1.now) }
+    ensures first { IfSome result (λ parts. Lacks byte parts.0.now) }
+    ensures none { IfNone result (Lacks byte text.now) }
 {
     for (index, found) in text.iter().enumerate() {
         if *found == byte {
@@ -29,7 +31,8 @@ pub(crate) fn split_at_byte(text: &[u8], byte: u8) -> Option<(&[u8], &[u8])>
 
 /// The value of a decimal digit.
 fn read_digit(byte: u8) -> Option<u64>
-    ensures { IfSome result (λ digit. (digit < 10) × (byte ≡ 48 + digit)) }
+    ensures digit { IfSome result (λ digit. (digit < 10) × (byte ≡ 48 + digit)) }
+    ensures none { IfNone result ((byte < 48) ⊎ (57 < byte)) }
 {
     if byte.is_ascii_digit() {
         return Some(u64::from(byte - b'0'));
@@ -39,7 +42,8 @@ fn read_digit(byte: u8) -> Option<u64>
 
 /// The number that decimal digits without leading zeros spell, at most 2^64 - 1.
 pub(crate) fn read_number(text: &[u8]) -> Option<u64>
-    ensures { IfSome result (λ number. text.now ≡ decimal number) }
+    ensures number { IfSome result (λ number. text.now ≡ decimal number) }
+    ensures none { IfNone result ((number : ℕ) → number < 2 ^ 64 → text.now ≢ decimal number) }
 {
     let (first, others) = text.split_first()?;
     let mut number = read_digit(*first)?;
@@ -54,33 +58,36 @@ pub(crate) fn read_number(text: &[u8]) -> Option<u64>
 
 /// A number from `least` to `most`.
 pub(crate) fn read_within(text: &[u8], least: u64, most: u64) -> Option<u64>
-    ensures { IfSome result (λ number. (text.now ≡ decimal number) × (least ≤ number) × (number ≤ most)) }
+    ensures number { IfSome result (λ number. SaysNumber text.now least most number) }
+    ensures none { IfNone result (No (SaysNumber text.now least most)) }
 {
-    read_number(text).filter(|number| least <= *number && *number <= most)
+    let number = read_number(text)?;
+    if number < least || most < number {
+        return None;
+    }
+    Some(number)
 }
 
-/// One of the four numbers of an address.
-fn read_byte(text: &[u8]) -> Option<u8>
-    ensures { IfSome result (λ byte. text.now ≡ decimal byte) }
+/// One of the four numbers of an address, and what stands after the byte that ends it, which is no digit.
+fn read_before(text: &[u8], byte: u8) -> Option<(u8, &[u8])>
+    requires apart { (byte < 48) ⊎ (57 < byte) }
+    ensures parts { IfSome result (λ parts. (parts.0 < 256) × (text.now ≡ split_by byte (decimal parts.0) parts.1.now)) }
+    ensures none { IfNone result ((number : ℕ) (rest : List ℕ) → number < 256 → text.now ≢ split_by byte (decimal number) rest) }
 {
-    match read_within(text, 0, 255) {
-        Some(number) => Some(number as u8),
-        None => None,
-    }
+    let (word, rest) = split_at_byte(text, byte)?;
+    let number = read_within(word, 0, 255)?;
+    Some((number as u8, rest))
 }
 
 /// An endpoint, as `10.0.0.1:7000`.
 pub(crate) fn read_endpoint(text: &[u8]) -> Option<Endpoint>
-    ensures { IfSome result (λ endpoint. text.now ≡ endpoint_text endpoint) }
+    ensures endpoint { IfSome result (λ endpoint. SaysEndpoint text.now endpoint) }
+    ensures none { IfNone result (No (SaysEndpoint text.now)) }
 {
-    let (first, rest) = split_at_byte(text, b'.')?;
-    let (second, rest) = split_at_byte(rest, b'.')?;
-    let (third, rest) = split_at_byte(rest, b'.')?;
-    let (fourth, port) = split_at_byte(rest, b':')?;
-    let first = read_byte(first)?;
-    let second = read_byte(second)?;
-    let third = read_byte(third)?;
-    let fourth = read_byte(fourth)?;
+    let (first, rest) = read_before(text, b'.')?;
+    let (second, rest) = read_before(rest, b'.')?;
+    let (third, rest) = read_before(rest, b'.')?;
+    let (fourth, port) = read_before(rest, b':')?;
     let port = read_within(port, 1, 65535)?;
     Endpoint::new(
         u32::from_be_bytes([first, second, third, fourth]),
@@ -90,7 +97,8 @@ pub(crate) fn read_endpoint(text: &[u8]) -> Option<Endpoint>
 
 /// Bytes as hex digits, two a byte in either case.
 fn decode_hex(alloc: Global, word: &[u8]) -> Result<Vec<u8>, FaultKind>
-    ensures { IfOk result (λ bytes. decode_of word.now ≡ Ok bytes.items) }
+    ensures bytes { IfOk result (λ bytes. decode_of word.now ≡ Ok bytes.items) }
+    ensures none { IfErr result (λ kind. Refuses kind (λ bytes. decode_of word.now ≡ Ok bytes)) }
 {
     match hex::decode(alloc, word) {
         Ok(bytes) => Ok(bytes),
@@ -115,7 +123,8 @@ fn cut(bytes: &[u8]) -> ArrayVec<u8, RECEIVED_MAX>
 
 /// Bytes as hex digits; `-` for none.
 pub(crate) fn read_bytes(alloc: Global, word: &[u8]) -> Result<Vec<u8>, FaultKind>
-    ensures { IfOk result (λ bytes. IsBytes word.now bytes.items) }
+    ensures bytes { IfOk result (λ bytes. IsBytes word.now bytes.items) }
+    ensures none { IfErr result (λ kind. Refuses kind (IsBytes word.now)) }
 {
     if word == b"-".as_slice() {
         return Ok(Vec::new(alloc));
@@ -128,7 +137,8 @@ pub(crate) fn read_bytes(alloc: Global, word: &[u8]) -> Result<Vec<u8>, FaultKin
 
 /// The byte that two hex digits spell.
 pub(crate) fn read_hex_byte(alloc: Global, word: &[u8]) -> Result<u8, FaultKind>
-    ensures { IfOk result (λ byte. decode_of word.now ≡ Ok (byte ∷ [])) }
+    ensures byte { IfOk result (λ byte. decode_of word.now ≡ Ok (byte ∷ [])) }
+    ensures none { IfErr result (λ kind. Refuses kind (λ byte. decode_of word.now ≡ Ok (byte ∷ []))) }
 {
     let bytes = decode_hex(alloc, word)?;
     match bytes.as_slice() {
@@ -139,7 +149,8 @@ pub(crate) fn read_hex_byte(alloc: Global, word: &[u8]) -> Result<u8, FaultKind>
 
 /// The bytes of a datagram, at most 600 of which 513 are kept; `-` for none.
 pub(crate) fn read_hex(alloc: Global, word: &[u8]) -> Result<ArrayVec<u8, RECEIVED_MAX>, FaultKind>
-    ensures { IfOk result (λ bytes. IsCut word.now bytes.items) }
+    ensures bytes { IfOk result (λ bytes. IsCut word.now bytes.items) }
+    ensures none { IfErr result (λ kind. Refuses kind (IsCut word.now)) }
 {
     if word.len() > 2 * HEX_MAX {
         return Err(FaultKind::Argument);

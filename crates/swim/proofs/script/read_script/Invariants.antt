@@ -1,19 +1,13 @@
-use Rattle.std.proofs.Common.{ℕ, ◌+◌, List, ◌++◌, length, Some, None}
-use Rattle.std.specs.Prelude.{Option}
-use Rattle.std.specs.List.{filter}
-use Rattle.std.specs.Borrow.{Bor}
-use Rattle.swim.specs.declared.command.Command.{Command}
-use Rattle.swim.specs.Commands.{is_said, lines_of, and_lines, AreSaid}
+use Rattle.std.proofs.Common.{◌+◌, ◌≤◌, length}
+use Rattle.swim.proofs.Scripts.{AreRead, left}
 use Rattle.swim.proofs.script.read_script.Given as goal
 
--- the commands so far, with those of what is left, are those of the script
+-- the lines so far were read, and each of them took a byte at least
 abbrev pub invariant-loop-rest : goal.invariant-loop-rest
-invariant-loop-rest l =
-    (tail : List Command) → AreSaid (filter is_said (and_lines l.rest)) tail → AreSaid (filter is_said (lines_of l.script)) (l.commands.items ++ tail)
-
-abbrev left : Option (Bor (List ℕ)) → ℕ
-left None = 0
-left (Some rest) = length rest.now + 1
+invariant-loop-rest l = record {
+  read : AreRead l.script l.rest l.commands.items l.number;
+  room : l.number + left l.rest ≤ length l.script + 1;
+}
 
 abbrev pub decreases-loop-rest : goal.decreases-loop-rest
 decreases-loop-rest l = left l.rest
