@@ -1,6 +1,7 @@
 //! The buffer.
 
 ghost use Rattle.std.specs.Prelude.{◌≡◌, ℕ, ◌+◌, ◌<◌, ◌≤◌, ◌==◌, List, [], ◌∷◌, ◌++◌, length, map, take, filter, not, All};
+ghost use Rattle.swim_wire.specs.Blank.{blank};
 ghost use Rattle.swim_gossip.specs.Queue.{without, offered, sent_times, in_turn, least_count, place, picked, is_about_any, raise, raised, raise_all, update_of, AreApart};
 
 use arrayvec::ArrayVec;
@@ -18,7 +19,9 @@ pub struct Waiting {
 }
 
 impl Default for Waiting {
-    fn default() -> Waiting {
+    fn default() -> Waiting
+        ensures { result ≡ record { update = blank; count = 0 } }
+    {
         Waiting {
             update: Update::default(),
             count: 0,

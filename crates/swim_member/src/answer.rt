@@ -27,7 +27,9 @@ pub struct Out {
 
 /// What fills the unused places of a list.
 impl Default for Out {
-    fn default() -> Out {
+    fn default() -> Out
+        ensures { result ≡ record { to = 1; datagram = record { kind = Kind.Ping; group = 0; seq = 0; sender = 1; subject = 0; updates = record { items = [] } } } }
+    {
         Out {
             to: Endpoint::default(),
             datagram: Datagram {

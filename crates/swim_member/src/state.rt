@@ -54,7 +54,9 @@ pub struct Relay {
 
 /// What fills the unused places of a list.
 impl Default for Relay {
-    fn default() -> Relay {
+    fn default() -> Relay
+        ensures { result ≡ record { target = 1; seq = 0; asker = 1; asked = 0; made = 0 } }
+    {
         Relay {
             target: Endpoint::default(),
             seq: 0,

@@ -17,10 +17,10 @@ use Rattle.swim_node.specs.Owns.{owns_in, AreAtMost, AreAtLeast, greatest_with, 
 pub calls_by-append : (c : ℕ) (xs ys : List Entry) → calls_by c (xs ++ ys) ≡ calls_by c xs ++ calls_by c ys
 calls_by-append c xs ys = filter-append (is_by c) xs ys
 
-pub length-calls_by : (c : ℕ) (xs : List Entry) → length (calls_by c xs) ≤ length xs
-length-calls_by c [] = omega arith
-length-calls_by c (x ∷ xs) =
-    let rest = length-calls_by c xs in
+pub few_calls_by : (c : ℕ) (xs : List Entry) → length (calls_by c xs) ≤ length xs
+few_calls_by c [] = omega arith
+few_calls_by c (x ∷ xs) =
+    let rest = few_calls_by c xs in
     elim (cases_Bool (x.tag.caller == c)) [ inl t ↦ rw t (omega arith) | inr f ↦ rw f (omega arith) ]
 
 pub steps-append : (xs ys : List Entry) → steps (xs ++ ys) ≡ steps xs ++ steps ys

@@ -7,14 +7,16 @@ use Rattle.swim_member.specs.declared.event.Event.{Event}
 use Rattle.swim_member.specs.declared.settings.Settings.{Settings}
 use Rattle.swim_member.specs.Fit.{AreAll, own_numbers_in}
 use Rattle.swim_node.specs.declared.base.Base.{Base as Start}
+use Rattle.swim_node.specs.declared.entering.Done.{Done}
 use Rattle.swim_node.specs.declared.entry.Entry.{Entry}
+use Rattle.swim_node.specs.declared.entry.Status.{Status}
 use Rattle.swim_node.specs.declared.entry.Tag.{Tag}
 use Rattle.swim_node.specs.declared.entry.Reply.{Reply}
 use Rattle.swim_node.specs.declared.entry.Save.TheVariants.{Kept, Failed}
 use Rattle.swim_node.specs.declared.fault.ApplyFault.{ApplyFault}
 use Rattle.swim_node.specs.declared.fault.ApplyFault.TheVariants.{NoMemory, EraFull, OutOfTurn}
 use Rattle.swim_node.specs.declared.fault.OpenFault.{OpenFault}
-use Rattle.swim_node.specs.History.{Base, IsLegal, state_after, granted_of, calls_by}
+use Rattle.swim_node.specs.History.{Base, IsLegal, state_after, granted_of, calls_by, taken_in, lost_in}
 use Rattle.swim_node.specs.Sending.{HasTexts}
 use Rattle.swim_node.specs.Owns.{owns, greatest, AreAtMost, AreAtLeast}
 
@@ -80,6 +82,18 @@ pub record Ran {D : Type 0} (old new : NodeView D) (calls : List (Tag × Event))
 abbrev pub disk_of : {D : Type 0} → Result (NodeView D) (D × OpenFault) → D
 disk_of (Ok node) = node.disk
 disk_of (Err refused) = refused.0
+
+-- the entry of a call that did this, with the status after it
+abbrev pub entered : Tag → Event → Done → Status → Entry
+entered tag event done status = record {
+  tag = tag;
+  event = event;
+  granted = done.granted;
+  save = done.save;
+  outs = done.outs;
+  outcomes = done.outcomes;
+  reply = record { status = status; notes = done.notes; page = done.page; sent = taken_in done.outcomes.items; lost = lost_in done.outcomes.items };
+}
 
 -- one entry came: this caller's, with this event and this reply
 pub record Added {D : Type 0} (keeps : Type 0) (state : D → DiskState) (old new : NodeView D) (tag : Tag) (event : Event) (reply : Reply) (e : Entry) : Type 0 where

@@ -1,5 +1,7 @@
 //! What a history is made of, as plain data.
 
+ghost use Rattle.std.specs.Prelude.{◌≡◌};
+
 use arrayvec::ArrayVec;
 use swim_member::{Event, NOTES_MAX, Note, OUTS_MAX, Out, Phase};
 use swim_wire::{UPDATES_MAX, Update};
@@ -35,7 +37,9 @@ pub enum Outcome {
 
 /// Lost: what fills the unused places of a list.
 impl Default for Outcome {
-    fn default() -> Outcome {
+    fn default() -> Outcome
+        ensures { result ≡ Outcome.Lost }
+    {
         Outcome::Lost
     }
 }

@@ -57,6 +57,7 @@ impl Journal {
     }
 
     /// How many entries a caller has.
+    #[tactic(auto, using(crate::proofs::Lists::few_calls_by))]
     pub(crate) fn turns(&self, caller: u8) -> u32
         requires { caller < 16 }
         ensures value { result ≡ length (calls_by caller self.now.entries) }

@@ -1,6 +1,7 @@
 //! A link in memory that fails by a plan.
 
-ghost use Rattle.std.specs.Prelude.{◌≡◌, ◌+◌, ◌++◌, ◌∷◌, [], None, Some};
+ghost use Rattle.std.specs.Prelude.{◌≡◌, ◌+◌, ◌++◌, ◌∷◌, [], Some, None};
+ghost use Rattle.swim_node.specs.Link.{is_due, plan_after};
 
 use crate::{Link, LinkFault};
 use http_server::Log;
@@ -52,15 +53,17 @@ impl MemoryLink {
 
     /// The k-th send from now on fails, and only that one. 0 counts as 1.
     pub fn lose(&mut self, k: u64)
-        ensures same { (self.new.taken ≡ self.old.taken) × (self.new.failures ≡ self.old.failures) × (self.new.number ≡ self.old.number) }
         ensures plan { self.new.loses ≡ Some k }
+        ensures rest { (self.new.taken ≡ self.old.taken) × (self.new.failures ≡ self.old.failures) × (self.new.number ≡ self.old.number) }
     {
         self.loses = Some(k);
     }
 
     /// Whether the plan loses this send.
     fn is_lost(&mut self) -> bool
-        ensures { (self.new.taken ≡ self.old.taken) × (self.new.failures ≡ self.old.failures) × (self.new.number ≡ self.old.number) }
+        ensures due { result ≡ is_due self.old.loses }
+        ensures plan { self.new.loses ≡ plan_after self.old.loses }
+        ensures rest { (self.new.taken ≡ self.old.taken) × (self.new.failures ≡ self.old.failures) × (self.new.number ≡ self.old.number) }
     {
         match self.loses {
             None => false,
@@ -77,7 +80,8 @@ impl MemoryLink {
 
     /// Counts a failure.
     fn failed(&mut self) -> LinkFault
-        ensures { (self.new.taken ≡ self.old.taken) × (length self.new.failures.items ≡ length self.old.failures.items + 1) × (self.new.number ≡ self.old.number) }
+        ensures failures { length self.new.failures.items ≡ length self.old.failures.items + 1 }
+        ensures rest { (self.new.taken ≡ self.old.taken) × (self.new.loses ≡ self.old.loses) × (self.new.number ≡ self.old.number) }
     {
         self.failures = self.failures.and(&0, &0);
         LinkFault
@@ -85,7 +89,7 @@ impl MemoryLink {
 }
 
 impl Link for MemoryLink {
-    ghost use Rattle.std.specs.Prelude.{length, map};
+    ghost use Rattle.std.specs.Prelude.{length, map, true, IsErr, MatchResult};
     ghost use Rattle.swim_node.specs.Link.{numbered, took_by};
 
     ghost name = { λ l. numbered l.number };
@@ -96,7 +100,15 @@ impl Link for MemoryLink {
 
     ghost failures = { λ l. length l.failures.items };
 
-    fn send(&mut self, to: Endpoint, bytes: &[u8]) -> Result<(), LinkFault> {
+    fn send(&mut self, to: Endpoint, bytes: &[u8]) -> Result<(), LinkFault>
+        ensures name { self.new.number ≡ self.old.number }
+        ensures failures { MatchResult result (λ _. length self.new.failures.items ≡ length self.old.failures.items) (λ _. length self.new.failures.items ≡ length self.old.failures.items + 1) }
+        ensures took { MatchResult result (λ _. took_by self.new.taken.items ≡ took_by self.old.taken.items ++ (to, bytes.now) ∷ []) (λ _. took_by self.new.taken.items ≡ took_by self.old.taken.items) }
+
+        // A datagram whose turn the plan names is not taken.
+        ensures due { is_due self.old.loses ≡ true → IsErr result }
+        ensures plan { self.new.loses ≡ plan_after self.old.loses }
+    {
         if self.is_lost() {
             return Err(self.failed());
         }

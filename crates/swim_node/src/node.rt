@@ -4,14 +4,14 @@ ghost use Rattle.std.specs.Prelude.{◌≡◌, ◌≢◌, ◌+◌, ◌<◌, ◌�
 ghost use Rattle.swim_state.specs.Held.{Held, HeldSince, Through, Covers};
 ghost use Rattle.swim_node.specs.History.{calls_by, status_at, status_of, IsLegal, granted_of};
 ghost use Rattle.swim_node.specs.Owns.{owns, AreAtMost, AreAtLeast};
-ghost use Rattle.swim_node.specs.Node.{Added, IsTurn, Refused, base_of, rebased};
+ghost use Rattle.swim_node.specs.Node.{Added, IsTurn, Refused, base_of, entered, rebased};
 ghost use Rattle.swim_node.specs.Sending.{Sends, HasTexts};
 ghost use Rattle.swim_member.specs.Events.{state_of};
 
 use crate::base::Base;
 use crate::copies::copy_reply;
 use crate::counts::{count_lost, count_taken, greatest_own};
-use crate::entering::enter;
+use crate::entering::{Done, enter};
 use crate::journal::Journal;
 use crate::{ApplyFault, Entry, Era, Link, Reply, Status, Tag};
 use std::marker::Model;
@@ -67,6 +67,28 @@ fn base_at(member: &Member, granted: u64, past: Option<u64>, limit: u32) -> Base
         granted,
         past,
         limit,
+    }
+}
+
+/// The entry of a call that did this, with the status after it.
+fn entry_of(tag: Tag, event: Event, done: Done, status: Status) -> Entry
+    ensures { result ≡ entered tag event done status }
+{
+    let reply = Reply {
+        status,
+        notes: done.notes,
+        page: done.page,
+        sent: count_taken(&done.outcomes),
+        lost: count_lost(&done.outcomes),
+    };
+    Entry {
+        tag,
+        event,
+        granted: done.granted,
+        save: done.save,
+        outs: done.outs,
+        outcomes: done.outcomes,
+        reply,
     }
 }
 
@@ -244,24 +266,11 @@ impl<D: Disk> Node<D> {
             return Err(ApplyFault::NoMemory);
         }
         let done = enter(&mut self.member, &mut self.store, link, &event);
-        let reply = Reply {
-            status: status_now(&self.member, self.journal.entries().len() + 1),
-            notes: done.notes,
-            page: done.page,
-            sent: count_taken(&done.outcomes),
-            lost: count_lost(&done.outcomes),
-        };
-        let told = copy_reply(&reply);
         self.most = greatest_own(&done.outs, self.member.settings().me, self.most);
-        self.journal.push(Entry {
-            tag,
-            event,
-            granted: done.granted,
-            save: done.save,
-            outs: done.outs,
-            outcomes: done.outcomes,
-            reply,
-        });
+        let status = status_now(&self.member, self.journal.entries().len() + 1);
+        let entry = entry_of(tag, event, done, status);
+        let told = copy_reply(&entry.reply);
+        self.journal.push(entry);
         Ok(told)
     }
 }

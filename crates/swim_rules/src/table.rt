@@ -1,6 +1,7 @@
 //! The table of the other members.
 
 ghost use Rattle.std.specs.Prelude.{◌≡◌, ◌≢◌, ℕ, ◌+◌, ◌<◌, ◌≤◌, IsTrue, List, length, MatchResult, true, slice_get, slice_set, slice_index_or, nat_le, []};
+ghost use Rattle.swim_wire.specs.Blank.{blank};
 ghost use Rattle.std.specs.List.{find, filter, insert, remove, position_or_len};
 ghost use Rattle.std.specs.Option.{option_map, option_copied};
 ghost use Rattle.swim_rules.specs.Rules.{Told, row, rows};
@@ -24,7 +25,9 @@ pub struct Row {
 }
 
 impl Default for Row {
-    fn default() -> Row {
+    fn default() -> Row
+        ensures { result ≡ record { update = blank; since = 0 } }
+    {
         Row {
             update: Update::default(),
             since: 0,

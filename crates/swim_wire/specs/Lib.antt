@@ -1,3 +1,4 @@
+pub mod Blank
 pub mod Numbers
 pub mod Codes
 pub mod Spelling

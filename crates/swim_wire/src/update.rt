@@ -1,6 +1,7 @@
 //! What one member says of another, or of itself.
 
 ghost use Rattle.std.specs.Prelude.{◌≡◌, ◌≢◌, Some, None, IfSome, IfNone};
+ghost use Rattle.swim_wire.specs.Blank.{blank};
 ghost use Rattle.swim_wire.specs.Codes.{update_code};
 ghost use Rattle.swim_wire.specs.declared.update.UpdateKind.{UpdateKind as UpdateKinds};
 
@@ -63,7 +64,9 @@ pub struct Update {
 
 /// Alive with number 0 about the least endpoint: what fills the unused places of a list.
 impl Default for Update {
-    fn default() -> Update {
+    fn default() -> Update
+        ensures { result ≡ blank }
+    {
         Update {
             kind: UpdateKind::Alive,
             who: Endpoint::default(),

@@ -5,7 +5,7 @@ use Rattle.std.proofs.lemmas.Grind.{get_or-set_at}
 use Rattle.swim_node.specs.declared.entry.Entry.{Entry}
 use Rattle.swim_node.specs.History.{calls_by}
 use Rattle.swim_node.specs.Turns.{JournalView, AreTurns}
-use Rattle.swim_node.proofs.Lists.{length-calls_by, calls_by-append}
+use Rattle.swim_node.proofs.Lists.{few_calls_by, calls_by-append}
 use Rattle.swim_node.proofs.journal.Journal.push.Goals as goal
 
 turn_at : (turns : List ℕ) (xs : List Entry) (e : Entry) (caller : ℕ) (b : Bool) → (e.tag.caller == caller) ≡ b → e.tag.caller < length turns → slice_index turns caller ≡ length (calls_by caller xs) → slice_index (slice_set turns e.tag.caller (slice_index turns e.tag.caller + 1)) caller ≡ length (calls_by caller xs ++ cond b (e ∷ []) [])
@@ -27,7 +27,7 @@ turns-snoc turns xs e fits h = record {
 pub overflow_add-self : goal.overflow_add-self
 overflow_add-self c =
     let same = c.self.invariant.counted c.args.entry.tag.caller c.requires.caller in
-    let few : length (calls_by c.args.entry.tag.caller c.self.inside.entries.items) ≤ length c.self.inside.entries.items = length-calls_by c.args.entry.tag.caller c.self.inside.entries.items in
+    let few : length (calls_by c.args.entry.tag.caller c.self.inside.entries.items) ≤ length c.self.inside.entries.items = few_calls_by c.args.entry.tag.caller c.self.inside.entries.items in
     let entries : length c.self.inside.entries.items ≡ length c.args.self.now.entries = ap (λ (v : JournalView). length v.entries) c.self.view_is in
     omega (arith, same, few, entries, c.requires.few)
 

@@ -3,33 +3,24 @@ use Rattle.swim_state.specs.Held.{Held}
 use Rattle.swim_member.specs.State.{State}
 use Rattle.swim_member.specs.Fit.{AreAll, own_numbers_in}
 use Rattle.swim_node.specs.declared.entry.Entry.{Entry}
-use Rattle.swim_node.specs.declared.entry.Outcome.{Outcome}
-use Rattle.swim_node.specs.History.{state_after, granted_of, taken_in, lost_in}
-use Rattle.swim_node.specs.Node.{base_of}
+use Rattle.swim_node.specs.History.{state_after, granted_of}
+use Rattle.swim_node.specs.Node.{base_of, entered}
 use Rattle.swim_node.proofs.Nodes.{Enters, node-snoc, state-snoc, said-new, said-old}
 use Rattle.swim_node.proofs.node.Node.apply.Given.{Over}
 use Rattle.swim_node.proofs.node.Node.apply.Goals as goal
 
 module _ (g : Over) (c : goal.After-push g) where
   abbrev entry : Entry
-  entry = record {
-    tag = c.args.tag;
-    event = c.args.event;
-    granted = c.enter-done.result.granted;
-    save = c.enter-done.result.save;
-    outs = c.enter-done.result.outs;
-    outcomes = c.enter-done.result.outcomes;
-    reply = record {
-      status = c.status_now.result;
-      notes = c.enter-done.result.notes;
-      page = c.enter-done.result.page;
-      sent = c.count_taken.result;
-      lost = c.count_lost.result;
-    };
-  }
+  entry = entered c.args.tag c.args.event c.enter-done.result c.status_now-status.result
 
   same_entries : c.args.self.now.entries ≡ c.self.inside.journal.entries
   same_entries = sym (ap (λ v. v.entries) c.self.view_is)
+
+  told : c.copy_reply-told.result ≡ entry.reply
+  told = c.copy_reply-told.ensures ∙ ap (λ (e : Entry). e.reply) c.entry_of-entry.ensures
+
+  snoc : c.push.new.self.entries ≡ c.self.inside.journal.entries ++ entry ∷ []
+  snoc = c.push.ensures ∙ ap (λ (l : List Entry). l ++ c.entry_of-entry.result ∷ []) c.reserve.ensures.entries ∙ ap (λ (e : Entry). c.self.inside.journal.entries ++ e ∷ []) c.entry_of-entry.ensures
 
   enters : Enters c.self.inside.journal.entries c.self.inside.member c.enter-done.new.member c.self.inside.store.ceiling c.enter-done.new.store.ceiling entry
   enters = record {
@@ -38,9 +29,9 @@ module _ (g : Over) (c : goal.After-push g) where
     grows = c.enter-done.ensures.saved.grows;
     steps = c.enter-done.ensures.steps;
     outcomes = c.enter-done.ensures.sends.each;
-    status = rw (c.status_now.ensures, c.entries.ensures, c.reserve.ensures.entries) refl;
-    sent = c.count_taken.ensures ∙ ap (λ (os : List Outcome). taken_in os) c.deref.ensures.0;
-    lost = c.count_lost.ensures ∙ ap (λ (os : List Outcome). lost_in os) c.deref-2.ensures.0;
+    status = rw (c.status_now-status.ensures, c.entries.ensures, c.reserve.ensures.entries) refl;
+    sent = refl;
+    lost = refl;
     turn = rw (← same_entries) c.in_ok-judge.ensures.ok.0;
     texts = c.enter-done.ensures.texts;
   }
@@ -50,7 +41,7 @@ invariant_of-self-2 g c =
     let room : length c.self.inside.journal.entries < c.self.inside.base.limit =
     let same : c.self.inside.base.limit ≡ c.args.self.now.base.limit = ap (λ v. v.base.limit) c.self.view_is in
     rw (← same_entries g c, same) c.in_ok-judge.ensures.ok.1 in (
-      rw (c.greatest_own-self-inside.ensures, c.settings.ensures, c.deref-3.ensures.0, c.push.ensures, c.reserve.ensures.entries)
+      rw (c.greatest_own-self-inside.ensures, c.settings.ensures, c.deref.ensures.0, c.push.ensures, c.entry_of-entry.ensures, c.reserve.ensures.entries)
           (node-snoc (base_of c.self.inside.base) c.self.inside.journal.entries (entry g c) c.self.inside.first c.self.inside.member c.enter-done.new.member c.self.inside.store.ceiling c.enter-done.new.store.ceiling c.self.inside.most c.self.invariant.0 (enters g c) room),
       c.enter-done.ensures.saved.covered,
     )
@@ -70,18 +61,17 @@ returns-then-is_err-clause-since g c keeps image left =
 pub returns-clause-ok : goal.returns-clause-ok
 returns-clause-ok g c =
     let base = base_of c.self.inside.base in
-    let snoc : c.push.new.self.entries ≡ c.self.inside.journal.entries ++ entry g c ∷ [] = c.push.ensures ∙ ap (λ (l : List Entry). l ++ entry g c ∷ []) c.reserve.ensures.entries in
     let stands : state_after base c.push.new.self.entries ≡ c.enter-done.new.member =
-    ap (state_after base) snoc
+    ap (state_after base) (snoc g c)
     ∙ state-snoc base c.self.inside.journal.entries (entry g c) c.self.inside.first c.self.inside.member c.enter-done.new.member c.self.inside.store.ceiling c.enter-done.new.store.ceiling c.self.inside.most c.self.invariant.0 (enters g c) in
     let stood : state_after base c.self.inside.journal.entries ≡ c.self.inside.member = c.self.invariant.0.member in
     let disk = ap (λ v. v.disk) c.self.view_is in (
       entry g c,
       record {
-        entries = snoc ∙ ap (λ v. v.entries ++ entry g c ∷ []) c.self.view_is;
+        entries = snoc g c ∙ ap (λ v. v.entries ++ entry g c ∷ []) c.self.view_is;
         tag_is = refl;
         event_is = refl;
-        reply_is = sym c.copy_reply-told.ensures;
+        reply_is = sym (told g c);
         texts = c.enter-done.ensures.texts;
         kept = λ kept. c.enter-done.ensures.saved.kept kept ∙ disk;
         failed = λ keeps failed. rw disk at (c.enter-done.ensures.saved.failed keeps failed);

@@ -1,0 +1,6 @@
+-- What fills the unused places of a list of updates.
+use Rattle.swim_wire.specs.declared.update.Update.{Update}
+use Rattle.swim_wire.specs.declared.update.UpdateKind.TheVariants.{Alive}
+
+abbrev pub blank : Update
+blank = record { kind = Alive; who = 1; number = 0 }
