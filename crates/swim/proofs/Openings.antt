@@ -64,11 +64,10 @@ module _ (p q : Playing) (owner : Owner) (disk : PlayDisk) (answer : Result (Uni
   start-unmade first ceiling fault below is_made refused is = starts first ceiling below is_made (rw refused tt) (rw refused is)
 
   -- there is one, and an opening follows
-  pub start-opens : {E : Type 0} (first : FirstNumber) (ceiling : ℕ) (done : Unit {0}) (m : Playing) (result : Result (Unit {0}) E) → ceiling ≡ first.value - 1 → IsMade owner ceiling disk answer → answer ≡ Ok done → m ≡ made disk p
-      → OnOk result (IfDisk m.disk m q (λ disk. Opens disk m q)) → OnOk result (Does p (Start first) q)
-  start-opens first ceiling done m (Ok v) below is_made made_it is opens =
-      starts first ceiling below is_made (rw made_it (subst (λ (m : Playing). IfDisk m.disk m q (λ disk. Opens disk m q)) is opens)) (rw made_it tt)
-  start-opens first ceiling done m (Err e) below is_made made_it is opens = tt
+  pub start-opens : (first : FirstNumber) (ceiling : ℕ) (done : Unit {0}) (m : Playing) (opening : Opening) → ceiling ≡ first.value - 1 → IsMade owner ceiling disk answer → answer ≡ Ok done → m ≡ made disk p
+      → IfDisk m.disk m q (λ disk. IsOpening disk opening m q) → Does p (Start first) q
+  start-opens first ceiling done m opening below is_made made_it is opens =
+      starts first ceiling below is_made (rw made_it (opening, subst (λ (m : Playing). IfDisk m.disk m q (λ disk. IsOpening disk opening m q)) is opens)) (rw made_it tt)
 
 -- ---- crashes
 

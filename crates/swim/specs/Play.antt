@@ -21,6 +21,8 @@ use Rattle.swim_node.specs.Lives.{Era, Life, AreRising}
 use Rattle.swim_node.specs.Node.{owner_of}
 use Rattle.swim.specs.declared.command.Command.{Command}
 use Rattle.swim.specs.declared.command.Command.TheVariants.{Group, Me, Set, Start, Init, Open, Happen, Plan, Kill, Crash, Overwrite, Slots, Rebase}
+use Rattle.swim.specs.declared.command.Failure.{Failure}
+use Rattle.swim.specs.declared.command.Failure.TheVariants as failure
 use Rattle.swim.specs.declared.command.Setting.{Setting}
 use Rattle.swim.specs.declared.command.Setting.TheVariants as setting
 use Rattle.swim.specs.declared.setup.Setup.{Setup}
@@ -108,6 +110,11 @@ pub record IsCrashed (choice : Choice) (old new : PlayDisk) : Type 0 where
   pub chosen : (disk_state new).content ≡ left_by choice (disk_of (inner_of old))
   pub image : (disk_state old).images (disk_state new).content
   pub settled : IsSettled (disk_state new)
+
+-- the send that is to be lost, after a line that plans this
+abbrev pub lost_by : Failure → Option ℕ → Option ℕ
+lost_by (failure.Send k) planned = Some k
+lost_by _ planned = planned
 
 -- ---- lives
 

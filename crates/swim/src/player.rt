@@ -1,11 +1,10 @@
 //! Plays the commands of a script.
 
-ghost use Rattle.std.specs.Prelude.{◌≡◌, ℕ, List, None, Some, true, false, is_some, map, All, OnOk, IfOk, IfErr};
+ghost use Rattle.std.specs.Prelude.{◌≡◌, List, map, All, OnOk, IfOk, IfErr};
 ghost use Rattle.swim.specs.Commands.{IsScript};
 ghost use Rattle.swim.specs.Faults.{IsFirstFault};
 ghost use Rattle.swim.specs.declared.command.Command.{Command as Commands};
-ghost use Rattle.swim.specs.declared.command.Failure.{Failure as Failures};
-ghost use Rattle.swim.specs.Play.{ArePlayed, Does, IfDisk, IsMade, Opens, IsRun, IsRising, Plays, all_of, beginning, run_of};
+ghost use Rattle.swim.specs.Play.{ArePlayed, Does, IsMade, IsRun, IsRising, Plays, all_of, beginning, lost_by, run_of};
 
 use crate::command::{Command, Failure};
 use crate::fault::ScriptFault;
@@ -13,8 +12,8 @@ use crate::first::FirstNumber;
 use crate::life::PlayDisk;
 use crate::patch::Patch;
 use crate::script::read_script;
-use crate::story::{Opening, Run, Story};
-use crate::transcript::{write_entry, write_slots};
+use crate::story::{Run, Story};
+use crate::transcript::{write_entry, write_opening, write_slots};
 use std::alloc::{AllocError, Global};
 use std::fmt::Write;
 use std::marker::Model;
@@ -52,26 +51,32 @@ fn make_disk(alloc: Global, owner: Owner, ceiling: u64) -> Result<Made, AllocErr
     Ok(Made { disk, plan, answer })
 }
 
-/// Plans a failure. Without a disk only a send can be planned.
-fn plan_failure(plan: Option<&Plan>, link: &mut MemoryLink, failure: Failure)
-    ensures { (k : ℕ) → failure ≡ Failures.Send k → link.new.loses ≡ Some k }
+/// Plans a failure of the link.
+fn plan_send(link: &mut MemoryLink, failure: Failure)
+    ensures { link.new.loses ≡ lost_by failure link.old.loses }
 {
-    match (failure, plan) {
-        (Failure::Send(k), _) => link.lose(u64::from(k)),
-        (Failure::Read(k), Some(plan)) => plan.fail_read(u64::from(k)),
-        (Failure::Write(k), Some(plan)) => plan.fail_write(u64::from(k)),
-        (Failure::TornWrite(k), Some(plan)) => plan.tear_write(u64::from(k)),
-        (Failure::Sync(k), Some(plan)) => plan.fail_sync(u64::from(k)),
-        (Failure::Halt(k), Some(plan)) => plan.halt(u64::from(k)),
-        (_, None) => {}
+    if let Failure::Send(k) = failure {
+        link.lose(u64::from(k));
     }
 }
 
-/// Nothing more is planned to fail.
-fn clear_plans(alloc: Global, plan: Option<&Plan>, link: &mut MemoryLink)
-    ensures { link.new.loses ≡ None }
-{
-    *link = MemoryLink::new(alloc, 0);
+/// Plans a failure of the disk, if there is one.
+fn plan_failure(plan: Option<&Plan>, failure: Failure) {
+    let Some(plan) = plan else {
+        return;
+    };
+    match failure {
+        Failure::Read(k) => plan.fail_read(u64::from(k)),
+        Failure::Write(k) => plan.fail_write(u64::from(k)),
+        Failure::TornWrite(k) => plan.tear_write(u64::from(k)),
+        Failure::Sync(k) => plan.fail_sync(u64::from(k)),
+        Failure::Halt(k) => plan.halt(u64::from(k)),
+        Failure::Send(_) => {}
+    }
+}
+
+/// Nothing of the disk is planned to fail any more.
+fn clear_plan(plan: Option<&Plan>) {
     if let Some(plan) = plan {
         plan.clear();
     }
@@ -124,18 +129,6 @@ impl Player {
         }
     }
 
-    /// Opens a member on the disk that there is, for the line with this word.
-    fn begin(&mut self, word: &str) -> Result<(), AllocError>
-        requires closed { is_some self.old.life ≡ false }
-        requires disk { is_some self.old.disk ≡ true }
-        ensures { OnOk result (IfDisk self.old.disk self.old self.new (λ disk. Opens disk self.old self.new)) }
-    {
-        match self.story.open(self.alloc)? {
-            Opening::Begun(number) => writeln!(self.text, "{word} ok number {number}"),
-            Opening::Refused(refusal) => writeln!(self.text, "{refusal}"),
-        }
-    }
-
     /// Makes a disk and opens a member with this number on it.
     fn start(&mut self, first: FirstNumber) -> Result<(), AllocError>
         ensures { OnOk result (Does self.old (Command.Start first) self.new) }
@@ -146,10 +139,11 @@ impl Player {
         let made = make_disk(self.alloc, self.story.owner(), first.ceiling())?;
         self.plan = Some(made.plan);
         self.story.put(made.disk);
-        match made.answer {
-            Ok(()) => self.begin("start"),
-            Err(fault) => writeln!(self.text, "init refused {fault}"),
+        if let Err(fault) = made.answer {
+            return writeln!(self.text, "init refused {fault}");
         }
+        let opening = self.story.open(self.alloc)?;
+        write_opening(&mut self.text, "start", opening)
     }
 
     /// Opens a member on the disk that there is.
@@ -162,7 +156,8 @@ impl Player {
         if !self.story.has_disk() {
             return writeln!(self.text, "no disk");
         }
-        self.begin("open")
+        let opening = self.story.open(self.alloc)?;
+        write_opening(&mut self.text, "open", opening)
     }
 
     /// Gives the open member an event.
@@ -204,7 +199,8 @@ impl Player {
             return writeln!(self.text, "no disk");
         }
         self.story.crash(self.alloc, choice);
-        clear_plans(self.alloc, self.plan.as_ref(), &mut self.link);
+        self.link = MemoryLink::new(self.alloc, 0);
+        clear_plan(self.plan.as_ref());
         writeln!(self.text, "crashed")
     }
 
@@ -244,7 +240,10 @@ impl Player {
             Command::Init(ceiling) => self.init(ceiling)?,
             Command::Open => self.open()?,
             Command::Happen(event) => self.happen(event)?,
-            Command::Plan(failure) => plan_failure(self.plan.as_ref(), &mut self.link, failure),
+            Command::Plan(failure) => {
+                plan_send(&mut self.link, failure);
+                plan_failure(self.plan.as_ref(), failure);
+            }
             Command::Kill => self.kill()?,
             Command::Crash(choice) => self.crash(choice)?,
             Command::Overwrite(patch) => self.overwrite(patch)?,

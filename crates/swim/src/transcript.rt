@@ -4,6 +4,7 @@ ghost use Rattle.std.specs.Prelude.{All};
 ghost use Rattle.swim_wire.specs.Spelling.{HasText};
 ghost use Rattle.swim_node.specs.Sending.{HasTexts};
 
+use crate::story::Opening;
 use std::alloc::{AllocError, Global};
 use std::fmt::Write;
 use swim_member::{Note, Out, Phase};
@@ -126,6 +127,18 @@ pub(crate) fn write_entry(alloc: Global, text: &mut String, entry: &Entry) -> Re
         write_send(alloc, text, out, *outcome)?;
     }
     Ok(())
+}
+
+/// The line of what came of an opening, that of the line with this word.
+pub(crate) fn write_opening(
+    text: &mut String,
+    word: &str,
+    opening: Opening,
+) -> Result<(), AllocError> {
+    match opening {
+        Opening::Begun(number) => writeln!(text, "{word} ok number {number}"),
+        Opening::Refused(refusal) => writeln!(text, "{refusal}"),
+    }
 }
 
 fn write_slot(text: &mut String, reading: Reading) -> Result<(), AllocError> {

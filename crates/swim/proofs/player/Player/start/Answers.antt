@@ -9,8 +9,8 @@ returns-in-Err c =
     rw (← c.self.view_is) (always_ok _ c.writeln-in-Err.result
     (start-unmade c.self.inside.story c.put.new.self c.owner.result made.disk made.answer (sym c.is_open.ensures ∙ c.if-is_open.false) c.owner.ensures c.args.first _ c.in-Err.fault c.ceiling.ensures c.in_ok-made.ensures c.in-Err.is c.put.ensures))
 
-pub returns-in-Ok : goal.returns-in-Ok
-returns-in-Ok c =
+pub returns : goal.returns
+returns c =
     let made = c.in_ok-made.made in
-    rw (← c.self.view_is)
-    (start-opens c.self.inside.story c.begin.new.self c.owner.result made.disk made.answer (sym c.is_open.ensures ∙ c.if-is_open.false) c.owner.ensures c.args.first _ c.in-Ok.field-0 c.put.new.self c.begin.result c.ceiling.ensures c.in_ok-made.ensures c.in-Ok.is c.put.ensures c.begin.ensures)
+    rw (← c.self.view_is) (always_ok _ c.write_opening.result
+    (start-opens c.self.inside.story c.open.new.self c.owner.result made.disk made.answer (sym c.is_open.ensures ∙ c.if-is_open.false) c.owner.ensures c.args.first _ c.in_default.field-0 c.put.new.self c.in_ok-opening.opening c.ceiling.ensures c.in_ok-made.ensures c.in_default.is c.put.ensures c.in_ok-opening.ensures))
