@@ -83,6 +83,15 @@ onto-then {D} state owner (life ∷ []) d e h onto may =
     reached-then D state owner (ceiling_of life) life.left d e onto (may (ceiling_of life) (held-reached D state owner (ceiling_of life) life.left d onto (IsLived.held h.0)))
 onto-then state owner (first ∷ next ∷ lives) d e h onto may = onto-then state owner (next ∷ lives) d e h.2 onto may
 
+-- after a life something is held
+onto-held : {D : Type 0} (state : D → State) (owner : Owner) (life : Life D) (lives : List (Life D)) (d : D) → AreLives state owner (life ∷ lives) → IsOnto state owner (life ∷ lives) d → (b : ℕ) × Held owner (state d) b
+onto-held {D} state owner life [] d h onto = (ceiling_of life, held-reached D state owner (ceiling_of life) life.left d onto (IsLived.held h.0))
+onto-held state owner life (next ∷ lives) d h onto = onto-held state owner next lives d h.2 onto
+
+pub leads-held : (owner : Owner) (lives : List (Life PlayDisk)) (d : PlayDisk) → Leads owner lives d → 0 < length lives → (b : ℕ) × Held owner (disk_state d) b
+leads-held owner [] d h some = absurd (omega (arith, some))
+leads-held owner (life ∷ lives) d h some = onto-held disk_state owner life lives d h.lives_are h.onto
+
 module _ (owner : Owner) (lives : List (Life PlayDisk)) where
   pub leads-none : (d : PlayDisk) → lives ≡ [] → Leads owner lives d
   leads-none d none = rw none (record { lives_are = tt {0}; mine = All-nil IsOfOne; onto = tt {0} })

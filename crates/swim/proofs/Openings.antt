@@ -1,6 +1,6 @@
 -- What openings come to, and what other lines make of what plays.
-use Rattle.std.proofs.Common.{◌≡◌, ℕ, ◌+◌, ◌-◌, true, false, None, Some, List, [], ◌∷◌, ◌++◌, map, refl, sym, ap, ◌∙◌, subst}
-use Rattle.std.specs.Prelude.{Option, is_some, Result, Ok, Err, OnOk, OnErr, IfOk, IfErr, ◌≢◌}
+use Rattle.std.proofs.Common.{◌≡◌, ℕ, ◌+◌, ◌-◌, ◌<◌, true, false, None, Some, List, [], ◌∷◌, ◌++◌, map, refl, sym, ap, ◌∙◌, subst, inl, inr, length}
+use Rattle.std.specs.Prelude.{Option, is_some, Result, Ok, Err, OnOk, OnErr, IfOk, IfErr, ◌≢◌, ◌⊎◌}
 use Rattle.std.proofs.lemmas.List.{length-map, map-append}
 use Rattle.swim_disk.specs.Part.{AlwaysHas}
 use Rattle.swim_disk.specs.declared.mem.Choice.{Choice}
@@ -8,6 +8,8 @@ use Rattle.swim_state.specs.File.{floor}
 use Rattle.swim_state.specs.Recovery.{fault_of as shown}
 use Rattle.swim_state.specs.declared.owner.Owner.{Owner}
 use Rattle.swim_state.specs.declared.fault.InitFault.{InitFault}
+use Rattle.swim_state.specs.declared.fault.RecoverFault.{RecoverFault}
+use Rattle.swim_state.specs.declared.fault.RecoverFault.TheVariants as recover
 use Rattle.swim_member.specs.Checks.{fault_of}
 use Rattle.swim_member.specs.declared.event.Event.{Event}
 use Rattle.swim_member.specs.declared.settings.SettingsFault.{SettingsFault}
@@ -17,6 +19,7 @@ use Rattle.swim_node.specs.declared.fault.ApplyFault.TheVariants.{EraFull, OutOf
 use Rattle.swim_node.specs.declared.fault.ApplyFault.TheVariants as apply
 use Rattle.swim_node.specs.declared.fault.OpenFault.{OpenFault}
 use Rattle.swim_node.specs.declared.fault.OpenFault.TheVariants.{NoMemory}
+use Rattle.swim_node.specs.declared.fault.OpenFault.TheVariants as node
 use Rattle.swim_node.specs.Node.{owner_of}
 use Rattle.swim.specs.declared.command.Command.TheVariants.{Init, Start, Crash, Overwrite}
 use Rattle.swim.specs.declared.patch.Patch.{Patch}
@@ -25,7 +28,7 @@ use Rattle.swim.specs.declared.story.Opening.{Opening}
 use Rattle.swim.specs.declared.story.Opening.TheVariants.{Begun, Refused}
 use Rattle.swim.specs.declared.story.Refusal.TheVariants as refusal
 use Rattle.swim.specs.Life.{PlayDisk, disk_state, Adds, IsDeclined}
-use Rattle.swim.specs.Play.{Playing, Asked, Becomes, IfClosed, IfDisk, IsMade, made, IsCrashed, IsOpening, IsRefused, Opens, Starts, CanOpen, opened, ended, ended_with, asked_of, event_of, Does}
+use Rattle.swim.specs.Play.{Playing, Asked, Becomes, IfClosed, IfDisk, IsMade, made, IsCrashed, IsOpening, IsRefused, ComesAfterLives, Opens, Starts, CanOpen, opened, ended, ended_with, asked_of, event_of, Does}
 use Rattle.swim.specs.Story.{IsAnswered}
 
 some-of : {A : Type 0} (o : Option A) → is_some o ≡ true → (x : A) × (o ≡ Some x)
@@ -99,20 +102,32 @@ overwrite-does p q patch (Err e) closed has becomes = tt
 pub opening-unsound : (p : Playing) (fault : SettingsFault) → is_some p.disk ≡ true → fault_of p.setup.settings ≡ Some fault → IfDisk p.disk p p (λ disk. IsOpening disk (Refused (refusal.Settings fault)) p p)
 opening-unsound p fault has shows =
     let at = some-of p.disk has in
-    if-disk p p at.0 (λ disk. IsOpening disk (Refused (refusal.Settings fault)) p p) at.1 (at.0, (shows, refl), ap (λ (o : Option PlayDisk). record p { disk = o }) at.1)
+    if-disk p p at.0 (λ disk. IsOpening disk (Refused (refusal.Settings fault)) p p) at.1
+    (record { disk = at.0; cause = (shows, refl); lived = λ same some. tt; is = ap (λ (o : Option PlayDisk). record p { disk = o }) at.1 })
+
+-- what the node answers of a disk on which something is held
+pub after_lives : (f : OpenFault) → ((fault : RecoverFault) → f ≡ node.Refused fault → (fault ≡ recover.Device) ⊎ (fault ≡ recover.Exhausted)) → ComesAfterLives (refusal.Open f)
+after_lives node.Limit only = tt
+after_lives NoMemory only = tt
+after_lives (node.Refused recover.Device) only = tt
+after_lives (node.Refused recover.Exhausted) only = tt
+after_lives (node.Refused recover.NotState) only = elim (only recover.NotState refl) [ inl same ↦ absurd (cc) | inr same ↦ absurd (cc) ]
+after_lives (node.Refused recover.WrongOwner) only = elim (only recover.WrongOwner refl) [ inl same ↦ absurd (cc) | inr same ↦ absurd (cc) ]
+after_lives (node.Refused recover.NoSlot) only = elim (only recover.NoSlot refl) [ inl same ↦ absurd (cc) | inr same ↦ absurd (cc) ]
+after_lives (node.Refused recover.Damaged) only = elim (only recover.Damaged refl) [ inl same ↦ absurd (cc) | inr same ↦ absurd (cc) ]
 
 module _ (p q : Playing) (old new : PlayDisk) (at : p.disk ≡ Some old) where
   pub opening-begun : (first : ℕ) → CanOpen p.setup → shown (owner_of p.setup.settings) (disk_state old).content ≡ None → first ≡ floor (disk_state old).content + 1 → q ≡ opened old first new p → IfDisk p.disk p q (λ disk. IsOpening disk (Begun first) p q)
   opening-begun first can sound next is = if-disk p q old (λ disk. IsOpening disk (Begun first) p q) at (record { can = can; sound = sound; next = next; disk = new; is = is })
 
-  refused-as : (fault : OpenFault) (opening : Opening) → opening ≡ Refused (refusal.Open fault) → IsRefused p.setup old (refusal.Open fault) new → q ≡ record p { disk = Some new } → IfDisk p.disk p q (λ disk. IsOpening disk opening p q)
-  refused-as fault opening same shows is =
-      if-disk p q old (λ disk. IsOpening disk opening p q) at (subst (λ (o : Opening). IsOpening old o p q) (sym same) (new, shows, is))
+  refused-as : (fault : OpenFault) (opening : Opening) → opening ≡ Refused (refusal.Open fault) → IsRefused p.setup old (refusal.Open fault) new → (p.apart ≡ false → 0 < length p.lives → ComesAfterLives (refusal.Open fault)) → q ≡ record p { disk = Some new } → IfDisk p.disk p q (λ disk. IsOpening disk opening p q)
+  refused-as fault opening same shows lived is =
+      if-disk p q old (λ disk. IsOpening disk opening p q) at (subst (λ (o : Opening). IsOpening old o p q) (sym same) (record { disk = new; cause = shows; lived = lived; is = is }))
 
   -- the node did not open
-  pub opening-refused : {E : Type 0} (fault : OpenFault) (result : Result Opening E) → (fault ≢ NoMemory → IsRefused p.setup old (refusal.Open fault) new) → q ≡ record p { disk = Some new } → IfOk result (λ opening. opening ≡ Refused (refusal.Open fault)) → OnOk result (fault ≢ NoMemory) → IfOk result (λ opening. IfDisk p.disk p q (λ disk. IsOpening disk opening p q))
-  opening-refused fault (Ok opening) shows is same room = refused-as fault opening same (shows room) is
-  opening-refused fault (Err error) shows is same room = tt
+  pub opening-refused : {E : Type 0} (fault : OpenFault) (result : Result Opening E) → (fault ≢ NoMemory → IsRefused p.setup old (refusal.Open fault) new) → (p.apart ≡ false → 0 < length p.lives → ComesAfterLives (refusal.Open fault)) → q ≡ record p { disk = Some new } → IfOk result (λ opening. opening ≡ Refused (refusal.Open fault)) → OnOk result (fault ≢ NoMemory) → IfOk result (λ opening. IfDisk p.disk p q (λ disk. IsOpening disk opening p q))
+  opening-refused fault (Ok opening) shows lived is same room = refused-as fault opening same (shows room) lived is
+  opening-refused fault (Err error) shows lived is same room = tt
 
 -- ---- events
 

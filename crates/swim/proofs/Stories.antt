@@ -1,8 +1,9 @@
 -- What happens to a story, and what that is to a script.
-use Rattle.std.proofs.Common.{◌≡◌, Bool, true, false, List, [], ◌∷◌, ◌++◌, refl, sym, subst}
+use Rattle.std.proofs.Common.{◌≡◌, ℕ, ◌<◌, Bool, true, false, List, [], ◌∷◌, ◌++◌, length, refl, sym, subst}
 use Rattle.std.specs.Prelude.{All, Result, Ok, Err, OnOk}
 use Rattle.std.proofs.lemmas.List.Elements.{All-nil}
 use Rattle.swim_disk.specs.Disk.{IsSettled}
+use Rattle.swim_state.specs.Held.{Held}
 use Rattle.swim_state.specs.declared.owner.Owner.{Owner}
 use Rattle.swim_node.specs.Lives.{Life, IsLived}
 use Rattle.swim_node.specs.Node.{owner_of}
@@ -13,7 +14,7 @@ use Rattle.swim.specs.declared.story.Stage.TheVariants.{Bare, Idle, Open}
 use Rattle.swim.specs.Life.{PlayDisk, disk_state, IsOfOne, Spares, AreOnOneDisk}
 use Rattle.swim.specs.Story.{Leads, IsStory}
 use Rattle.swim.specs.Play.{Playing, IsRun, Does, Plays}
-use Rattle.swim.proofs.Lives.{leads-none, leads-spared, leads-crashed, leads-ended, on_one_disk}
+use Rattle.swim.proofs.Lives.{leads-held, leads-none, leads-spared, leads-crashed, leads-ended, on_one_disk}
 
 -- the lives since the last other disk or owner are of one owner on one disk
 pub story-run : (owner : Owner) (apart : Bool) (runs : List Run) (lives : List (Life PlayDisk)) (stage : Stage) → IsStory owner apart runs lives stage → AreOnOneDisk lives
@@ -21,6 +22,11 @@ story-run owner apart runs lives Bare h = rw h.now (record { owner = owner; live
 story-run owner true runs lives (Idle disk) h = h.now
 story-run owner false runs lives (Idle disk) h = on_one_disk owner lives disk h.now
 story-run owner apart runs lives (Open life) h = on_one_disk (owner_of life.settings) lives life.opened (h.now.0)
+
+-- after lives of this owner on this disk something is held
+pub story-held : (owner : Owner) (apart : Bool) (runs : List Run) (lives : List (Life PlayDisk)) (d : PlayDisk) → IsStory owner apart runs lives (Idle d) → apart ≡ false → 0 < length lives → (b : ℕ) × Held owner (disk_state d) b
+story-held owner true runs lives d h same some = absurd (cc)
+story-held owner false runs lives d h same some = leads-held owner lives d h.now some
 
 module _ (owner : Owner) (runs : List Run) (lives : List (Life PlayDisk)) where
   pub story-named : (next : Owner) (apart : Bool) (stage : Stage) → IsStory owner apart runs lives stage → IsStory next true runs lives stage

@@ -157,10 +157,26 @@ IsRefused s old (refusal.Open node.NoMemory) new = ⊥
 IsRefused s old (refusal.Open (node.Refused recover.Device)) new = (disk_state old).failures < (disk_state new).failures
 IsRefused s old (refusal.Open (node.Refused fault)) new = (shown (owner_of s.settings) (disk_state old).content ≡ Some fault) × Rests (disk_state old) (disk_state new)
 
+-- what may refuse an opening after lives of this owner on this disk: the setup, a failed call, or that no number is left
+abbrev pub ComesAfterLives : Refusal → Type 0
+ComesAfterLives (refusal.Settings fault) = Unit {0}
+ComesAfterLives (refusal.Open node.Limit) = Unit {0}
+ComesAfterLives (refusal.Open node.NoMemory) = Unit {0}
+ComesAfterLives (refusal.Open (node.Refused recover.Device)) = Unit {0}
+ComesAfterLives (refusal.Open (node.Refused recover.Exhausted)) = Unit {0}
+ComesAfterLives (refusal.Open (node.Refused fault)) = ⊥
+
+-- an opening on this disk is refused
+pub record Refuses (old : PlayDisk) (refusal : Refusal) (p q : Playing) : Type 0 where
+  pub disk : PlayDisk
+  pub cause : IsRefused p.setup old refusal disk
+  pub lived : p.apart ≡ false → 0 < length p.lives → ComesAfterLives refusal
+  pub is : q ≡ record p { disk = Some disk }
+
 -- what comes of an opening on this disk
 abbrev pub IsOpening : PlayDisk → Opening → Playing → Playing → Type 0
 IsOpening disk (Begun first) p q = Begins disk first p q
-IsOpening disk (Refused refusal) p q = Becomes (IsRefused p.setup disk refusal) p q
+IsOpening disk (Refused refusal) p q = Refuses disk refusal p q
 
 abbrev pub Opens : PlayDisk → Playing → Playing → Type 0
 Opens disk p q = (opening : Opening) × IsOpening disk opening p q

@@ -1,9 +1,12 @@
 //! The lives of a script's members, on a disk in memory that fails by a plan.
 
-ghost use Rattle.std.specs.Prelude.{◌≡◌, ◌≢◌, ◌+◌, ◌≤◌, ◌++◌, ◌∷◌, [], None, List, IfOk, IfErr, OnOk, OnErr, IfSome, length};
+ghost use Rattle.std.specs.Prelude.{◌≡◌, ◌≢◌, ◌⊎◌, ◌+◌, ◌≤◌, ◌++◌, ◌∷◌, [], None, ℕ, List, IfOk, IfErr, OnOk, OnErr, IfSome, length};
 ghost use Rattle.swim_member.specs.Checks.{AreSound};
 ghost use Rattle.swim_state.specs.File.{floor};
+ghost use Rattle.swim_state.specs.Held.{Held};
 ghost use Rattle.swim_state.specs.Recovery.{fault_of};
+ghost use Rattle.swim_state.specs.declared.fault.RecoverFault.{RecoverFault as Recoveries};
+ghost use Rattle.swim_state.specs.declared.fault.RecoverFault.TheVariants.{Device, Exhausted};
 ghost use Rattle.swim_node.specs.Lives.{IsLived};
 ghost use Rattle.swim_node.specs.Node.{owner_of, rebased};
 ghost use Rattle.swim_node.specs.Sending.{HasTexts};
@@ -122,6 +125,7 @@ impl Living {
         ensures empty { IfOk result (λ l. (l.eras ≡ []) × (l.entries ≡ [])) }
         ensures limit { IfOk result (λ l. (1 ≤ setup.limit) × (setup.limit ≤ 65536)) }
         ensures cause { IfErr result (λ refused. refused.1 ≢ faults.NoMemory → IsRefused setup disk (refusals.Open refused.1) refused.0) }
+        ensures lived { (b : ℕ) → Held (owner_of setup.settings) (disk_state disk) b → IfErr result (λ refused. (fault : Recoveries) → refused.1 ≡ faults.Refused fault → (fault ≡ Device) ⊎ (fault ≡ Exhausted)) }
         ensures spared { IfErr result (λ refused. Spares (owner_of setup.settings) disk refused.0) }
     {
         let opened = Snapshot::of(&disk);

@@ -7,7 +7,7 @@ ghost use Rattle.swim_state.specs.File.{floor};
 ghost use Rattle.swim_state.specs.Held.{Held, HeldSince, Through, Covers};
 ghost use Rattle.swim_state.specs.Recovery.{fault_of};
 ghost use Rattle.swim_state.specs.declared.fault.RecoverFault.{RecoverFault as Faults};
-ghost use Rattle.swim_state.specs.declared.fault.RecoverFault.TheVariants.{Device};
+ghost use Rattle.swim_state.specs.declared.fault.RecoverFault.TheVariants.{Device, Exhausted};
 ghost use Rattle.swim_node.specs.History.{fresh_base};
 ghost use Rattle.swim_node.specs.Node.{disk_of, owner_of};
 
@@ -51,9 +51,11 @@ impl<D: Disk> Node<D> {
         ensures none { D.keeps_model → IfOk result (λ n. fault_of (owner_of settings) (D.state disk).content ≡ None) }
         ensures rests { D.keeps_model → IfErr result (λ refused. refused.1 ≢ OpenFault.Refused Device → Rests (D.state disk) (D.state refused.0)) }
 
-        // No moment of the call leaves less than what was held before it, and the first number is above that.
+        // No moment of the call leaves less than what was held before it, and the first number is above that. From such a
+        // disk only a failed call or exhaustion comes.
         ensures moments { D.keeps_model → (b : ℕ) → Held (owner_of settings) (D.state disk) b → Through (Covers (owner_of settings) b) (D.state disk) (D.state (disk_of result)) }
         ensures since { D.keeps_model → (b : ℕ) → Held (owner_of settings) (D.state disk) b → HeldSince (owner_of settings) (D.state (disk_of result)) (D.state disk).clock b }
+        ensures from_held { D.keeps_model → (b : ℕ) → Held (owner_of settings) (D.state disk) b → IfErr result (λ refused. (fault : Faults) → refused.1 ≡ OpenFault.Refused fault → (fault ≡ Device) ⊎ (fault ≡ Exhausted)) }
         ensures above { D.keeps_model → (b : ℕ) → Held (owner_of settings) (D.state disk) b → IfOk result (λ n. b < n.first) }
     {
         if limit == 0 || limit > LIMIT_MAX {

@@ -1,4 +1,5 @@
-use Rattle.std.proofs.Common.{◌≡◌, false, None, Some, refl, sym, ap, ◌∙◌, subst}
+use Rattle.std.proofs.Common.{◌≡◌, ◌<◌, length, map, false, None, Some, refl, sym, ap, ◌∙◌, subst}
+use Rattle.std.proofs.lemmas.List.{length-map}
 use Rattle.swim_state.specs.Recovery.{fault_of as shown}
 use Rattle.swim_member.specs.Checks.{fault_of}
 use Rattle.swim_node.specs.Node.{owner_of}
@@ -7,10 +8,10 @@ use Rattle.swim.specs.declared.story.Refusal.TheVariants as refusal
 use Rattle.swim.specs.declared.story.Stage.{Stage}
 use Rattle.swim.specs.declared.story.Stage.TheVariants.{Idle, Open}
 use Rattle.swim.specs.Life.{disk_state}
-use Rattle.swim.specs.Play.{Playing, CanOpen, IsRefused, opened}
+use Rattle.swim.specs.Play.{Playing, CanOpen, ComesAfterLives, IsRefused, asked_of, opened}
 use Rattle.swim.specs.Story.{IsStory, disk_in}
-use Rattle.swim.proofs.Openings.{opening-unsound, opening-begun, opening-refused}
-use Rattle.swim.proofs.Stories.{story-begun, story-begun-apart, story-refused, story-run}
+use Rattle.swim.proofs.Openings.{after_lives, opening-unsound, opening-begun, opening-refused}
+use Rattle.swim.proofs.Stories.{story-begun, story-begun-apart, story-held, story-refused, story-run}
 use Rattle.swim.proofs.story.Story.open.Goals.{then-self, else-self}
 use Rattle.swim.proofs.story.Story.open.Goals as goal
 
@@ -46,8 +47,15 @@ returns-in-Err-open c =
     let at : p.disk ≡ Some c.in-Idle.disk = sym (ap (λ (p : Playing). p.disk) c.self.view_is) ∙ ap disk_in idle in
     let left : the_view (record c.self.inside { runs = c.reserve.new.self; stage = Idle c.in-Err-open.disk }) ≡ record p { disk = Some c.in-Err-open.disk } =
     subst (λ (p : Playing). the_view (record c.self.inside { runs = c.reserve.new.self; stage = Idle c.in-Err-open.disk }) ≡ record p { disk = Some c.in-Err-open.disk }) c.self.view_is (rw (c.reserve.ensures.items, idle) refl) in
+    let story = c.self.inside in
+    let owner = owner_of story.setup.settings in
+    let stands = subst (λ (s : Stage). IsStory owner story.apart story.runs.items story.lives.items s) idle c.self.invariant in
+    let lived : story.apart ≡ false → 0 < length (map asked_of story.lives.items) → ComesAfterLives (refusal.Open c.in-Err-open.fault) = λ same some.
+    let held = story-held owner story.apart story.runs.items story.lives.items c.in-Idle.disk stands same (rw (length-map story.lives.items asked_of) at some) in
+    after_lives c.in-Err-open.fault (c.in-Err-open.ensures.lived held.0 held.1) in
     opening-refused p _ c.in-Idle.disk c.in-Err-open.disk at c.in-Err-open.fault c.refused.result
     (λ room. subst (λ (p : Playing). IsRefused p.setup c.in-Idle.disk (refusal.Open c.in-Err-open.fault) c.in-Err-open.disk) c.self.view_is (c.in-Err-open.ensures.cause room))
+    (subst (λ (p : Playing). p.apart ≡ false → 0 < length p.lives → ComesAfterLives (refusal.Open c.in-Err-open.fault)) c.self.view_is lived)
     left c.refused.ensures.ok c.refused.ensures.memory
 
 pub returns-after-self : goal.returns-after-self
