@@ -1,12 +1,3 @@
-mod Arguments
-mod Digits
-mod Endpoints
-mod Hex
-mod Keywords
-mod Lines
 mod Lives
 mod Openings
-mod Options
-mod Scripts
-mod Splits
 mod Stories

@@ -21,9 +21,9 @@ use Rattle.swim_node.specs.declared.fault.OpenFault.{OpenFault}
 use Rattle.swim_node.specs.declared.fault.OpenFault.TheVariants.{NoMemory}
 use Rattle.swim_node.specs.declared.fault.OpenFault.TheVariants as node
 use Rattle.swim_node.specs.Node.{owner_of}
-use Rattle.swim.specs.declared.command.Command.TheVariants.{Init, Start, Crash, Overwrite}
-use Rattle.swim.specs.declared.patch.Patch.{Patch}
-use Rattle.swim.specs.declared.first.FirstNumber.{FirstNumber}
+use Rattle.swim_script.specs.declared.command.Command.TheVariants.{Init, Start, Crash, Overwrite}
+use Rattle.swim_script.specs.declared.patch.Patch.{Patch}
+use Rattle.swim_script.specs.declared.first.FirstNumber.{FirstNumber}
 use Rattle.swim.specs.declared.story.Opening.{Opening}
 use Rattle.swim.specs.declared.story.Opening.TheVariants.{Begun, Refused}
 use Rattle.swim.specs.declared.story.Refusal.TheVariants as refusal

@@ -7,7 +7,7 @@ use Rattle.swim_state.specs.Held.{Held}
 use Rattle.swim_state.specs.declared.owner.Owner.{Owner}
 use Rattle.swim_node.specs.Lives.{Life, IsLived}
 use Rattle.swim_node.specs.Node.{owner_of}
-use Rattle.swim.specs.declared.command.Command.{Command}
+use Rattle.swim_script.specs.declared.command.Command.{Command}
 use Rattle.swim.specs.declared.story.Run.{Run}
 use Rattle.swim.specs.declared.story.Stage.{Stage}
 use Rattle.swim.specs.declared.story.Stage.TheVariants.{Bare, Idle, Open}

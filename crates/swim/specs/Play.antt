@@ -19,12 +19,12 @@ use Rattle.swim_node.specs.declared.entry.Entry.{Entry}
 use Rattle.swim_node.specs.declared.fault.OpenFault.TheVariants as node
 use Rattle.swim_node.specs.Lives.{Era, Life, AreRising}
 use Rattle.swim_node.specs.Node.{owner_of}
-use Rattle.swim.specs.declared.command.Command.{Command}
-use Rattle.swim.specs.declared.command.Command.TheVariants.{Group, Me, Set, Start, Init, Open, Happen, Plan, Kill, Crash, Overwrite, Slots, Rebase}
-use Rattle.swim.specs.declared.command.Failure.{Failure}
-use Rattle.swim.specs.declared.command.Failure.TheVariants as failure
-use Rattle.swim.specs.declared.command.Setting.{Setting}
-use Rattle.swim.specs.declared.command.Setting.TheVariants as setting
+use Rattle.swim_script.specs.declared.command.Command.{Command}
+use Rattle.swim_script.specs.declared.command.Command.TheVariants.{Group, Me, Set, Start, Init, Open, Happen, Plan, Kill, Crash, Overwrite, Slots, Rebase}
+use Rattle.swim_script.specs.declared.command.Failure.{Failure}
+use Rattle.swim_script.specs.declared.command.Failure.TheVariants as failure
+use Rattle.swim_script.specs.declared.command.Setting.{Setting}
+use Rattle.swim_script.specs.declared.command.Setting.TheVariants as setting
 use Rattle.swim.specs.declared.setup.Setup.{Setup}
 use Rattle.swim.specs.declared.story.Opening.{Opening}
 use Rattle.swim.specs.declared.story.Opening.TheVariants.{Begun, Refused}

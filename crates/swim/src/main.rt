@@ -3,27 +3,19 @@
 //! `swim play` reads a script from standard input and prints what came of it.
 #![tactic(auto)]
 
-mod command;
-mod fault;
-mod first;
-mod keyword;
 mod life;
-mod line;
-mod patch;
 mod player;
-mod script;
 mod setup;
 mod story;
 #[cfg(test)]
 mod tests;
 mod transcript;
-mod words;
 
-use crate::fault::ScriptFault;
 use crate::player::{Transcript, play};
 use std::env;
 use std::io::{self, Read, Write};
 use std::process::ExitCode;
+use swim_script::ScriptFault;
 
 /// The exit status of a fault.
 const FAILED: u8 = 1;

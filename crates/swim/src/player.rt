@@ -1,17 +1,12 @@
 //! Plays the commands of a script.
 
 ghost use Rattle.std.specs.Prelude.{◌≡◌, List, map, All, OnOk, IfOk, IfErr};
-ghost use Rattle.swim.specs.Commands.{IsScript};
-ghost use Rattle.swim.specs.Faults.{IsFirstFault};
-ghost use Rattle.swim.specs.declared.command.Command.{Command as Commands};
+ghost use Rattle.swim_script.specs.Commands.{IsScript};
+ghost use Rattle.swim_script.specs.Faults.{IsFirstFault};
+ghost use Rattle.swim_script.specs.declared.command.Command.{Command as Commands};
 ghost use Rattle.swim.specs.Play.{ArePlayed, Does, IsMade, IsRun, IsRising, Plays, all_of, beginning, lost_by, run_of};
 
-use crate::command::{Command, Failure};
-use crate::fault::ScriptFault;
-use crate::first::FirstNumber;
 use crate::life::PlayDisk;
-use crate::patch::Patch;
-use crate::script::read_script;
 use crate::story::{Run, Story};
 use crate::transcript::{write_entry, write_opening, write_slots};
 use std::alloc::{AllocError, Global};
@@ -20,6 +15,7 @@ use std::marker::Model;
 use swim_disk::{Choice, FaultDisk, MemDisk, Plan};
 use swim_member::Event;
 use swim_node::{ApplyFault, MemoryLink};
+use swim_script::{Command, Failure, FirstNumber, Patch, ScriptFault, read_script};
 use swim_state::{InitFault, Owner, init};
 
 /// What a script did.

@@ -3,8 +3,8 @@
 ghost use Rattle.std.specs.Prelude.{◌≡◌};
 ghost use Rattle.swim.specs.Play.{first_setup, with_setting};
 
-use crate::command::Setting;
 use swim_member::Settings;
+use swim_script::Setting;
 use swim_wire::Endpoint;
 
 /// The settings of the next opening, and the most entries of its eras.

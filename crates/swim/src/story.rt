@@ -9,9 +9,7 @@ ghost use Rattle.swim.specs.Life.{PlayDisk as PlayDisks, disk_state, AreOnOneDis
 ghost use Rattle.swim.specs.Play.{Becomes, IfDisk, IsCrashed, IsOpening, IsRefused, IsRun, IsRising, all_of, and_run, asked_of, beginning, ended, made, named, rebased, run_of, with_setting};
 ghost use Rattle.swim.specs.Story.{IsAnswered, events_in};
 
-use crate::command::Setting;
 use crate::life::{Life, Living, PlayDisk};
-use crate::patch::Patch;
 use crate::setup::Setup;
 use std::alloc::{AllocError, Global};
 use std::marker::Model;
@@ -19,6 +17,7 @@ use std::mem;
 use swim_disk::{Choice, MemDisk};
 use swim_member::{Event, SettingsFault};
 use swim_node::{ApplyFault, Entry, MemoryLink, OpenFault, own_numbers_rise};
+use swim_script::{Patch, Setting};
 use swim_state::Owner;
 use swim_wire::Endpoint;
 use thiserror::Error;

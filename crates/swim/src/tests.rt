@@ -1,7 +1,5 @@
-//! Whole transcripts, and the faults of scripts. The other worked rows are scripts with their
-//! transcripts in `examples/rows`.
+//! Whole transcripts. The other worked rows are scripts with their transcripts in `examples/rows`.
 
-use crate::fault::FaultKind;
 use crate::player::play;
 use std::alloc::Global;
 
@@ -32,14 +30,6 @@ fn counts_of(alloc: Global, script: &str) -> (usize, usize, usize, usize) {
     counts
 }
 
-/// The line and the kind of the script's fault.
-fn fault_of(alloc: Global, script: &str) -> Option<(usize, FaultKind)> {
-    match play(alloc, script.as_bytes()) {
-        Ok(_) => None,
-        Err(fault) => Some((fault.line, fault.kind)),
-    }
-}
-
 #[test]
 fn first_ping(rt: HostRuntime) {
     let script =
@@ -57,79 +47,6 @@ fn bad_senders(rt: HostRuntime) {
         "start ok number 1\nevent 1 save none number 1 phase running\nnote 1 BadDatagram 1 TooShort\nevent 2 save none number 1 phase running\nnote 3 NotSender\n";
     assert!(rt; plays(rt.alloc(), script, transcript));
     assert_eq!(rt; counts_of(rt.alloc(), script), (1, 1, 0, 2));
-}
-
-#[test]
-fn faulty_lines(rt: HostRuntime) {
-    // Each has its fault in its first line.
-    let table = [
-        ("start\t1", FaultKind::Text),
-        ("# a bell \x07", FaultKind::Text),
-        ("stop", FaultKind::Command),
-        (" start 1", FaultKind::Command),
-        ("start", FaultKind::Argument),
-        ("start 0", FaultKind::Argument),
-        ("start 01", FaultKind::Argument),
-        ("start +1", FaultKind::Argument),
-        ("start 1 ", FaultKind::Argument),
-        ("start 1 2", FaultKind::Argument),
-        ("start 4611686018427387905", FaultKind::Argument),
-        ("group 18446744073709551616", FaultKind::Argument),
-        ("set lambda 1000001", FaultKind::Argument),
-        ("set block 1", FaultKind::Argument),
-        ("tick 4294967296", FaultKind::Argument),
-        ("leave now", FaultKind::Argument),
-        ("init 18446744073709551616", FaultKind::Argument),
-        ("open 1", FaultKind::Argument),
-        ("fail read 0", FaultKind::Argument),
-        ("fail read 1000001", FaultKind::Argument),
-        ("fail link 1", FaultKind::Argument),
-        ("tear sync 1", FaultKind::Argument),
-        ("halt", FaultKind::Argument),
-        ("crash", FaultKind::Argument),
-        ("crash twice", FaultKind::Argument),
-        ("crash fill", FaultKind::Argument),
-        ("crash fill a", FaultKind::Argument),
-        ("crash fill a5a5", FaultKind::Argument),
-        ("crash fill -", FaultKind::Argument),
-        ("disk 65536 00", FaultKind::Argument),
-        ("disk 0", FaultKind::Argument),
-        ("disk 0 0", FaultKind::Argument),
-        ("slots a", FaultKind::Argument),
-    ];
-    for (script, kind) in table {
-        assert_eq!(rt; fault_of(rt.alloc(), script), Some((1, kind)), "{script:?}");
-    }
-}
-
-#[test]
-fn faulty_endpoints_and_hex(rt: HostRuntime) {
-    let table = [
-        "me 10.0.0.1",
-        "me 10.0.0.1:0",
-        "me 10.0.0.1:65536",
-        "me 10.0.0.256:1",
-        "me 10.0.0.01:1",
-        "me 10.0.0:1",
-        "recv 10.0.0.1:1",
-        "recv 10.0.0.1:1 ",
-        "recv 10.0.0.1:1 0",
-        "recv 10.0.0.1:1 0g",
-    ];
-    for script in table {
-        assert_eq!(rt;
-            fault_of(rt.alloc(), script),
-            Some((1, FaultKind::Argument)),
-            "{script:?}"
-        );
-    }
-}
-
-#[test]
-fn first_faulty_line(rt: HostRuntime) {
-    let script = "start 1\n\n# frob\nfrob\nstart 0\n";
-    assert_eq!(rt; fault_of(rt.alloc(), script), Some((4, FaultKind::Command)));
-    assert_eq!(rt; fault_of(rt.alloc(), ""), None);
 }
 
 /// Lines that make or overwrite a disk or name an owner part the lives; kills, crashes and refused openings do not.

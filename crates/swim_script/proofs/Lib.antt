@@ -1,0 +1,6 @@
+mod Arguments
+mod Hex
+mod Keywords
+mod Lines
+mod Options
+mod Scripts

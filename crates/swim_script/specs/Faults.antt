@@ -1,0 +1,40 @@
+-- The first fault of a script.
+use Rattle.std.specs.Prelude.{◌≡◌, ◌⊎◌, ℕ, ◌+◌, true, Option, List, ◌∷◌, ◌++◌, length, All, Ok, Err}
+use Rattle.swim_script.specs.declared.command.Command.{Command}
+use Rattle.swim_script.specs.declared.fault.FaultKind.{FaultKind}
+use Rattle.swim_script.specs.declared.fault.FaultKind.TheVariants as fault
+use Rattle.swim_script.specs.declared.fault.ScriptFault.{ScriptFault}
+use Rattle.swim_script.specs.declared.keyword.Keyword.{Keyword}
+use Rattle.swim_words.specs.Words.{No}
+use Rattle.swim_script.specs.Commands.{BeginsWith, Says, SaysLine, is_said, judged, lines_of}
+
+-- the first word is no keyword; or it is one, and no command is said
+abbrev pub IsWordFault : List ℕ → FaultKind → Type 0
+IsWordFault text fault.Command = No (BeginsWith text)
+IsWordFault text fault.Argument = (keyword : Keyword) × BeginsWith text keyword × No (Says text)
+IsWordFault text _ = ⊥
+
+-- a line's first fault: one of its bytes, or else one of its words where it isn't empty and no comment
+abbrev pub IsFaultOf : List ℕ → FaultKind → Type 0
+IsFaultOf text kind = (judged text ≡ Err kind) ⊎ ((judged text ≡ Ok tt) × (is_said text ≡ true) × IsWordFault text kind)
+
+-- a line without a fault, which says a command or nothing
+abbrev pub IsGood : List ℕ → Type 0
+IsGood text = (judged text ≡ Ok tt) × (said : Option Command) × SaysLine text said
+
+-- the lines before it are good, and it is the first fault of this line, which is counted from 1
+pub record IsFaultAt (script : List ℕ) (f : ScriptFault) : Type 0 where
+  pub before : List (List ℕ)
+  pub text : List ℕ
+  pub after : List (List ℕ)
+  pub lines : lines_of script ≡ before ++ text ∷ after
+  pub good : All IsGood before
+  pub number : f.line ≡ length before + 1
+  pub faulty : IsFaultOf text f.kind
+
+abbrev pub no_memory : ScriptFault
+no_memory = record { line = 0; kind = fault.NoMemory }
+
+-- why a script is refused: its first fault, or memory ran out
+abbrev pub IsFirstFault : List ℕ → ScriptFault → Type 0
+IsFirstFault script f = (f ≡ no_memory) ⊎ IsFaultAt script f
