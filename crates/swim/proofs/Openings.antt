@@ -2,7 +2,8 @@
 use Rattle.std.proofs.Common.{◌≡◌, ℕ, ◌+◌, ◌-◌, ◌<◌, true, false, None, Some, List, [], ◌∷◌, ◌++◌, map, refl, sym, ap, ◌∙◌, subst, inl, inr, length}
 use Rattle.std.specs.Prelude.{Option, is_some, Result, Ok, Err, OnOk, OnErr, IfOk, IfErr, ◌≢◌, ◌⊎◌}
 use Rattle.std.proofs.lemmas.List.{length-map, map-append}
-use Rattle.swim_disk.specs.Part.{AlwaysHas}
+use Rattle.swim_disk.specs.Fault.{inner_of}
+use Rattle.swim_script.specs.Patches.{IsPatched}
 use Rattle.swim_disk.specs.declared.mem.Choice.{Choice}
 use Rattle.swim_state.specs.File.{floor}
 use Rattle.swim_state.specs.Recovery.{fault_of as shown}
@@ -90,11 +91,9 @@ crash-does p m q choice is has crashed =
 
 -- ---- other bytes
 
-pub overwrite-does : {E : Type 0} (p q : Playing) (patch : Patch) (result : Result (Unit {0}) E) → is_some p.life ≡ false → is_some p.disk ≡ true → OnOk result (Becomes (λ new. AlwaysHas patch.at patch.bytes.items (disk_state new)) (record p { apart = true }) q) → OnOk result (Does p (Overwrite patch) q)
-overwrite-does p q patch (Ok done) closed has becomes =
-    let at = some-of p.disk has in
-    if-closed p q _ closed (if-disk p q at.0 (λ disk. Becomes (λ new. AlwaysHas patch.at patch.bytes.items (disk_state new)) (record p { apart = true }) q) at.1 becomes)
-overwrite-does p q patch (Err e) closed has becomes = tt
+pub overwrite-does : {E : Type 0} (p q : Playing) (patch : Patch) (result : Result (Unit {0}) E) → is_some p.life ≡ false → OnOk result (IfDisk p.disk p q (λ disk. Becomes (λ new. IsPatched patch.at patch.bytes.items (inner_of disk) (inner_of new)) (record p { apart = true }) q)) → OnOk result (Does p (Overwrite patch) q)
+overwrite-does p q patch (Ok done) closed becomes = if-closed p q _ closed becomes
+overwrite-does p q patch (Err e) closed becomes = tt
 
 -- ---- openings
 

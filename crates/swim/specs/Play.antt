@@ -1,7 +1,6 @@
 -- What a script asks for: which disks there are, which members are opened, which events they get, and how they end.
 use Rattle.std.specs.Prelude.{◌≡◌, ◌⊎◌, ℕ, ◌+◌, ◌-◌, ◌*◌, ◌^◌, ◌<◌, ◌≤◌, Bool, true, false, List, [], ◌∷◌, ◌++◌, length, map, All, Option, Some, None, Result, OnOk, OnErr, IfErr}
 use Rattle.swim_disk.specs.Disk.{IsSettled, Rests}
-use Rattle.swim_disk.specs.Part.{AlwaysHas}
 use Rattle.swim_disk.specs.Choice.{left_by}
 use Rattle.swim_disk.specs.MemDisk.{disk_of}
 use Rattle.swim_disk.specs.Fault.{inner_of}
@@ -19,6 +18,7 @@ use Rattle.swim_node.specs.declared.entry.Entry.{Entry}
 use Rattle.swim_node.specs.declared.fault.OpenFault.TheVariants as node
 use Rattle.swim_node.specs.Lives.{Era, Life, AreRising}
 use Rattle.swim_node.specs.Node.{owner_of}
+use Rattle.swim_script.specs.Patches.{IsPatched}
 use Rattle.swim_script.specs.declared.command.Command.{Command}
 use Rattle.swim_script.specs.declared.command.Command.TheVariants.{Group, Me, Set, Start, Init, Open, Happen, Plan, Kill, Crash, Overwrite, Slots, Rebase}
 use Rattle.swim_script.specs.declared.command.Failure.{Failure}
@@ -237,7 +237,7 @@ Does p (Happen event) q = Happens event p.life p q
 Does p (Plan failure) q = q ≡ p
 Does p Kill q = q ≡ ended p
 Does p (Crash choice) q = IfDisk p.disk p q (λ disk. Becomes (IsCrashed choice disk) (ended p) q)
-Does p (Overwrite patch) q = IfClosed p.life p q (IfDisk p.disk p q (λ disk. Becomes (λ new. AlwaysHas patch.at patch.bytes.items (disk_state new)) (record p { apart = true }) q))
+Does p (Overwrite patch) q = IfClosed p.life p q (IfDisk p.disk p q (λ disk. Becomes (λ new. IsPatched patch.at patch.bytes.items (inner_of disk) (inner_of new)) (record p { apart = true }) q))
 Does p Slots q = q ≡ p
 Does p Rebase q = q ≡ record p { life = rebased p.life }
 

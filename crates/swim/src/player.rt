@@ -40,7 +40,7 @@ struct Made {
 fn make_disk(alloc: Global, owner: Owner, ceiling: u64) -> Result<Made, AllocError>
     ensures { IfOk result (λ made. IsMade owner ceiling made.disk made.answer) }
 {
-    let Ok((mut disk, plan)) = FaultDisk::new(alloc, MemDisk::new(alloc, Vec::new(alloc))) else {
+    let Ok((mut disk, plan)) = FaultDisk::new(alloc, MemDisk::new(alloc, 0, Vec::new(alloc))) else {
         return Err(AllocError);
     };
     let answer = init(&mut disk, owner, ceiling);

@@ -1,7 +1,8 @@
 //! The lives of a script, one after another on the disks that it makes.
 
 ghost use Rattle.std.specs.Prelude.{◌≡◌, ◌≢◌, ◌+◌, ◌<◌, ◌++◌, ◌∷◌, [], None, Some, false, true, List, map, length, vec_capacity, is_some, All, IfOk, IfSome, OnOk};
-ghost use Rattle.swim_disk.specs.Part.{AlwaysHas};
+ghost use Rattle.swim_disk.specs.Fault.{inner_of};
+ghost use Rattle.swim_script.specs.Patches.{IsPatched};
 ghost use Rattle.swim_node.specs.Node.{owner_of};
 ghost use Rattle.swim_node.specs.Sending.{HasTexts};
 ghost use Rattle.swim_member.specs.declared.event.Event.{Event as Events};
@@ -13,14 +14,13 @@ use crate::life::{Life, Living, PlayDisk};
 use crate::setup::Setup;
 use std::alloc::{AllocError, Global};
 use std::marker::Model;
-use std::mem;
+use std::{fmt, mem};
 use swim_disk::{Choice, MemDisk};
 use swim_member::{Event, SettingsFault};
 use swim_node::{ApplyFault, Entry, MemoryLink, OpenFault, own_numbers_rise};
 use swim_script::{Patch, Setting};
 use swim_state::Owner;
 use swim_wire::Endpoint;
-use thiserror::Error;
 
 /// Lives of one owner on one disk, one after another.
 #[derive(Drop)]
@@ -40,15 +40,27 @@ pub(crate) enum Stage {
     Open(Living),
 }
 
-/// Why an opening was refused.
-#[derive(Clone, Copy, Debug, PartialEq, Eq, Error)]
+/// Why an opening was refused. It prints the line of a transcript.
+#[derive(Clone, Copy, Debug, PartialEq, Eq)]
 pub(crate) enum Refusal {
     /// The settings were not sound.
-    #[error("settings refused {0}")]
     Settings(SettingsFault),
     /// The node was not opened.
-    #[error("open refused {0}")]
     Open(OpenFault),
+}
+
+impl fmt::Display for Refusal {
+    ghost use Rattle.std.specs.Prelude.{Some};
+    ghost use Rattle.swim.specs.Text.{refusal_text};
+
+    ghost output = { λ refusal. Some (refusal_text refusal) };
+
+    fn fmt<W: fmt::Write>(&self, f: &mut fmt::Formatter<W>) -> fmt::Result {
+        match self {
+            Refusal::Settings(fault) => write!(f, "settings refused {fault}"),
+            Refusal::Open(fault) => write!(f, "open refused {fault}"),
+        }
+    }
 }
 
 /// What came of an opening.
@@ -109,7 +121,7 @@ fn close_run(runs: &mut Vec<Run>, lives: &mut Vec<Life>)
 fn crash_disk(alloc: Global, disk: &mut PlayDisk, choice: Choice)
     ensures { IsCrashed choice disk.old disk.new }
 {
-    let before = disk.replace(MemDisk::new(alloc, Vec::new(alloc)));
+    let before = disk.replace(MemDisk::new(alloc, 0, Vec::new(alloc)));
     disk.replace(before.crash(choice));
 }
 
@@ -303,7 +315,9 @@ impl Story {
     pub(crate) fn overwrite(&mut self, patch: &Patch) -> Result<(), AllocError>
         requires closed { is_some self.old.life ≡ false }
         requires disk { is_some self.old.disk ≡ true }
-        ensures { OnOk result (Becomes (λ new. AlwaysHas patch.now.at patch.now.bytes.items (disk_state new)) (record self.old { apart = true }) self.new) }
+        ensures { OnOk result (IfDisk self.old.disk self.old self.new
+            (λ disk. Becomes (λ new. IsPatched patch.now.at patch.now.bytes.items
+            (inner_of disk) (inner_of new)) (record self.old { apart = true }) self.new)) }
     {
         match &mut self.stage {
             Stage::Idle(disk) => {

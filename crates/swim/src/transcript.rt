@@ -1,11 +1,13 @@
 //! The text of a transcript.
 
-ghost use Rattle.std.specs.Prelude.{All};
+ghost use Rattle.std.specs.Prelude.{◌≡◌, All};
 ghost use Rattle.swim_wire.specs.Spelling.{HasText};
 ghost use Rattle.swim_node.specs.Sending.{HasTexts};
+ghost use Rattle.swim.specs.Text.{kind_word, outcome_word, phase_word, save_word};
 
 use crate::story::Opening;
 use std::alloc::{AllocError, Global};
+use std::fmt;
 use std::fmt::Write;
 use swim_member::{Note, Out, Phase};
 use swim_node::{Entry, Outcome, Save, Status};
@@ -13,7 +15,9 @@ use swim_state::{Reading, slots_in};
 use swim_wire::{Update, UpdateKind, encode};
 
 /// The name of a phase.
-fn phase_name(phase: Phase) -> &'static str {
+fn phase_name(phase: Phase) -> &'static str
+    ensures { result.now ≡ phase_word phase }
+{
     match phase {
         Phase::Running => "running",
         Phase::Left => "left",
@@ -22,7 +26,9 @@ fn phase_name(phase: Phase) -> &'static str {
 }
 
 /// The name of what became of the ceiling.
-fn save_name(save: Save) -> &'static str {
+fn save_name(save: Save) -> &'static str
+    ensures { result.now ≡ save_word save }
+{
     match save {
         Save::Kept => "none",
         Save::Done => "done",
@@ -31,7 +37,9 @@ fn save_name(save: Save) -> &'static str {
 }
 
 /// The name of what an update says.
-fn kind_name(kind: UpdateKind) -> &'static str {
+fn kind_name(kind: UpdateKind) -> &'static str
+    ensures { result.now ≡ kind_word kind }
+{
     match kind {
         UpdateKind::Alive => "alive",
         UpdateKind::Suspect => "suspect",
@@ -40,54 +48,47 @@ fn kind_name(kind: UpdateKind) -> &'static str {
 }
 
 /// The name of what became of a datagram.
-fn outcome_name(outcome: Outcome) -> &'static str {
+fn outcome_name(outcome: Outcome) -> &'static str
+    ensures { result.now ≡ outcome_word outcome }
+{
     match outcome {
         Outcome::Taken => "taken",
         Outcome::Lost => "lost",
     }
 }
 
-fn write_status(text: &mut String, status: &Status, save: Save) -> Result<(), AllocError> {
-    let length = status.length;
-    let number = status.number;
-    let save = save_name(save);
-    let phase = phase_name(status.phase);
-    writeln!(
-        text,
-        "event {length} save {save} number {number} phase {phase}"
-    )
+/// The first line of an event.
+#[derive(Clone, Copy)]
+struct EventLine {
+    status: Status,
+    save: Save,
 }
 
-/// The number and the name of a note.
-fn note_name(note: Note) -> &'static str {
-    match note {
-        Note::BadDatagram(_) => "1 BadDatagram",
-        Note::OtherGroup => "2 OtherGroup",
-        Note::NotSender => "3 NotSender",
-        Note::FromSelf => "4 FromSelf",
-        Note::Leap => "5 Leap",
-        Note::NoNumberLeft => "6 NoNumberLeft",
-        Note::TableFull => "7 TableFull",
-        Note::Misdirected => "8 Misdirected",
-        Note::RelaysFull => "9 RelaysFull",
-        Note::UnknownTarget => "10 UnknownTarget",
-        Note::Unasked => "11 Unasked",
-        Note::SaveFailed => "12 SaveFailed",
-        Note::Expelled => "13 Expelled",
-        Note::Stopped => "14 Stopped",
-        Note::ReceiveFailed => "15 ReceiveFailed",
-        Note::SendFailed(_) => "16 SendFailed",
-        Note::TimeOver => "17 TimeOver",
+impl fmt::Display for EventLine {
+    ghost use Rattle.std.specs.Prelude.{Some};
+    ghost use Rattle.swim.specs.Text.{event_text};
+
+    ghost output = { λ line. Some (event_text line.status line.save) };
+
+    fn fmt<W: fmt::Write>(&self, f: &mut fmt::Formatter<W>) -> fmt::Result {
+        let length = self.status.length;
+        let number = self.status.number;
+        let save = save_name(self.save);
+        let phase = phase_name(self.status.phase);
+        write!(
+            f,
+            "event {length} save {save} number {number} phase {phase}"
+        )
     }
+}
+
+fn write_status(text: &mut String, status: Status, save: Save) -> Result<(), AllocError> {
+    let line = EventLine { status, save };
+    writeln!(text, "{line}")
 }
 
 fn write_note(text: &mut String, note: Note) -> Result<(), AllocError> {
-    let name = note_name(note);
-    match note {
-        Note::BadDatagram(fault) => writeln!(text, "note {name} {fault}"),
-        Note::SendFailed(count) => writeln!(text, "note {name} {count}"),
-        _ => writeln!(text, "note {name}"),
-    }
+    writeln!(text, "note {note}")
 }
 
 fn write_row(text: &mut String, update: &Update) -> Result<(), AllocError> {
@@ -116,7 +117,7 @@ fn write_send(
 pub(crate) fn write_entry(alloc: Global, text: &mut String, entry: &Entry) -> Result<(), AllocError>
     requires { HasTexts entry.now }
 {
-    write_status(text, &entry.reply.status, entry.save)?;
+    write_status(text, entry.reply.status, entry.save)?;
     for note in entry.reply.notes.as_slice() {
         write_note(text, *note)?;
     }

@@ -1,3 +1,4 @@
 mod Filled
 mod Parts
 pub mod Recorded
+mod Patched

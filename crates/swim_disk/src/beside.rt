@@ -1,8 +1,10 @@
 //! The calls of a disk again, beside some bytes that stand.
 
-ghost use Rattle.std.specs.Prelude.{◌+◌, ◌-◌, ◌≤◌, ◌⊎◌, length};
-ghost use Rattle.swim_disk.specs.MemDisk.{state_of};
+ghost use Rattle.std.specs.Prelude.{◌≡◌, ◌+◌, ◌-◌, ◌≤◌, ◌⊎◌, ℕ, List, length, OnOk};
+ghost use Rattle.swim_disk.specs.MemDisk.{disk_of, state_of};
 ghost use Rattle.swim_disk.specs.Part.{KeepsPart};
+ghost use Rattle.swim_disk.specs.Patch.{Patches, written_beside};
+ghost use Rattle.swim_disk.specs.Replay.{replay, step, written};
 
 use crate::past::Call;
 use crate::{Disk, DiskFault, MemDisk};
@@ -16,47 +18,14 @@ fn write_apart(
     count: u64,
 ) -> Result<(), DiskFault>
     requires { (begin + length bytes.now ≤ at) ⊎ (at + count ≤ begin) }
-    ensures { KeepsPart at count (state_of disk.old) (state_of disk.new) }
+    ensures kept { KeepsPart at count (state_of disk.old) (state_of disk.new) }
+    ensures name { (state_of disk.new).name ≡ (state_of disk.old).name }
+    ensures done { OnOk result (disk_of disk.new ≡ written begin bytes.now (disk_of disk.old)) }
 {
     disk.write_at(begin, bytes)
 }
 
-/// What a write puts before the `count` bytes from `at` on.
-fn write_before(
-    disk: &mut MemDisk,
-    begin: u64,
-    bytes: &[u8],
-    at: u64,
-    count: u64,
-) -> Result<(), DiskFault>
-    ensures { KeepsPart at count (state_of disk.old) (state_of disk.new) }
-{
-    if begin >= at {
-        return Ok(());
-    }
-    let before = bytes.len().min((at - begin) as usize);
-    write_apart(disk, begin, &bytes[..before], at, count)
-}
-
-/// What a write puts past the `count` bytes from `at` on.
-fn write_after(
-    disk: &mut MemDisk,
-    begin: u64,
-    bytes: &[u8],
-    at: u64,
-    count: u64,
-) -> Result<(), DiskFault>
-    requires { at + count ≤ 65536 }
-    ensures { KeepsPart at count (state_of disk.old) (state_of disk.new) }
-{
-    let skipped = (at + count).saturating_sub(begin);
-    if bytes.len() as u64 <= skipped {
-        return Ok(());
-    }
-    write_apart(disk, begin + skipped, &bytes[skipped as usize..], at, count)
-}
-
-/// What a write puts beside the `count` bytes from `at` on.
+/// What a write puts beside the `count` bytes from `at` on: before them, and past them.
 fn write_beside(
     disk: &mut MemDisk,
     begin: u64,
@@ -65,16 +34,25 @@ fn write_beside(
     count: u64,
 ) -> Result<(), DiskFault>
     requires { at + count ≤ 65536 }
-    ensures { KeepsPart at count (state_of disk.old) (state_of disk.new) }
+    ensures kept { KeepsPart at count (state_of disk.old) (state_of disk.new) }
+    ensures name { (state_of disk.new).name ≡ (state_of disk.old).name }
+    ensures done { OnOk result
+        (disk_of disk.new ≡ written_beside at count begin bytes.now (disk_of disk.old)) }
 {
-    write_before(disk, begin, bytes, at, count)?;
-    write_after(disk, begin, bytes, at, count)
+    let end = at + count;
+    let before = bytes.len().min(at.saturating_sub(begin) as usize);
+    write_apart(disk, begin.min(at), &bytes[..before], at, count)?;
+    let skipped = bytes.len().min(end.saturating_sub(begin) as usize);
+    write_apart(disk, begin.max(end), &bytes[skipped..], at, count)
 }
 
 /// This call, but for what it writes to the `count` bytes from `at` on.
 fn repeat_call(disk: &mut MemDisk, call: &Call, at: u64, count: u64) -> Result<(), DiskFault>
     requires { at + count ≤ 65536 }
-    ensures { KeepsPart at count (state_of disk.old) (state_of disk.new) }
+    ensures kept { KeepsPart at count (state_of disk.old) (state_of disk.new) }
+    ensures name { (state_of disk.new).name ≡ (state_of disk.old).name }
+    ensures patches { OnOk result
+        (Patches at count (step call.now) (disk_of disk.old) (disk_of disk.new)) }
 {
     match call {
         Call::Sync => disk.sync(),
@@ -90,7 +68,10 @@ pub(crate) fn repeat_beside(
     count: u64,
 ) -> Result<(), DiskFault>
     requires { at + count ≤ 65536 }
-    ensures { KeepsPart at count (state_of disk.old) (state_of disk.new) }
+    ensures kept { KeepsPart at count (state_of disk.old) (state_of disk.new) }
+    ensures name { (state_of disk.new).name ≡ (state_of disk.old).name }
+    ensures patches { OnOk result
+        (Patches at count (λ d. replay d calls.now) (disk_of disk.old) (disk_of disk.new)) }
 {
     for call in calls {
         repeat_call(disk, call, at, count)?;

@@ -1,4 +1,4 @@
-//! How often a disk has failed.
+//! How often something happened to a disk.
 
 ghost use Rattle.std.specs.Prelude.{◌≡◌, ◌+◌};
 
@@ -8,7 +8,7 @@ use http_server::Log;
 /// A count without a bound, which takes no bytes: only contracts see it.
 #[derive(Drop)]
 pub(crate) struct Count {
-    failures: Log<u8, u8>,
+    times: Log<u8, u8>,
 }
 
 impl Count {
@@ -18,9 +18,14 @@ impl Count {
     pub(crate) fn new() -> Count
         ensures { count_of result ≡ 0 }
     {
-        Count {
-            failures: Log::new(),
-        }
+        Count { times: Log::new() }
+    }
+
+    /// Once more.
+    pub(crate) fn add(&mut self)
+        ensures { count_of self.new ≡ count_of self.old + 1 }
+    {
+        self.times = self.times.and(&0, &0);
     }
 
     /// One failure more, for this reason.
@@ -28,7 +33,7 @@ impl Count {
         ensures count { count_of self.new ≡ count_of self.old + 1 }
         ensures fault { result ≡ fault }
     {
-        self.failures = self.failures.and(&0, &0);
+        self.add();
         fault
     }
 }

@@ -24,7 +24,8 @@ pub enum DiskFault {
 }
 
 /// A row of bytes that is read and written at offsets, and that a crash leaves as it was last synced but for what was
-/// written since then. Each failed call raises the disk's count of failures by one, and no other call does.
+/// written since then. Each call raises the disk's count of calls by one; a failed one raises its count of failures by
+/// one, and no other call does.
 pub trait Disk {
     /// The disk at this moment.
     ghost state: { Self → State };
@@ -35,12 +36,14 @@ pub trait Disk {
     /// The count of bytes. It counts as a read.
     fn len(&mut self) -> Result<u64, DiskFault>
         ensures counts { Counts result (state self.old) (state self.new) }
+        ensures asked { (state self.new).calls ≡ (state self.old).calls + 1 }
         ensures rests { keeps_model → Rests (state self.old) (state self.new) }
         ensures len { keeps_model → IfOk result (λ n. n ≡ length (state self.old).content) };
 
     /// Fills the whole buffer with the bytes from offset `at` on. Past the end it fails.
     fn read_at(&mut self, at: u64, buffer: &mut [u8]) -> Result<(), DiskFault>
         ensures counts { Counts result (state self.old) (state self.new) }
+        ensures asked { (state self.new).calls ≡ (state self.old).calls + 1 }
         ensures rests { keeps_model → Rests (state self.old) (state self.new) }
         ensures within { keeps_model
             → OnOk result (at + length buffer.old ≤ length (state self.old).content) }
@@ -52,11 +55,13 @@ pub trait Disk {
     /// zero bytes. Until the next sync a crash may leave any bytes in that range, also where the write failed.
     fn write_at(&mut self, at: u64, bytes: &[u8]) -> Result<(), DiskFault>
         ensures counts { Counts result (state self.old) (state self.new) }
+        ensures asked { (state self.new).calls ≡ (state self.old).calls + 1 }
         ensures writes { keeps_model
             → Writes at bytes.now result (state self.old) (state self.new) };
 
     /// Where it succeeds a crash leaves what a read gives.
     fn sync(&mut self) -> Result<(), DiskFault>
         ensures counts { Counts result (state self.old) (state self.new) }
+        ensures asked { (state self.new).calls ≡ (state self.old).calls + 1 }
         ensures syncs { keeps_model → Syncs result (state self.old) (state self.new) };
 }

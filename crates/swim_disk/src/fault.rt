@@ -14,11 +14,12 @@ pub struct FaultDisk<D: Disk> {
     inner: D,
     rules: Arc<Rules, Global>,
     failures: Count,
+    asked: Count,
 }
 
 impl<D: Disk> FaultDisk<D> {
     ghost use Rattle.swim_disk.specs.Disk.{Counts, Writes};
-    ghost use Rattle.swim_disk.specs.Fault.{inner_of, own_failures, state_of};
+    ghost use Rattle.swim_disk.specs.Fault.{IsTorn, inner_of, own_failures, state_of};
 
     /// A disk over this one that fails nothing yet, and its plan. Where memory is wanting the disk comes back.
     pub fn new(alloc: Global, inner: D) -> Result<(FaultDisk<D>, Plan), D>
@@ -32,6 +33,7 @@ impl<D: Disk> FaultDisk<D> {
                     inner,
                     rules,
                     failures: Count::new(),
+                    asked: Count::new(),
                 },
                 plan,
             )),
@@ -54,6 +56,7 @@ impl<D: Disk> FaultDisk<D> {
             inner,
             rules: _,
             failures: _,
+            asked: _,
         } = self;
         inner
     }
@@ -71,8 +74,10 @@ impl<D: Disk> FaultDisk<D> {
     /// A write of the first half of these bytes, rounded up, which then fails.
     fn tear(&mut self, at: u64, bytes: &[u8]) -> Result<(), DiskFault>
         ensures counts { Counts result (state_of D.state self.old) (state_of D.state self.new) }
+        ensures asked { (state_of D.state self.new).calls ≡ (state_of D.state self.old).calls }
         ensures writes { D.keeps_model
             → Writes at bytes.now result (state_of D.state self.old) (state_of D.state self.new) }
+        ensures torn { IsTorn D.keeps_model D.state at bytes.now result self.old self.new }
     {
         let half = &bytes[..bytes.len() - bytes.len() / 2];
         match self.inner.write_at(at, half) {
@@ -83,27 +88,66 @@ impl<D: Disk> FaultDisk<D> {
 }
 
 impl<D: Disk> Disk for FaultDisk<D> {
-    ghost use Rattle.swim_disk.specs.Fault.{state_of};
+    ghost use Rattle.std.specs.Prelude.{◌≤◌, length, take, drop, OnOk};
+    ghost use Rattle.swim_disk.specs.Disk.{Counts, Rests, Syncs, Writes};
+    ghost use Rattle.swim_disk.specs.Fault.{Passes, PassesWrite, state_of};
 
     ghost state = { λ f. state_of D.state f };
 
     ghost keeps_model = { D.keeps_model };
 
-    fn len(&mut self) -> Result<u64, DiskFault> {
+    fn len(&mut self) -> Result<u64, DiskFault>
+        ensures counts { Counts result (state_of D.state self.old) (state_of D.state self.new) }
+        ensures asked { (state_of D.state self.new).calls
+            ≡ (state_of D.state self.old).calls + 1 }
+        ensures rests { D.keeps_model
+            → Rests (state_of D.state self.old) (state_of D.state self.new) }
+        ensures len { D.keeps_model
+            → IfOk result (λ n. n ≡ length (state_of D.state self.old).content) }
+
+        // It is passed on, or fails by the plan.
+        ensures passes { Passes D.state result self.old self.new }
+    {
+        self.asked.add();
         if self.rules.fails_read() {
             return Err(self.failures.fail(DiskFault::Planned));
         }
         self.inner.len()
     }
 
-    fn read_at(&mut self, at: u64, buffer: &mut [u8]) -> Result<(), DiskFault> {
+    fn read_at(&mut self, at: u64, buffer: &mut [u8]) -> Result<(), DiskFault>
+        ensures counts { Counts result (state_of D.state self.old) (state_of D.state self.new) }
+        ensures asked { (state_of D.state self.new).calls
+            ≡ (state_of D.state self.old).calls + 1 }
+        ensures rests { D.keeps_model
+            → Rests (state_of D.state self.old) (state_of D.state self.new) }
+        ensures within { D.keeps_model → OnOk result
+            (at + length buffer.old ≤ length (state_of D.state self.old).content) }
+        ensures read { D.keeps_model → OnOk result
+            (buffer.new
+            ≡ take (length buffer.old) (drop at (state_of D.state self.old).content)) }
+
+        // It is passed on, or fails by the plan.
+        ensures passes { Passes D.state result self.old self.new }
+    {
+        self.asked.add();
         if self.rules.fails_read() {
             return Err(self.failures.fail(DiskFault::Planned));
         }
         self.inner.read_at(at, buffer)
     }
 
-    fn write_at(&mut self, at: u64, bytes: &[u8]) -> Result<(), DiskFault> {
+    fn write_at(&mut self, at: u64, bytes: &[u8]) -> Result<(), DiskFault>
+        ensures counts { Counts result (state_of D.state self.old) (state_of D.state self.new) }
+        ensures asked { (state_of D.state self.new).calls
+            ≡ (state_of D.state self.old).calls + 1 }
+        ensures writes { D.keeps_model
+            → Writes at bytes.now result (state_of D.state self.old) (state_of D.state self.new) }
+
+        // It is passed on whole, or fails by the plan, or its first half is passed on and it fails.
+        ensures passes { PassesWrite D.keeps_model D.state at bytes.now result self.old self.new }
+    {
+        self.asked.add();
         if self.rules.fails_write() {
             return Err(self.failures.fail(DiskFault::Planned));
         }
@@ -113,7 +157,17 @@ impl<D: Disk> Disk for FaultDisk<D> {
         self.inner.write_at(at, bytes)
     }
 
-    fn sync(&mut self) -> Result<(), DiskFault> {
+    fn sync(&mut self) -> Result<(), DiskFault>
+        ensures counts { Counts result (state_of D.state self.old) (state_of D.state self.new) }
+        ensures asked { (state_of D.state self.new).calls
+            ≡ (state_of D.state self.old).calls + 1 }
+        ensures syncs { D.keeps_model
+            → Syncs result (state_of D.state self.old) (state_of D.state self.new) }
+
+        // It is passed on, or fails by the plan.
+        ensures passes { Passes D.state result self.old self.new }
+    {
+        self.asked.add();
         let fails = self.rules.fails_sync();
         self.rules.wait();
         if fails {

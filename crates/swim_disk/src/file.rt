@@ -11,6 +11,7 @@ use std::path::AsPath;
 pub struct FileDisk {
     file: File,
     failures: Count,
+    asked: Count,
 }
 
 impl FileDisk {
@@ -19,6 +20,7 @@ impl FileDisk {
         FileDisk {
             file,
             failures: Count::new(),
+            asked: Count::new(),
         }
     }
 
@@ -44,11 +46,12 @@ impl Disk for FileDisk {
     ghost use Rattle.swim_disk.specs.File.{file_state};
     ghost use Rattle.swim_disk.specs.Count.{count_of};
 
-    ghost state = { λ f. file_state (count_of f.failures) };
+    ghost state = { λ f. file_state (count_of f.failures) (count_of f.asked) };
 
     ghost keeps_model = { ⊥ };
 
     fn len(&mut self) -> Result<u64, DiskFault> {
+        self.asked.add();
         match self.file.metadata() {
             Ok(found) => Ok(found.len()),
             Err(_) => Err(self.failures.fail(DiskFault::System)),
@@ -56,6 +59,7 @@ impl Disk for FileDisk {
     }
 
     fn read_at(&mut self, at: u64, buffer: &mut [u8]) -> Result<(), DiskFault> {
+        self.asked.add();
         match self.file.read_exact_at(buffer, at) {
             Ok(()) => Ok(()),
             Err(_) => Err(self.failures.fail(DiskFault::System)),
@@ -63,6 +67,7 @@ impl Disk for FileDisk {
     }
 
     fn write_at(&mut self, at: u64, bytes: &[u8]) -> Result<(), DiskFault> {
+        self.asked.add();
         match self.file.write_all_at(bytes, at) {
             Ok(()) => Ok(()),
             Err(_) => Err(self.failures.fail(DiskFault::System)),
@@ -70,6 +75,7 @@ impl Disk for FileDisk {
     }
 
     fn sync(&mut self) -> Result<(), DiskFault> {
+        self.asked.add();
         match self.file.sync_all() {
             Ok(()) => Ok(()),
             Err(_) => Err(self.failures.fail(DiskFault::System)),

@@ -3,6 +3,7 @@ ghost use Rattle.swim_disk.specs.Disk.{overlaid};
 ghost use Rattle.swim_disk.specs.Past.{start_of, calls_of};
 ghost use Rattle.swim_disk.specs.Replay.{replay, fresh, Leaves, end_of, fill_all};
 ghost use Rattle.swim_disk.specs.Choice.{left_by};
+ghost use Rattle.swim_disk.specs.declared.mem.Choice.{Choice as Choices};
 ghost use Rattle.swim_disk.specs.declared.past.Call.TheVariants.{Write, Sync};
 
 use crate::beside::repeat_beside;
@@ -29,9 +30,11 @@ pub enum Choice {
 #[derive(Drop)]
 pub struct MemDisk {
     alloc: Global,
+    number: u64,
     bytes: Vec<u8>,
     past: Option<Past>,
     failures: Count,
+    asked: Count,
     ghost size: { length bytes.items ≤ 65536 },
     ghost content: { bytes.items ≡ (replay (fresh (start_of past bytes.items)) (calls_of past)).content },
 }
@@ -41,18 +44,22 @@ impl MemDisk {
     ghost use Rattle.swim_disk.specs.MemDisk.{disk_of, state_of};
     ghost use Rattle.swim_disk.specs.Part.{AlwaysHas};
 
-    /// A disk with these bytes, all of them synced.
-    pub fn new(alloc: Global, bytes: Vec<u8>) -> MemDisk
+    /// A disk with these bytes, all of them synced. The number is its name.
+    pub fn new(alloc: Global, number: u64, bytes: Vec<u8>) -> MemDisk
         requires { length bytes.items ≤ 65536 }
+        ensures name { (state_of result).name ≡ number }
         ensures content { (state_of result).content ≡ bytes.items }
         ensures failures { (state_of result).failures ≡ 0 }
         ensures settled { IsSettled (state_of result) }
+        ensures fresh { disk_of result ≡ fresh bytes.items }
     {
         MemDisk {
             alloc,
+            number,
             bytes,
             past: None,
             failures: Count::new(),
+            asked: Count::new(),
         }
     }
 
@@ -64,22 +71,30 @@ impl MemDisk {
     }
 
     /// The disk that this one would be if these bytes had stood at this offset from the beginning, and
-    /// no call had written over them. A crash leaves them too. Its failures are counted anew.
+    /// no call had written over them. A crash leaves them too. Its failures are counted anew. Err: there was no memory.
     pub fn overwritten(&self, at: u64, bytes: &[u8]) -> Result<MemDisk, DiskFault>
         requires { at + length bytes.now ≤ 65536 }
-        ensures { IfOk result (λ d. AlwaysHas at bytes.now (state_of d)) }
+        ensures name { IfOk result (λ d. (state_of d).name ≡ (state_of self.now).name) }
+        ensures stands { IfOk result (λ d. AlwaysHas at bytes.now (state_of d)) }
+
+        // All other bytes are as they were: of what a read gives, and of what each crash leaves.
+        ensures content { IfOk result
+            (λ d. (state_of d).content ≡ overlaid (state_of self.now).content at bytes.now) }
+        ensures left { IfOk result (λ d. (choice : Choices)
+            → left_by choice (disk_of d) ≡ overlaid (left_by choice (disk_of self.now)) at bytes.now) }
     {
         let Ok(first) = overlay(self.alloc, self.first(), at, bytes) else {
             return Err(DiskFault::NoMemory);
         };
-        let mut disk = MemDisk::new(self.alloc, first);
+        let mut disk = MemDisk::new(self.alloc, self.number, first);
         repeat_beside(&mut disk, self.calls(), at, bytes.len() as u64)?;
         Ok(disk)
     }
 
     /// The bytes that it was made with.
     fn first(&self) -> &[u8]
-        ensures { length result.now ≤ 65536 }
+        ensures size { length result.now ≤ 65536 }
+        ensures bytes { result.now ≡ start_of self.now.past self.now.bytes.items }
     {
         match &self.past {
             None => &self.bytes,
@@ -88,7 +103,9 @@ impl MemDisk {
     }
 
     /// The calls in its record, the oldest first.
-    fn calls(&self) -> &[Call] {
+    fn calls(&self) -> &[Call]
+        ensures { result.now ≡ calls_of self.now.past }
+    {
         match &self.past {
             None => &[],
             Some(past) => &past.calls,
@@ -105,9 +122,11 @@ impl MemDisk {
     {
         let MemDisk {
             alloc,
+            number,
             bytes,
             past,
             failures,
+            asked,
         } = self;
         let bytes = match past {
             None => bytes,
@@ -115,9 +134,11 @@ impl MemDisk {
         };
         MemDisk {
             alloc,
+            number,
             bytes,
             past: None,
             failures,
+            asked,
         }
     }
 }
@@ -238,17 +259,42 @@ fn left(mut bytes: Vec<u8>, past: Past, choice: Choice) -> Vec<u8>
 }
 
 impl Disk for MemDisk {
-    ghost use Rattle.swim_disk.specs.MemDisk.{state_of};
+    ghost use Rattle.std.specs.Prelude.{◌<◌, take, drop, Err, IfErr, IsOk};
+    ghost use Rattle.swim_disk.specs.Disk.{Counts, Rests, Syncs, Writes};
+    ghost use Rattle.swim_disk.specs.MemDisk.{disk_of, state_of};
+    ghost use Rattle.swim_disk.specs.Replay.{all_synced, written};
 
     ghost state = { λ m. state_of m };
 
     ghost keeps_model = { Unit {0} };
 
-    fn len(&mut self) -> Result<u64, DiskFault> {
+    fn len(&mut self) -> Result<u64, DiskFault>
+        ensures counts { Counts result (state_of self.old) (state_of self.new) }
+        ensures asked { (state_of self.new).calls ≡ (state_of self.old).calls + 1 }
+        ensures rests { Rests (state_of self.old) (state_of self.new) }
+        ensures len { IfOk result (λ n. n ≡ length (state_of self.old).content) }
+
+        // It doesn't fail.
+        ensures ok { IsOk result }
+    {
+        self.asked.add();
         Ok(self.bytes.len() as u64)
     }
 
-    fn read_at(&mut self, at: u64, buffer: &mut [u8]) -> Result<(), DiskFault> {
+    fn read_at(&mut self, at: u64, buffer: &mut [u8]) -> Result<(), DiskFault>
+        ensures counts { Counts result (state_of self.old) (state_of self.new) }
+        ensures asked { (state_of self.new).calls ≡ (state_of self.old).calls + 1 }
+        ensures rests { Rests (state_of self.old) (state_of self.new) }
+        ensures within { OnOk result
+            (at + length buffer.old ≤ length (state_of self.old).content) }
+        ensures read { OnOk result
+            (buffer.new ≡ take (length buffer.old) (drop at (state_of self.old).content)) }
+
+        // It fails past the end, and nowhere else.
+        ensures past { IfErr result (λ fault. (fault ≡ DiskFault.PastEnd)
+            × (length (state_of self.old).content < at + length buffer.old)) }
+    {
+        self.asked.add();
         let len = self.bytes.len() as u64;
         if at > len || buffer.len() as u64 > len - at {
             return Err(self.failures.fail(DiskFault::PastEnd));
@@ -258,7 +304,22 @@ impl Disk for MemDisk {
         Ok(())
     }
 
-    fn write_at(&mut self, at: u64, bytes: &[u8]) -> Result<(), DiskFault> {
+    fn write_at(&mut self, at: u64, bytes: &[u8]) -> Result<(), DiskFault>
+        ensures counts { Counts result (state_of self.old) (state_of self.new) }
+        ensures asked { (state_of self.new).calls ≡ (state_of self.old).calls + 1 }
+        ensures writes { Writes at bytes.now result (state_of self.old) (state_of self.new) }
+
+        // Past the room it fails, and within the room only for want of memory.
+        ensures room { at + length bytes.now ≤ 65536
+            → IfErr result (λ fault. fault ≡ DiskFault.NoMemory) }
+        ensures full { 65536 < at + length bytes.now → result ≡ Err DiskFault.NoRoom }
+
+        // What a crash may be chosen to leave.
+        ensures done { OnOk result
+            (disk_of self.new ≡ written at bytes.now (disk_of self.old)) }
+        ensures failed { OnErr result (disk_of self.new ≡ disk_of self.old) }
+    {
+        self.asked.add();
         if at > MOST_BYTES || bytes.len() as u64 > MOST_BYTES - at {
             return Err(self.failures.fail(DiskFault::NoRoom));
         }
@@ -271,7 +332,19 @@ impl Disk for MemDisk {
         }
     }
 
-    fn sync(&mut self) -> Result<(), DiskFault> {
+    fn sync(&mut self) -> Result<(), DiskFault>
+        ensures counts { Counts result (state_of self.old) (state_of self.new) }
+        ensures asked { (state_of self.new).calls ≡ (state_of self.old).calls + 1 }
+        ensures syncs { Syncs result (state_of self.old) (state_of self.new) }
+
+        // It fails only for want of memory.
+        ensures memory { IfErr result (λ fault. fault ≡ DiskFault.NoMemory) }
+
+        // What a crash may be chosen to leave.
+        ensures done { OnOk result (disk_of self.new ≡ all_synced (disk_of self.old)) }
+        ensures failed { OnErr result (disk_of self.new ≡ disk_of self.old) }
+    {
+        self.asked.add();
         match synced(self.alloc, &self.bytes, &mut self.past) {
             Ok(()) => Ok(()),
             Err(_) => Err(self.failures.fail(DiskFault::NoMemory)),

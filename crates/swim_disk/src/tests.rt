@@ -6,7 +6,7 @@ use std::{fs, thread};
 
 /// The bytes 1 to 4, synced, and then a write of 8 and 9 at offset 3.
 fn written(alloc: Global) -> Result<MemDisk, Fail> {
-    let mut disk = MemDisk::new(alloc, Vec::new(alloc));
+    let mut disk = MemDisk::new(alloc, 1, Vec::new(alloc));
     disk.write_at(0, &[1, 2, 3, 4])?;
     disk.sync()?;
     disk.write_at(3, &[8, 9])?;
@@ -61,7 +61,7 @@ fn overwritten_bytes_stand(rt: HostRuntime) -> Result<(), Fail> {
 }
 
 fn planned(rt: &impl Abort, alloc: Global) -> (FaultDisk<MemDisk>, Plan) {
-    FaultDisk::new(alloc, MemDisk::new(alloc, Vec::new(alloc)))
+    FaultDisk::new(alloc, MemDisk::new(alloc, 1, Vec::new(alloc)))
         .ok()
         .expect(rt, "memory")
 }

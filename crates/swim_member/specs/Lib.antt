@@ -5,3 +5,4 @@ pub mod Events
 pub mod Steps
 pub mod Kept
 pub mod Fit
+pub mod Texts

@@ -2,9 +2,10 @@
 
 ghost use Rattle.std.specs.Prelude.{◌≡◌};
 
+use std::fmt;
 use swim_wire::WireFault;
 
-/// What a step has to say beside what it sends.
+/// What a step has to say beside what it sends. It prints its number and name, and then the fault or the count.
 #[derive(Clone, Copy, Debug, PartialEq, Eq)]
 pub enum Note {
     /// The bytes are no datagram.
@@ -49,5 +50,77 @@ impl Default for Note {
         ensures { result ≡ Note.Stopped }
     {
         Note::Stopped
+    }
+}
+
+impl Note {
+    ghost use Rattle.std.specs.Prelude.{◌≡◌};
+    ghost use Rattle.swim_member.specs.Texts.{note_number, note_name};
+
+    /// The number of the note, by which programs name it.
+    pub fn number(self) -> u8
+        ensures { result ≡ note_number self }
+    {
+        match self {
+            Note::BadDatagram(_) => 1,
+            Note::OtherGroup => 2,
+            Note::NotSender => 3,
+            Note::FromSelf => 4,
+            Note::Leap => 5,
+            Note::NoNumberLeft => 6,
+            Note::TableFull => 7,
+            Note::Misdirected => 8,
+            Note::RelaysFull => 9,
+            Note::UnknownTarget => 10,
+            Note::Unasked => 11,
+            Note::SaveFailed => 12,
+            Note::Expelled => 13,
+            Note::Stopped => 14,
+            Note::ReceiveFailed => 15,
+            Note::SendFailed(_) => 16,
+            Note::TimeOver => 17,
+        }
+    }
+
+    /// The name of the note.
+    pub fn name(self) -> &'static str
+        ensures { result.now ≡ note_name self }
+    {
+        match self {
+            Note::BadDatagram(_) => "BadDatagram",
+            Note::OtherGroup => "OtherGroup",
+            Note::NotSender => "NotSender",
+            Note::FromSelf => "FromSelf",
+            Note::Leap => "Leap",
+            Note::NoNumberLeft => "NoNumberLeft",
+            Note::TableFull => "TableFull",
+            Note::Misdirected => "Misdirected",
+            Note::RelaysFull => "RelaysFull",
+            Note::UnknownTarget => "UnknownTarget",
+            Note::Unasked => "Unasked",
+            Note::SaveFailed => "SaveFailed",
+            Note::Expelled => "Expelled",
+            Note::Stopped => "Stopped",
+            Note::ReceiveFailed => "ReceiveFailed",
+            Note::SendFailed(_) => "SendFailed",
+            Note::TimeOver => "TimeOver",
+        }
+    }
+}
+
+impl fmt::Display for Note {
+    ghost use Rattle.std.specs.Prelude.{Some};
+    ghost use Rattle.swim_member.specs.Texts.{note_text};
+
+    ghost output = { λ note. Some (note_text note) };
+
+    fn fmt<W: fmt::Write>(&self, f: &mut fmt::Formatter<W>) -> fmt::Result {
+        let number = self.number();
+        let name = self.name();
+        match self {
+            Note::BadDatagram(fault) => write!(f, "{number} {name} {fault}"),
+            Note::SendFailed(count) => write!(f, "{number} {name} {count}"),
+            _ => write!(f, "{number} {name}"),
+        }
     }
 }

@@ -3,34 +3,76 @@
 ghost use Rattle.std.specs.Prelude.{◌≡◌, Some, OnOk, IfErr};
 ghost use Rattle.swim_member.specs.Checks.{AreSound, fault_of};
 
+use std::{error, fmt};
 use swim_wire::Endpoint;
-use thiserror::Error;
 
 /// The most members that are asked about one target.
 pub const HELPERS_MAX: usize = 8;
 
-/// Which setting is out of its range: the first, in this order.
-#[derive(Clone, Copy, Debug, PartialEq, Eq, Error)]
+/// Which setting is out of its range: the first, in this order. It prints its number and name.
+#[derive(Clone, Copy, Debug, PartialEq, Eq)]
 pub enum SettingsFault {
     /// `lambda` is not 1 to 16.
-    #[error("1 Lambda")]
     Lambda,
     /// `period` is not 2 to 1,000.
-    #[error("2 Period")]
     Period,
     /// `direct` is not 1 to `period - 1`.
-    #[error("3 Direct")]
     Direct,
     /// `suspect` is not 1 to 100,000.
-    #[error("4 Suspect")]
     Suspect,
     /// `forget` is not 1 to 1,000,000.
-    #[error("5 Forget")]
     Forget,
     /// `helpers` is over 8.
-    #[error("6 Helpers")]
     Helpers,
 }
+
+impl SettingsFault {
+    ghost use Rattle.std.specs.Prelude.{◌≡◌};
+    ghost use Rattle.swim_member.specs.Texts.{setting_number, setting_name};
+
+    /// The number of the fault, by which programs name it.
+    pub fn number(self) -> u8
+        ensures { result ≡ setting_number self }
+    {
+        match self {
+            SettingsFault::Lambda => 1,
+            SettingsFault::Period => 2,
+            SettingsFault::Direct => 3,
+            SettingsFault::Suspect => 4,
+            SettingsFault::Forget => 5,
+            SettingsFault::Helpers => 6,
+        }
+    }
+
+    /// The name of the fault.
+    pub fn name(self) -> &'static str
+        ensures { result.now ≡ setting_name self }
+    {
+        match self {
+            SettingsFault::Lambda => "Lambda",
+            SettingsFault::Period => "Period",
+            SettingsFault::Direct => "Direct",
+            SettingsFault::Suspect => "Suspect",
+            SettingsFault::Forget => "Forget",
+            SettingsFault::Helpers => "Helpers",
+        }
+    }
+}
+
+impl fmt::Display for SettingsFault {
+    ghost use Rattle.std.specs.Prelude.{Some};
+    ghost use Rattle.swim_member.specs.Texts.{setting_text};
+
+    ghost output = { λ f. Some (setting_text f) };
+
+    fn fmt<W: fmt::Write>(&self, f: &mut fmt::Formatter<W>) -> fmt::Result {
+        let number = self.number();
+        let name = self.name();
+        write!(f, "{number} {name}")
+    }
+}
+
+impl error::Error for SettingsFault {}
 
 /// What a member is told at its start. It stays as it is.
 #[derive(Clone, Copy, Debug, PartialEq, Eq)]

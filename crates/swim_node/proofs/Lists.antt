@@ -1,5 +1,5 @@
 -- Lemmas on entries, datagrams and outcomes, one after another.
-use Rattle.std.proofs.Common.{◌≡◌, ℕ, ◌+◌, ◌==◌, ◌≤◌, List, [], ◌∷◌, ◌++◌, length, refl, ap, sym, ◌∙◌, arith, append_assoc, length-append, Option, inl, inr}
+use Rattle.std.proofs.Common.{◌≡◌, ℕ, ◌+◌, ◌==◌, ◌≤◌, List, [], ◌∷◌, ◌++◌, length, refl, ap, sym, ◌∙◌, arith, append_assoc, append-nil, length-append, Option, inl, inr}
 use Rattle.std.proofs.lemmas.Bool.{cases_Bool}
 use Rattle.std.proofs.lemmas.List.Elements.{filter-append}
 use Rattle.swim_wire.specs.Spelling.{spelling}
@@ -11,7 +11,7 @@ use Rattle.swim_node.specs.declared.entry.Outcome.TheVariants.{Taken, Lost}
 use Rattle.swim_node.specs.declared.memory_link.Taken.{Taken as TakenBytes}
 use Rattle.swim_node.specs.Link.{took_by}
 use Rattle.swim_node.specs.History.{calls_by, is_by, steps, step_of, granted_from, lost_in}
-use Rattle.swim_node.specs.Sending.{taken_by, Sends}
+use Rattle.swim_node.specs.Sending.{taken_by, taken_of, lost_of, Sends, SendsAll}
 use Rattle.swim_node.specs.Owns.{owns_in, AreAtMost, AreAtLeast, greatest_with, more}
 
 pub calls_by-append : (c : ℕ) (xs ys : List Entry) → calls_by c (xs ++ ys) ≡ calls_by c xs ++ calls_by c ys
@@ -82,4 +82,24 @@ sends-snoc tells t0 t1 t2 f0 f1 f2 outs os out o s took failed = record {
   each = omega (arith, length-append outs (out ∷ []), length-append os (o ∷ []), s.each);
   took = λ k. took k ∙ ap (λ w. w ++ taken_by (out ∷ []) (o ∷ [])) (s.took k) ∙ append_assoc t0 (taken_by outs os) (taken_by (out ∷ []) (o ∷ [])) ∙ ap (λ w. t0 ++ w) (sym (taken_by-append outs os (out ∷ []) (o ∷ []) s.each));
   failures = omega (arith, failed, s.failures, lost-append os (o ∷ []));
+}
+
+taken_of-append : (xs ys : List Entry) → taken_of (xs ++ ys) ≡ taken_of xs ++ taken_of ys
+taken_of-append [] ys = refl
+taken_of-append (x ∷ xs) ys = ap (λ w. taken_by x.outs.items x.outcomes.items ++ w) (taken_of-append xs ys) ∙ sym (append_assoc (taken_by x.outs.items x.outcomes.items) (taken_of xs) (taken_of ys))
+
+lost_of-append : (xs ys : List Entry) → lost_of (xs ++ ys) ≡ lost_of xs + lost_of ys
+lost_of-append [] ys = omega arith
+lost_of-append (x ∷ xs) ys = let rest = lost_of-append xs ys in omega arith
+
+-- one entry more
+pub sends_all-snoc : (tells : Type 0) (t0 t1 t2 : List (ℕ × List ℕ)) (f0 f1 f2 : ℕ) (xs : List Entry) (e : Entry) → SendsAll tells t0 t1 f0 f1 xs → Sends tells t1 t2 f1 f2 e.outs.items e.outcomes.items → SendsAll tells t0 t2 f0 f2 (xs ++ e ∷ [])
+sends_all-snoc tells t0 t1 t2 f0 f1 f2 xs e all one = record {
+  took = λ k.
+      one.took k
+      ∙ ap (λ w. w ++ taken_by e.outs.items e.outcomes.items) (all.took k)
+      ∙ append_assoc t0 (taken_of xs) (taken_by e.outs.items e.outcomes.items)
+      ∙ ap (λ w. t0 ++ (taken_of xs ++ w)) (sym (append-nil (taken_by e.outs.items e.outcomes.items)))
+      ∙ ap (λ w. t0 ++ w) (sym (taken_of-append xs (e ∷ [])));
+  failures = omega (arith, all.failures, one.failures, lost_of-append xs (e ∷ []));
 }

@@ -7,7 +7,7 @@ use Rattle.swim_member.specs.declared.settings.Settings.{Settings}
 use Rattle.swim_node.specs.declared.entry.Entry.{Entry}
 use Rattle.swim_node.specs.History.{Base, IsLegal, granted_of, fresh_base}
 use Rattle.swim_node.specs.Owns.{owns, owns_in, AreAtMost, AreAtLeast}
-use Rattle.swim_node.specs.Node.{owner_of, rebased}
+use Rattle.swim_node.specs.Node.{NodeView, owner_of, rebased}
 
 -- an era that a rebase ended
 pub record Era : Type 0 where
@@ -43,6 +43,38 @@ numbers_of life = numbers_in life.eras ++ owns_in life.base.state.settings.me li
 abbrev pub ceiling_of : {D : Type 0} → Life D → ℕ
 ceiling_of life = granted_of life.base life.entries
 
+-- the era that goes on
+abbrev pub era_of : {D : Type 0} → NodeView D → Era
+era_of node = record { base = node.base; entries = node.entries }
+
+-- the life of this node, which was opened so on that disk, and of which these eras have ended
+abbrev pub life_of : {D : Type 0} → Settings → ℕ → D → List Era → NodeView D → Life D
+life_of settings limit opened eras node = record {
+  settings = settings;
+  limit = limit;
+  opened = opened;
+  first = node.first;
+  eras = eras;
+  base = node.base;
+  entries = node.entries;
+  left = node.disk;
+}
+
+-- what holds of a life while it goes on, beside what its node keeps: it was opened above all that was held, its eras are joined, and no number of an ended one is below its first
+pub record IsLiving {D : Type 0} (state : D → State) (owner : Owner) (life : Life D) : Type 0 where
+  pub same_owner : owner ≡ owner_of life.settings
+  pub joined : AreJoined (fresh_base life.settings life.first life.limit) life.eras life.base
+  pub above : (b : ℕ) → Held owner (state life.opened) b → b < life.first
+  pub begun : AreAtLeast life.first (numbers_in life.eras)
+
+-- a call of a node that ends no era: its life goes on
+abbrev pub GoesOn : {D : Type 0} → (D → State) → NodeView D → NodeView D → Type 0
+GoesOn {D} state old new = (settings : Settings) → (limit : ℕ) → (opened : D) → (eras : List Era) → IsLiving state old.owner (life_of settings limit opened eras old) → IsLiving state new.owner (life_of settings limit opened eras new)
+
+-- a call that ends an era: its life goes on, with one ended era more
+abbrev pub EndsEra : {D : Type 0} → (D → State) → NodeView D → NodeView D → Type 0
+EndsEra {D} state old new = (settings : Settings) → (limit : ℕ) → (opened : D) → (eras : List Era) → IsLiving state old.owner (life_of settings limit opened eras old) → IsLiving state new.owner (life_of settings limit opened (eras ++ era_of old ∷ []) new)
+
 -- what the node of a life told of it: `open` of its first number, `disk` at the end of each era of the numbers sent, and `disk` or `into_disk` of the disk that it left
 pub record IsLived {D : Type 0} (state : D → State) (owner : Owner) (life : Life D) : Type 0 where
   pub same_owner : owner ≡ owner_of life.settings
@@ -53,6 +85,10 @@ pub record IsLived {D : Type 0} (state : D → State) (owner : Owner) (life : Li
   pub started : life.first ≤ ceiling_of life
   pub covers : AreAtMost (ceiling_of life) (owns life.base life.entries)
   pub held : Held owner (state life.left) (ceiling_of life)
+
+-- whichever life it is that goes on with this node, it is one that was lived, if it ends now and leaves the disk as it is
+abbrev pub MayEnd : {D : Type 0} → (D → State) → NodeView D → Type 0
+MayEnd {D} state node = (settings : Settings) → (limit : ℕ) → (opened : D) → (eras : List Era) → IsLiving state node.owner (life_of settings limit opened eras node) → IsLived state node.owner (life_of settings limit opened eras node)
 
 -- what may become of a disk with a floor of at least b: it stays as it was when the process is killed, a crash leaves one of its images, or one of the images of a call that was cut short, or a recovery is refused
 pub data Then (D : Type 0) (state : D → State) (owner : Owner) (b : ℕ) : D → D → Type 0 where

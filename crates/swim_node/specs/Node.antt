@@ -1,10 +1,11 @@
 -- A node, as its callers see it and as it keeps itself.
-use Rattle.std.specs.Prelude.{◌≡◌, ℕ, ◌+◌, ◌<◌, ◌≤◌, List, [], ◌∷◌, ◌++◌, length, All, Result, Ok, Err, Option}
+use Rattle.std.specs.Prelude.{◌≡◌, ℕ, ◌+◌, ◌<◌, ◌≤◌, List, [], ◌∷◌, ◌++◌, length, All, Bool, Result, Ok, Err, Option}
 use Rattle.swim_disk.specs.Disk.{State as DiskState}
 use Rattle.swim_state.specs.declared.owner.Owner.{Owner}
 use Rattle.swim_member.specs.State.{State}
 use Rattle.swim_member.specs.declared.event.Event.{Event}
 use Rattle.swim_member.specs.declared.settings.Settings.{Settings}
+use Rattle.swim_member.specs.Events.{wanted}
 use Rattle.swim_member.specs.Fit.{AreAll, own_numbers_in}
 use Rattle.swim_node.specs.declared.base.Base.{Base as Start}
 use Rattle.swim_node.specs.declared.entering.Done.{Done}
@@ -17,6 +18,7 @@ use Rattle.swim_node.specs.declared.fault.ApplyFault.{ApplyFault}
 use Rattle.swim_node.specs.declared.fault.ApplyFault.TheVariants.{NoMemory, EraFull, OutOfTurn}
 use Rattle.swim_node.specs.declared.fault.OpenFault.{OpenFault}
 use Rattle.swim_node.specs.History.{Base, IsLegal, state_after, granted_of, calls_by, taken_in, lost_in}
+use Rattle.swim_node.specs.Saving.{Grants, Fails, broken_after}
 use Rattle.swim_node.specs.Sending.{HasTexts}
 use Rattle.swim_node.specs.Owns.{owns, greatest, AreAtMost, AreAtLeast}
 
@@ -27,6 +29,7 @@ pub record NodeView (D : Type 0) : Type 0 where
   pub disk : D
   pub owner : Owner
   pub first : ℕ  -- the number with which this life began
+  pub broken : Bool  -- whether the last save that was tried failed
 
 abbrev pub base_of : Start → Base
 base_of b = record { state = b.state.value; granted = b.granted; past = b.past; limit = b.limit }
@@ -103,7 +106,9 @@ pub record Added {D : Type 0} (keeps : Type 0) (state : D → DiskState) (old ne
   pub reply_is : e.reply ≡ reply
   pub texts : HasTexts e
   pub kept : e.save ≡ Kept → new.disk ≡ old.disk
-  pub failed : keeps → e.save ≡ Failed → (state old.disk).failures < (state new.disk).failures
+  pub broken : new.broken ≡ broken_after e.save old.broken
+  pub grants : Grants keeps (wanted (state_after old.base old.entries) event) e.save old.broken (state old.disk) (state new.disk) (granted_of old.base old.entries) e.granted
+  pub fails : Fails keeps e.save old.broken (state old.disk) (state new.disk)
   pub said : AreAll (state_after new.base new.entries).number (own_numbers_in new.base.state.settings.me e.outs.items)
   pub unsaved : e.save ≡ Failed → AreAll (state_after old.base old.entries).number (own_numbers_in old.base.state.settings.me e.outs.items)
 

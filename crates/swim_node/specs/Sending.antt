@@ -23,3 +23,18 @@ pub record Sends (tells : Type 0) (old new : List (ℕ × List ℕ)) (missed mis
   pub each : length outcomes ≡ length outs
   pub took : tells → new ≡ old ++ taken_by outs outcomes
   pub failures : missing ≡ missed + lost_in outcomes
+
+-- destination and text of the datagrams of these entries that were taken, in order
+abbrev pub taken_of : List Entry → List (ℕ × List ℕ)
+taken_of [] = []
+taken_of (e ∷ entries) = taken_by e.outs.items e.outcomes.items ++ taken_of entries
+
+-- how many datagrams of these entries were lost
+abbrev pub lost_of : List Entry → ℕ
+lost_of [] = 0
+lost_of (e ∷ entries) = lost_in e.outcomes.items + lost_of entries
+
+-- what the link took, and how often it failed, is what these entries mark
+pub record SendsAll (tells : Type 0) (old new : List (ℕ × List ℕ)) (missed missing : ℕ) (entries : List Entry) : Type 0 where
+  pub took : tells → new ≡ old ++ taken_of entries
+  pub failures : missing ≡ missed + lost_of entries

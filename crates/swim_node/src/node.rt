@@ -4,6 +4,7 @@ ghost use Rattle.std.specs.Prelude.{◌≡◌, ◌≢◌, ◌+◌, ◌<◌, ◌�
 ghost use Rattle.swim_state.specs.Held.{Held, HeldSince, Through, Covers};
 ghost use Rattle.swim_node.specs.History.{calls_by, status_at, status_of, IsLegal, granted_of};
 ghost use Rattle.swim_node.specs.Owns.{owns, AreAtMost, AreAtLeast};
+ghost use Rattle.swim_node.specs.Lives.{EndsEra, GoesOn, MayEnd};
 ghost use Rattle.swim_node.specs.Node.{Added, IsTurn, Refused, base_of, entered, rebased};
 ghost use Rattle.swim_node.specs.Sending.{Sends, HasTexts};
 ghost use Rattle.swim_member.specs.Events.{state_of};
@@ -37,7 +38,7 @@ impl<D: Disk> Model for Node<D> {
 
     ghost Value = { NodeView D };
 
-    ghost view = { λ n. record { base = base_of n.base; entries = n.journal.entries; disk = n.store.disk; owner = n.store.owner; first = n.first } };
+    ghost view = { λ n. record { base = base_of n.base; entries = n.journal.entries; disk = n.store.disk; owner = n.store.owner; first = n.first; broken = n.store.broken } };
 
     ghost invariant = { λ n. IsNode (base_of n.base) n.journal.entries n.first n.member n.store.ceiling n.most × (D.keeps_model → Held n.store.owner (D.state n.store.disk) n.store.ceiling) };
 }
@@ -144,6 +145,7 @@ impl<D: Disk> Node<D> {
         ensures owns { AreAtMost (granted_of self.now.base self.now.entries) (owns self.now.base self.now.entries) }
         ensures begun { AreAtLeast self.now.first (owns self.now.base self.now.entries) }
         ensures first { self.now.first ≤ granted_of self.now.base self.now.entries }
+        ensures lived { D.keeps_model → MayEnd D.state self.now }
     {
         self.store.disk()
     }
@@ -155,6 +157,7 @@ impl<D: Disk> Node<D> {
         ensures owns { AreAtMost (granted_of self.base self.entries) (owns self.base self.entries) }
         ensures begun { AreAtLeast self.first (owns self.base self.entries) }
         ensures first { self.first ≤ granted_of self.base self.entries }
+        ensures lived { D.keeps_model → MayEnd D.state self }
     {
         let Node {
             base: _,
@@ -182,6 +185,8 @@ impl<D: Disk> Node<D> {
         ensures disk { self.new.disk ≡ self.old.disk }
         ensures owner { self.new.owner ≡ self.old.owner }
         ensures first { self.new.first ≡ self.old.first }
+        ensures broken { self.new.broken ≡ self.old.broken }
+        ensures living { EndsEra D.state self.old self.new }
     {
         self.base = base_at(
             &self.member,
@@ -203,6 +208,8 @@ impl<D: Disk> Node<D> {
         ensures disk { self.new.disk ≡ self.old.disk }
         ensures owner { self.new.owner ≡ self.old.owner }
         ensures first { self.new.first ≡ self.old.first }
+        ensures broken { self.new.broken ≡ self.old.broken }
+        ensures living { EndsEra D.state self.old self.new }
     {
         let base = base_at(
             &self.member,
@@ -257,7 +264,10 @@ impl<D: Disk> Node<D> {
         ensures err { OnErr result ((self.new ≡ self.old) × (link.new ≡ link.old)) }
         ensures refused { IfErr result (λ fault. Refused self.old.base self.old.entries tag fault) }
 
-        // No moment of the call leaves less than the ceiling before it.
+        // No moment of the call leaves less than the ceiling before it, which does not fall, and the life goes on.
+        ensures grows { granted_of self.old.base self.old.entries
+            ≤ granted_of self.new.base self.new.entries }
+        ensures living { GoesOn D.state self.old self.new }
         ensures moments { D.keeps_model → Through (Covers self.old.owner (granted_of self.old.base self.old.entries)) (D.state self.old.disk) (D.state self.new.disk) }
         ensures since { D.keeps_model → HeldSince self.old.owner (D.state self.new.disk) (D.state self.old.disk).clock (granted_of self.old.base self.old.entries) }
     {

@@ -1,6 +1,6 @@
 //! Opening a node.
 
-ghost use Rattle.std.specs.Prelude.{◌≡◌, ◌≢◌, ◌↔◌, ◌⊎◌, ◌+◌, ◌<◌, ◌≤◌, ◌^◌, [], None, Some, ℕ, IfOk, IfErr};
+ghost use Rattle.std.specs.Prelude.{◌≡◌, ◌≢◌, ◌↔◌, ◌⊎◌, ◌+◌, ◌<◌, ◌≤◌, ◌^◌, [], false, None, Some, ℕ, IfOk, IfErr};
 ghost use Rattle.swim_disk.specs.Disk.{Rests};
 ghost use Rattle.swim_member.specs.Checks.{AreSound};
 ghost use Rattle.swim_state.specs.File.{floor};
@@ -9,6 +9,7 @@ ghost use Rattle.swim_state.specs.Recovery.{fault_of};
 ghost use Rattle.swim_state.specs.declared.fault.RecoverFault.{RecoverFault as Faults};
 ghost use Rattle.swim_state.specs.declared.fault.RecoverFault.TheVariants.{Device, Exhausted};
 ghost use Rattle.swim_node.specs.History.{fresh_base};
+ghost use Rattle.swim_node.specs.Lives.{IsLiving, life_of};
 ghost use Rattle.swim_node.specs.Node.{disk_of, owner_of};
 
 use crate::base::Base;
@@ -38,13 +39,21 @@ impl<D: Disk> Node<D> {
         ensures first { D.keeps_model → IfOk result (λ n. n.first ≡ floor (D.state disk).content + 1) }
         ensures bounds { IfOk result (λ n. (1 ≤ n.first) × (n.first ≤ 2 ^ 62)) }
         ensures owner { IfOk result (λ n. n.owner ≡ owner_of settings) }
+        ensures whole { IfOk result (λ n. n.broken ≡ false) }
         ensures limit { IfOk result (λ n. (1 ≤ limit) × (limit ≤ 65536)) }
         ensures range { IfErr result (λ refused. refused.1 ≡ OpenFault.Limit ↔ ((limit ≡ 0) ⊎ (65536 < limit))) }
         ensures name { (D.state (disk_of result)).name ≡ (D.state disk).name }
 
         // The first two faults leave the disk as it was, and the others are those of the recovery.
         ensures untouched { IfErr result (λ refused. (refused.1 ≡ OpenFault.Limit → refused.0 ≡ disk) × (refused.1 ≡ OpenFault.NoMemory → refused.0 ≡ disk)) }
-        ensures device { IfErr result (λ refused. refused.1 ≡ OpenFault.Refused Device → (D.state disk).failures < (D.state refused.0).failures) }
+
+        // One call of the disk failed if the answer is Device, and none if it is any other.
+        ensures device { IfErr result (λ refused. refused.1 ≡ OpenFault.Refused Device
+            → (D.state refused.0).failures ≡ (D.state disk).failures + 1) }
+        ensures calm { IfErr result (λ refused. refused.1 ≢ OpenFault.Refused Device
+            → (D.state refused.0).failures ≡ (D.state disk).failures) }
+        ensures opened { IfOk result (λ n. (D.state n.disk).failures ≡ (D.state disk).failures) }
+
         ensures fault { D.keeps_model → IfErr result (λ refused. (fault : Faults) → fault ≢ Device → refused.1 ≡ OpenFault.Refused fault → fault_of (owner_of settings) (D.state disk).content ≡ Some fault) }
 
         // What shows a fault isn't opened, and isn't written.
@@ -57,6 +66,8 @@ impl<D: Disk> Node<D> {
         ensures since { D.keeps_model → (b : ℕ) → Held (owner_of settings) (D.state disk) b → HeldSince (owner_of settings) (D.state (disk_of result)) (D.state disk).clock b }
         ensures from_held { D.keeps_model → (b : ℕ) → Held (owner_of settings) (D.state disk) b → IfErr result (λ refused. (fault : Faults) → refused.1 ≡ OpenFault.Refused fault → (fault ≡ Device) ⊎ (fault ≡ Exhausted)) }
         ensures above { D.keeps_model → (b : ℕ) → Held (owner_of settings) (D.state disk) b → IfOk result (λ n. b < n.first) }
+        ensures living { D.keeps_model
+            → IfOk result (λ n. IsLiving D.state n.owner (life_of settings limit disk [] n)) }
     {
         if limit == 0 || limit > LIMIT_MAX {
             return Err((disk, OpenFault::Limit));

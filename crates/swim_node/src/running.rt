@@ -1,7 +1,12 @@
 //! Calls one after another.
 
-ghost use Rattle.std.specs.Prelude.{◌≡◌, ◌<◌, length, take, slice_get, Some, OnOk, IfErr, All};
+ghost use Rattle.std.specs.Prelude.{◌≡◌, ◌++◌, ◌<◌, List, length, take, slice_get, Some, OnOk, IfErr, All};
+ghost use Rattle.swim_state.specs.Held.{Covers, HeldSince, Through};
+ghost use Rattle.swim_node.specs.History.{granted_of};
+ghost use Rattle.swim_node.specs.Lives.{GoesOn};
 ghost use Rattle.swim_node.specs.Node.{Ran, Refused};
+ghost use Rattle.swim_node.specs.Sending.{SendsAll};
+ghost use Rattle.swim_node.specs.declared.entry.Entry.{Entry as Entries};
 ghost use Rattle.swim_node.specs.declared.entry.Tag.{Tag as Tags};
 ghost use Rattle.swim_member.specs.declared.event.Event.{Event as Events};
 
@@ -22,7 +27,22 @@ pub fn run<D: Disk, L: Link>(
     ensures ok { OnOk result (Ran node.old node.new calls.now) }
     ensures err { IfErr result (λ r. (r.0 < length calls.now) × Ran node.old node.new (take r.0 calls.now)) }
     ensures refused { IfErr result (λ r. (call : (Tags × Events)) × (slice_get calls.now r.0 ≡ Some call) × Refused node.new.base node.new.entries call.0 r.1) }
+
+    // After Ok and Err alike: what the link took is what the added entries mark as taken.
+    ensures sends { (added : List Entries) × (node.new.entries ≡ node.old.entries ++ added)
+        × SendsAll L.tells (L.took link.old) (L.took link.new)
+        (L.failures link.old) (L.failures link.new) added }
+
+    // No moment of the run leaves less than the ceiling before it, and the life goes on.
+    ensures moments { D.keeps_model
+        → Through (Covers node.old.owner (granted_of node.old.base node.old.entries))
+        (D.state node.old.disk) (D.state node.new.disk) }
+    ensures since { D.keeps_model → HeldSince node.old.owner (D.state node.new.disk)
+        (D.state node.old.disk).clock (granted_of node.old.base node.old.entries) }
+    ensures living { GoesOn D.state node.old node.new }
 {
+    // what the file covers, said of the disk before
+    let _ = node.disk();
     for i in 0..calls.len() {
         let call = &calls[i];
         if let Err(fault) = node.apply(link, call.0, copy_event(&call.1)) {

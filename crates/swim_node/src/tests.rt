@@ -33,7 +33,7 @@ fn settings(rt: &impl Abort, group: u64) -> Settings {
 
 /// The disk of 10.0.0.1:7000 in group 7 after `init` with ceiling 0, and its plan.
 fn made(rt: &impl Abort, alloc: Global) -> (Device, Plan) {
-    let (mut disk, plan) = FaultDisk::new(alloc, MemDisk::new(alloc, Vec::new(alloc)))
+    let (mut disk, plan) = FaultDisk::new(alloc, MemDisk::new(alloc, 1, Vec::new(alloc)))
         .ok()
         .expect(rt, "memory");
     let owner = Owner {

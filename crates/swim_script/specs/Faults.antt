@@ -1,5 +1,7 @@
--- The first fault of a script.
-use Rattle.std.specs.Prelude.{◌≡◌, ◌⊎◌, ℕ, ◌+◌, true, Option, List, ◌∷◌, ◌++◌, length, All, Ok, Err}
+-- The first fault of a script, and how faults are printed.
+use Rattle.std.specs.Prelude.{◌≡◌, ◌⊎◌, ℕ, ◌+◌, true, Option, List, ◌∷◌, ◌++◌, length, All, Ok, Err, codes}
+use Rattle.std.specs.Fmt.{decimal}
+use Rattle.swim_wire.specs.Codes.{numbered}
 use Rattle.swim_script.specs.declared.command.Command.{Command}
 use Rattle.swim_script.specs.declared.fault.FaultKind.{FaultKind}
 use Rattle.swim_script.specs.declared.fault.FaultKind.TheVariants as fault
@@ -38,3 +40,24 @@ no_memory = record { line = 0; kind = fault.NoMemory }
 -- why a script is refused: its first fault, or memory ran out
 abbrev pub IsFirstFault : List ℕ → ScriptFault → Type 0
 IsFirstFault script f = (f ≡ no_memory) ⊎ IsFaultAt script f
+
+abbrev pub kind_number : FaultKind → ℕ
+kind_number fault.Text = 1
+kind_number fault.Long = 2
+kind_number fault.Command = 3
+kind_number fault.Argument = 4
+kind_number fault.NoMemory = 5
+
+abbrev pub kind_name : FaultKind → List ℕ
+kind_name fault.Text = codes "Text"
+kind_name fault.Long = codes "Long"
+kind_name fault.Command = codes "Command"
+kind_name fault.Argument = codes "Argument"
+kind_name fault.NoMemory = codes "NoMemory"
+
+abbrev pub kind_text : FaultKind → List ℕ
+kind_text kind = numbered (kind_number kind) (kind_name kind)
+
+-- the line, and what is wrong with it
+abbrev pub fault_text : ScriptFault → List ℕ
+fault_text f = decimal f.line ++ codes " " ++ kind_text f.kind

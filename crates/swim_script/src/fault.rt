@@ -5,25 +5,21 @@ ghost use Rattle.swim_script.specs.Faults.{no_memory};
 ghost use Rattle.swim_script.specs.declared.fault.FaultKind.TheVariants as kinds;
 
 use std::alloc::AllocError;
-use thiserror::Error;
+use std::{error, fmt};
 
-/// What is wrong with a line: the first that holds, in this order. The last is of no line.
-#[derive(Clone, Copy, Debug, PartialEq, Eq, Error)]
+/// What is wrong with a line: the first that holds, in this order. The last is of no line. It prints
+/// its number and name.
+#[derive(Clone, Copy, Debug, PartialEq, Eq)]
 pub enum FaultKind {
     /// A byte is not one of 20 to 7E (hex).
-    #[error("1 Text")]
     Text,
     /// The line has more than 1,300 bytes.
-    #[error("2 Long")]
     Long,
     /// The first word is no command.
-    #[error("3 Command")]
     Command,
     /// An argument is missing, spare or out of its range.
-    #[error("4 Argument")]
     Argument,
     /// Memory ran out.
-    #[error("5 NoMemory")]
     NoMemory,
 }
 
@@ -35,9 +31,8 @@ impl From<AllocError> for FaultKind {
     }
 }
 
-/// Why a script is refused: at its first faulty line.
-#[derive(Clone, Copy, Debug, PartialEq, Eq, Error)]
-#[error("{line} {kind}")]
+/// Why a script is refused: at its first faulty line. It prints the line, and the number and name of the kind.
+#[derive(Clone, Copy, Debug, PartialEq, Eq)]
 pub struct ScriptFault {
     /// The line, counted from 1, or 0 where memory ran out.
     pub line: usize,
@@ -63,3 +58,64 @@ impl ScriptFault {
         }
     }
 }
+
+impl FaultKind {
+    ghost use Rattle.std.specs.Prelude.{◌≡◌};
+    ghost use Rattle.swim_script.specs.Faults.{kind_number, kind_name};
+
+    /// The number of the fault, by which programs name it.
+    pub fn number(self) -> u8
+        ensures { result ≡ kind_number self }
+    {
+        match self {
+            FaultKind::Text => 1,
+            FaultKind::Long => 2,
+            FaultKind::Command => 3,
+            FaultKind::Argument => 4,
+            FaultKind::NoMemory => 5,
+        }
+    }
+
+    /// The name of the fault.
+    pub fn name(self) -> &'static str
+        ensures { result.now ≡ kind_name self }
+    {
+        match self {
+            FaultKind::Text => "Text",
+            FaultKind::Long => "Long",
+            FaultKind::Command => "Command",
+            FaultKind::Argument => "Argument",
+            FaultKind::NoMemory => "NoMemory",
+        }
+    }
+}
+
+impl fmt::Display for FaultKind {
+    ghost use Rattle.std.specs.Prelude.{Some};
+    ghost use Rattle.swim_script.specs.Faults.{kind_text};
+
+    ghost output = { λ f. Some (kind_text f) };
+
+    fn fmt<W: fmt::Write>(&self, f: &mut fmt::Formatter<W>) -> fmt::Result {
+        let number = self.number();
+        let name = self.name();
+        write!(f, "{number} {name}")
+    }
+}
+
+impl error::Error for FaultKind {}
+
+impl fmt::Display for ScriptFault {
+    ghost use Rattle.std.specs.Prelude.{Some};
+    ghost use Rattle.swim_script.specs.Faults.{fault_text};
+
+    ghost output = { λ fault. Some (fault_text fault) };
+
+    fn fmt<W: fmt::Write>(&self, f: &mut fmt::Formatter<W>) -> fmt::Result {
+        let line = self.line;
+        let kind = self.kind;
+        write!(f, "{line} {kind}")
+    }
+}
+
+impl error::Error for ScriptFault {}

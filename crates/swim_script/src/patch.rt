@@ -1,8 +1,7 @@
 //! Bytes that a line writes over a disk.
 
 ghost use Rattle.std.specs.Prelude.{◌≡◌, ◌+◌, ◌<◌, ◌≤◌, length, IfOk, IfSome, IfNone};
-ghost use Rattle.swim_disk.specs.MemDisk.{state_of};
-ghost use Rattle.swim_disk.specs.Part.{AlwaysHas};
+ghost use Rattle.swim_script.specs.Patches.{IsPatched};
 
 use std::alloc::AllocError;
 use swim_disk::{MOST_BYTES, MemDisk};
@@ -31,7 +30,7 @@ impl Patch {
 
     /// The disk that this one would be with these bytes.
     pub fn over(&self, disk: &MemDisk) -> Result<MemDisk, AllocError>
-        ensures { IfOk result (λ d. AlwaysHas self.now.at self.now.bytes.items (state_of d)) }
+        ensures { IfOk result (λ d. IsPatched self.now.at self.now.bytes.items disk.now d) }
     {
         disk.overwritten(self.at, &self.bytes)
             .map_err(|_| AllocError)

@@ -1,4 +1,4 @@
-ghost use Rattle.std.specs.Prelude.{◌≡◌, ◌⊎◌, ◌↔◌, ◌<◌, ◌≤◌, ◌^◌, ◌∷◌, [], ℕ, List, length, OnOk, IsErrOf};
+ghost use Rattle.std.specs.Prelude.{◌≡◌, ◌⊎◌, ◌↔◌, ◌+◌, ◌<◌, ◌≤◌, ◌^◌, ◌∷◌, [], ℕ, List, length, OnOk, IsErrOf};
 ghost use Rattle.swim_disk.specs.Disk.{Counts, IsSettled, Rests, overlaid};
 ghost use Rattle.swim_state.specs.File.{floor, head, IsSound};
 ghost use Rattle.swim_state.specs.Layout.{body};
@@ -56,8 +56,12 @@ fn fill_new<D: Disk>(disk: &mut D, owner: Owner, saved: Saved) -> Result<(), Dis
 pub fn init<D: Disk>(disk: &mut D, owner: Owner, ceiling: u64) -> Result<(), InitFault>
     // On any disk.
     ensures name { (D.state disk.new).name ≡ (D.state disk.old).name }
+
+    // One call of the disk failed if the answer is Device, and none if it is any other.
     ensures device { IsErrOf result InitFault.Device
-        → (D.state disk.old).failures < (D.state disk.new).failures }
+        → (D.state disk.new).failures ≡ (D.state disk.old).failures + 1 }
+    ensures calm { (IsErrOf result InitFault.Device → ⊥)
+        → (D.state disk.new).failures ≡ (D.state disk.old).failures }
 
     // A ceiling out of range is refused first, and nothing is touched.
     ensures range { IsErrOf result InitFault.Range ↔ (2 ^ 62 < ceiling) }

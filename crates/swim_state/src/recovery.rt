@@ -2,7 +2,7 @@ ghost use Rattle.std.specs.Prelude.{◌≡◌, ◌≢◌, ◌⊎◌, ◌<◌, �
 ghost use Rattle.swim_disk.specs.Disk.{Counts, IsSettled, Rests};
 ghost use Rattle.swim_state.specs.File.{floor, floor_of, head, AreOf, AreUsable, IsSound};
 ghost use Rattle.swim_state.specs.Held.{Covers, Through, Held, HeldSince};
-ghost use Rattle.swim_state.specs.Recovery.{fault_of, first_fault, head_fault, slots_fault};
+ghost use Rattle.swim_state.specs.Recovery.{IsJudged, fault_of, first_fault, head_fault, slots_fault};
 ghost use Rattle.swim_state.specs.Store.{disk_in};
 ghost use Rattle.swim_state.specs.declared.fault.RecoverFault.TheVariants.{Device, Exhausted};
 
@@ -18,6 +18,7 @@ use swim_wire::NUMBER_MAX;
 /// Syncs and reads the length.
 fn measure<D: Disk>(disk: &mut D) -> Result<u64, DiskFault>
     ensures counts { Counts result (D.state disk.old) (D.state disk.new) }
+    ensures asked { OnOk result ((D.state disk.new).calls ≡ (D.state disk.old).calls + 2) }
     ensures rests { D.keeps_model → Rests (D.state disk.old) (D.state disk.new) }
     ensures settled { D.keeps_model → OnOk result (IsSettled (D.state disk.new)) }
     ensures len { D.keeps_model → IfOk result (λ n. n ≡ length (D.state disk.old).content) }
@@ -28,6 +29,7 @@ fn measure<D: Disk>(disk: &mut D) -> Result<u64, DiskFault>
 
 fn read_head<D: Disk>(disk: &mut D) -> Result<[u8; HEAD_SIZE], DiskFault>
     ensures counts { Counts result (D.state disk.old) (D.state disk.new) }
+    ensures asked { OnOk result ((D.state disk.new).calls ≡ (D.state disk.old).calls + 1) }
     ensures rests { D.keeps_model → Rests (D.state disk.old) (D.state disk.new) }
     ensures read { D.keeps_model → IfOk result (λ h. h ≡ take 24 (D.state disk.old).content) }
 {
@@ -77,6 +79,8 @@ fn judge_slots(slots: Slots) -> Result<(), RecoverFault>
 /// Reads the head and the slots of a file that is long enough, and judges them.
 fn judge<D: Disk>(disk: &mut D, owner: Owner) -> Result<Slots, RecoverFault>
     ensures name { (D.state disk.new).name ≡ (D.state disk.old).name }
+    ensures asked { (IsErrOf result RecoverFault.Device → ⊥)
+        → (D.state disk.new).calls ≡ (D.state disk.old).calls + 5 }
     ensures rests { D.keeps_model → Rests (D.state disk.old) (D.state disk.new) }
     ensures same { D.keeps_model → IfOk result (λ s. AreOf (D.state disk.old).content s) }
     ensures head { D.keeps_model → OnOk result (take 24 (D.state disk.old).content ≡ head owner) }
@@ -87,8 +91,9 @@ fn judge<D: Disk>(disk: &mut D, owner: Owner) -> Result<Slots, RecoverFault>
     ensures usable { IfOk result (λ s. AreUsable s) }
     ensures room { IfOk result (λ s. floor_of s < 2 ^ 62) }
     ensures device { IsErrOf result RecoverFault.Device
-        → (D.state disk.old).failures < (D.state disk.new).failures }
-    ensures calm { OnOk result ((D.state disk.new).failures ≡ (D.state disk.old).failures) }
+        → (D.state disk.new).failures ≡ (D.state disk.old).failures + 1 }
+    ensures calm { (IsErrOf result RecoverFault.Device → ⊥)
+        → (D.state disk.new).failures ≡ (D.state disk.old).failures }
 {
     let head = read_head(disk)?;
     let slots = read_slots(disk)?;
@@ -100,6 +105,8 @@ fn judge<D: Disk>(disk: &mut D, owner: Owner) -> Result<Slots, RecoverFault>
 /// Syncs, reads all, and judges it. The length is judged as it is read, and all else after all reads.
 fn look<D: Disk>(disk: &mut D, owner: Owner) -> Result<Slots, RecoverFault>
     ensures name { (D.state disk.new).name ≡ (D.state disk.old).name }
+    ensures asked { IfErr result (λ f. f ≢ Device
+        → IsJudged D.keeps_model f (D.state disk.old) (D.state disk.new)) }
     ensures rests { D.keeps_model → Rests (D.state disk.old) (D.state disk.new) }
     ensures settled { D.keeps_model → OnOk result (IsSettled (D.state disk.new)) }
     ensures same { D.keeps_model → IfOk result (λ s. AreOf (D.state disk.old).content s) }
@@ -111,8 +118,9 @@ fn look<D: Disk>(disk: &mut D, owner: Owner) -> Result<Slots, RecoverFault>
     ensures usable { IfOk result (λ s. AreUsable s) }
     ensures room { IfOk result (λ s. floor_of s < 2 ^ 62) }
     ensures device { IsErrOf result RecoverFault.Device
-        → (D.state disk.old).failures < (D.state disk.new).failures }
-    ensures calm { OnOk result ((D.state disk.new).failures ≡ (D.state disk.old).failures) }
+        → (D.state disk.new).failures ≡ (D.state disk.old).failures + 1 }
+    ensures calm { (IsErrOf result RecoverFault.Device → ⊥)
+        → (D.state disk.new).failures ≡ (D.state disk.old).failures }
 {
     if measure(disk)? < VERSION_1.size {
         return Err(RecoverFault::NotState);
@@ -134,12 +142,11 @@ fn first_save<D: Disk>(
     ensures first { IfOk result (λ s. s.ceiling ≡ floor_of slots + 1) }
     ensures owner { IfOk result (λ s. s.owner ≡ owner) }
     ensures whole { IfOk result (λ s. s.broken ≡ false) }
-    ensures name { (D.state (disk_in result)).name ≡ (D.state disk).name }
     ensures held { D.keeps_model → IfOk result (λ s. Held owner (D.state s.disk) s.ceiling) }
     ensures moments { D.keeps_model
         → Through (Covers owner (floor_of slots)) (D.state disk) (D.state (disk_in result)) }
     ensures fault { IfErr result (λ refused. refused.1 ≡ Device) }
-    ensures cause { OnErr result ((D.state disk).failures < (D.state (disk_in result)).failures) }
+    ensures counts { Counts result (D.state disk) (D.state (disk_in result)) }
 {
     let to = slots.floor() + 1;
     match save(&mut disk, slots, Saved { ceiling: to }) {
@@ -160,8 +167,16 @@ pub fn recover<D: Disk>(mut disk: D, owner: Owner) -> Result<Store<D>, (D, Recov
     ensures owner { IfOk result (λ s. s.owner ≡ owner) }
     ensures whole { IfOk result (λ s. s.broken ≡ false) }
     ensures bounds { IfOk result (λ s. (1 ≤ s.ceiling) × (s.ceiling ≤ 2 ^ 62)) }
+
+    // One call of the disk failed if the answer is Device, and none if it is any other, which comes
+    // after all reads.
     ensures device { IfErr result (λ refused. refused.1 ≡ Device
-        → (D.state disk).failures < (D.state refused.0).failures) }
+        → (D.state refused.0).failures ≡ (D.state disk).failures + 1) }
+    ensures calm { IfErr result (λ refused. refused.1 ≢ Device
+        → (D.state refused.0).failures ≡ (D.state disk).failures) }
+    ensures asked { IfErr result (λ refused. refused.1 ≢ Device
+        → IsJudged D.keeps_model refused.1 (D.state disk) (D.state refused.0)) }
+    ensures opened { IfOk result (λ s. (D.state s.disk).failures ≡ (D.state disk).failures) }
 
     // Where the disk keeps the model: the first number is the next one of the content.
     ensures first { D.keeps_model → IfOk result (λ s. s.ceiling ≡ floor (D.state disk).content + 1) }

@@ -1,4 +1,4 @@
-ghost use Rattle.std.specs.Prelude.{◌≡◌, ◌≢◌, ◌<◌, ◌≤◌, ◌^◌, ◌⊎◌, IfOk, OnErr, ℕ};
+ghost use Rattle.std.specs.Prelude.{◌≡◌, ◌≢◌, ◌+◌, ◌<◌, ◌≤◌, ◌^◌, ◌⊎◌, IfOk, OnOk, OnErr, ℕ};
 ghost use Rattle.swim_disk.specs.Disk.{Rests, Counts};
 
 use crate::layout::{BODY_SIZE, OPEN, Reading, Saved, Slot};
@@ -147,6 +147,7 @@ fn slot_in(image: &[u8], slot: Slot) -> Reading
 /// Reads a gate and its body.
 pub(crate) fn read_slot<D: Disk>(disk: &mut D, slot: Slot) -> Result<Reading, DiskFault>
     ensures counts { Counts result (D.state disk.old) (D.state disk.new) }
+    ensures asked { OnOk result ((D.state disk.new).calls ≡ (D.state disk.old).calls + 2) }
     ensures rests { D.keeps_model → Rests (D.state disk.old) (D.state disk.new) }
     ensures reading { D.keeps_model
         → IfOk result (λ r. r ≡ reading_at version_1 (D.state disk.old).content slot) }
@@ -162,6 +163,7 @@ pub(crate) fn read_slot<D: Disk>(disk: &mut D, slot: Slot) -> Result<Reading, Di
 /// Reads both slots.
 pub(crate) fn read_slots<D: Disk>(disk: &mut D) -> Result<Slots, DiskFault>
     ensures counts { Counts result (D.state disk.old) (D.state disk.new) }
+    ensures asked { OnOk result ((D.state disk.new).calls ≡ (D.state disk.old).calls + 4) }
     ensures rests { D.keeps_model → Rests (D.state disk.old) (D.state disk.new) }
     ensures same { D.keeps_model → IfOk result (λ s. AreOf (D.state disk.old).content s) }
     ensures bounded { IfOk result (λ s. floor_of s ≤ 2 ^ 62) }

@@ -1,4 +1,4 @@
-ghost use Rattle.std.specs.Prelude.{◌≡◌, ◌<◌, ◌≤◌, ◌^◌, ◌⊎◌, true, false, IfOk, OnOk, OnErr, IsErrOf, ℕ};
+ghost use Rattle.std.specs.Prelude.{◌≡◌, ◌+◌, ◌<◌, ◌≤◌, ◌^◌, ◌⊎◌, true, false, IfOk, OnOk, OnErr, IsErrOf, ℕ};
 ghost use Rattle.swim_disk.specs.Disk.{Counts, IsSettled, Rests, State};
 ghost use Rattle.swim_state.specs.File.{floor, floor_of, AreOf, AreUsable};
 ghost use Rattle.swim_state.specs.Held.{Covers, Through, Held, HeldSince};
@@ -97,13 +97,23 @@ impl<D: Disk> Store<D> {
         // On any disk.
         ensures owner { self.new.owner ≡ self.old.owner }
         ensures name { (D.state self.new.disk).name ≡ (D.state self.old.disk).name }
-        ensures device { IsErrOf result SaveFault.Device
-            → (D.state self.old.disk).failures < (D.state self.new.disk).failures }
         ensures reread { IsErrOf result SaveFault.Changed → self.old.broken ≡ true }
+
+        // One call of the disk failed if the answer is Device, and none if it is any other.
+        ensures device { IsErrOf result SaveFault.Device
+            → (D.state self.new.disk).failures ≡ (D.state self.old.disk).failures + 1 }
+        ensures calm { (IsErrOf result SaveFault.Device → ⊥)
+            → (D.state self.new.disk).failures ≡ (D.state self.old.disk).failures }
+
+        // The ceiling. A store that isn't broken raises it to the number asked for, or not at all.
         ensures ok { OnOk result
             (to ≤ self.new.ceiling × self.new.ceiling ≤ 2 ^ 62 × self.new.broken ≡ false) }
         ensures err { OnErr result
             (self.old.ceiling ≤ self.new.ceiling × self.new.ceiling < to × self.new.broken ≡ true) }
+
+        ensures exact { OnOk result (self.old.broken ≡ false → self.new.ceiling ≡ to) }
+        ensures steady { OnErr result
+            (self.old.broken ≡ false → self.new.ceiling ≡ self.old.ceiling) }
 
         // Where the disk keeps the model: no moment of the call leaves less than the old ceiling, and
         // its end no less than the new one.
@@ -158,7 +168,9 @@ impl<D: Disk> Store<D> {
         ensures owner { self.new.owner ≡ self.old.owner }
         ensures name { (D.state self.new.disk).name ≡ (D.state self.old.disk).name }
         ensures device { IsErrOf result SaveFault.Device
-            → (D.state self.old.disk).failures < (D.state self.new.disk).failures }
+            → (D.state self.new.disk).failures ≡ (D.state self.old.disk).failures + 1 }
+        ensures calm { (IsErrOf result SaveFault.Device → ⊥)
+            → (D.state self.new.disk).failures ≡ (D.state self.old.disk).failures }
         ensures changed { D.keeps_model → IsErrOf result SaveFault.Changed → ⊥ }
         ensures moments { D.keeps_model
             → Through (Covers self.old.owner self.old.ceiling) (D.state self.old.disk)
@@ -205,9 +217,10 @@ pub(crate) fn settle<D: Disk>(disk: &mut D) -> Result<Slots, DiskFault>
 /// The slots of a file whose floor is to be this or more, after a save that failed.
 pub(crate) fn reread<D: Disk>(disk: &mut D, ceiling: u64) -> Result<Slots, SaveFault>
     ensures name { (D.state disk.new).name ≡ (D.state disk.old).name }
-    ensures calm { OnOk result ((D.state disk.new).failures ≡ (D.state disk.old).failures) }
     ensures device { IsErrOf result SaveFault.Device
-        → (D.state disk.old).failures < (D.state disk.new).failures }
+        → (D.state disk.new).failures ≡ (D.state disk.old).failures + 1 }
+    ensures calm { (IsErrOf result SaveFault.Device → ⊥)
+        → (D.state disk.new).failures ≡ (D.state disk.old).failures }
     ensures changed { D.keeps_model → (owner : Owner) → Held owner (D.state disk.old) ceiling
         → IsErrOf result SaveFault.Changed → ⊥ }
     ensures rests { D.keeps_model → Rests (D.state disk.old) (D.state disk.new) }

@@ -22,7 +22,7 @@ fn member(rt: &impl Abort, last: u32) -> Owner {
 }
 
 fn empty(rt: &impl Abort, alloc: Global) -> (Device, Plan) {
-    FaultDisk::new(alloc, MemDisk::new(alloc, Vec::new(alloc)))
+    FaultDisk::new(alloc, MemDisk::new(alloc, 1, Vec::new(alloc)))
         .ok()
         .expect(rt, "memory")
 }
@@ -134,7 +134,7 @@ struct Recorded {
 impl Recorded {
     fn new(alloc: Global) -> Recorded {
         Recorded {
-            disk: MemDisk::new(alloc, Vec::new(alloc)),
+            disk: MemDisk::new(alloc, 1, Vec::new(alloc)),
             calls: [(0, 0); 24],
             count: 0,
         }

@@ -5,3 +5,4 @@ pub mod Spelling
 pub mod Faults
 pub mod Reading
 pub mod Decoding
+pub mod Text

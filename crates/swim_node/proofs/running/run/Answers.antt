@@ -1,9 +1,14 @@
-use Rattle.std.proofs.Common.{◌≡◌, ◌∙◌, take, sym, ap, ◌++◌, ◌∷◌, [], List, ◌+◌, append_assoc}
+use Rattle.std.proofs.Common.{arith, ℕ, ◌≤◌, ◌≡◌, ◌∙◌, take, sym, ap, ◌++◌, ◌∷◌, [], List, ◌+◌, append_assoc}
 use Rattle.std.proofs.lemmas.List.{take_more}
+use Rattle.swim_disk.specs.Disk.{State}
+use Rattle.swim_state.specs.Held.{Covers, Through}
+use Rattle.swim_state.specs.declared.owner.Owner.{Owner}
+use Rattle.swim_state.proofs.Moments.{weaker, goes_on, since_from}
 use Rattle.swim_member.specs.declared.event.Event.{Event}
 use Rattle.swim_node.specs.declared.entry.Tag.{Tag}
 use Rattle.swim_node.specs.declared.entry.Entry.{Entry}
 use Rattle.swim_node.specs.Node.{Ran, AreCalls, NodeView}
+use Rattle.swim_node.proofs.Lists.{sends_all-snoc}
 use Rattle.swim_node.proofs.running.run.Goals as goal
 
 are-snoc : (cs : List (Tag × Event)) (es : List Entry) (c : Tag × Event) (e : Entry) → AreCalls cs es → e.tag ≡ c.0 → e.event ≡ c.1 → AreCalls (cs ++ c ∷ []) (es ++ e ∷ [])
@@ -22,6 +27,10 @@ ran-snoc old mid new cs c e r entries t v base owner first = record {
   first = first ∙ r.first;
 }
 
+-- what covers more covers less
+through_more : (mine yours : Owner) (a b : ℕ) (old new : State) → yours ≡ mine → a ≤ b → Through (Covers yours b) old new → Through (Covers mine a) old new
+through_more mine yours a b old new same le h = weaker (Covers yours b) (Covers mine a) old new (λ image covers. rw (← same) (record { sound = covers.sound; covered = omega (arith, le, covers.covered) })) h
+
 pub loop-i-preserved : goal.loop-i-preserved
 loop-i-preserved g c =
     let more : take (c.loop-i.i + 1) c.args.calls.now ≡ take c.loop-i.i c.args.calls.now ++ c.index-calls-i.result ∷ [] =
@@ -31,4 +40,31 @@ loop-i-preserved g c =
       ran = rw more (ran-snoc c.args.node.now c.loop-i.node c.apply.new.self (take c.loop-i.i c.args.calls.now) c.index-calls-i.result ok.0 c.loop-i.invariant.ran ok.1.entries ok.1.tag_is (ok.1.event_is ∙ c.copy_event.ensures) c.in_default.ensures.base c.in_default.ensures.owner c.in_default.ensures.first);
       name = c.in_default.ensures.link ∙ c.loop-i.invariant.name;
       disk = c.in_default.ensures.disk ∙ c.loop-i.invariant.disk;
+      sends = (
+        c.loop-i.invariant.sends.0 ++ ok.0 ∷ [],
+        ok.1.entries ∙ ap (λ (l : List Entry). l ++ ok.0 ∷ []) c.loop-i.invariant.sends.1 ∙ append_assoc c.args.node.now.entries c.loop-i.invariant.sends.0 (ok.0 ∷ []),
+        sends_all-snoc g.L.Link.tells _ _ _ _ _ _ c.loop-i.invariant.sends.0 ok.0 c.loop-i.invariant.sends.2 ok.2,
+      );
+      grows = omega (arith, c.loop-i.invariant.grows, c.in_default.ensures.grows);
+      moments = λ keeps.
+          goes_on _ _ _ _ (c.loop-i.invariant.moments keeps)
+          (through_more c.args.node.now.owner c.loop-i.node.owner _ _ _ _ c.loop-i.invariant.ran.owner c.loop-i.invariant.grows (c.in_default.ensures.moments keeps));
     }
+
+pub returns-in-Err-clause-sends : goal.returns-in-Err-clause-sends
+returns-in-Err-clause-sends g c = rw (c.in-Err.ensures.err.0, c.in-Err.ensures.err.1) c.loop-i.invariant.sends
+
+pub returns-clause-sends : goal.returns-clause-sends
+returns-clause-sends g c = c.loop-i.invariant.sends
+
+pub returns-in-Err-clause-moments : goal.returns-in-Err-clause-moments
+returns-in-Err-clause-moments g c keeps = rw c.in-Err.ensures.err.0 (c.loop-i.invariant.moments keeps)
+
+pub returns-clause-moments : goal.returns-clause-moments
+returns-clause-moments g c keeps = c.loop-i.invariant.moments keeps
+
+pub returns-in-Err-clause-since : goal.returns-in-Err-clause-since
+returns-in-Err-clause-since g c keeps = since_from _ _ _ (returns-in-Err-clause-moments g c keeps) (c.disk.ensures.held keeps)
+
+pub returns-clause-since : goal.returns-clause-since
+returns-clause-since g c keeps = since_from _ _ _ (c.loop-i.invariant.moments keeps) (c.disk.ensures.held keeps)

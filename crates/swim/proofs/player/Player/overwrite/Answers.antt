@@ -4,4 +4,4 @@ use Rattle.swim.proofs.player.Player.overwrite.Goals as goal
 
 pub returns : goal.returns
 returns c =
-    rw (← c.self.view_is) (overwrite-does c.self.inside.story c.overwrite.new.self c.args.patch c.overwrite.result (sym c.is_open.ensures ∙ c.if-is_open.false) (sym c.has_disk.ensures ∙ c.if-not-has_disk.false) c.overwrite.ensures)
+    rw (← c.self.view_is) (overwrite-does c.self.inside.story c.overwrite.new.self c.args.patch c.overwrite.result (sym c.is_open.ensures ∙ c.if-is_open.false) c.overwrite.ensures)

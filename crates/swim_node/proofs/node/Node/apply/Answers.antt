@@ -1,10 +1,17 @@
-use Rattle.std.proofs.Common.{◌≡◌, ℕ, ◌<◌, ◌∷◌, ◌++◌, [], List, length, ap, sym, ◌∙◌, subst, refl}
+use Rattle.std.proofs.Common.{arith, ◌≡◌, ℕ, ◌<◌, ◌≤◌, ◌∷◌, ◌++◌, [], List, length, ap, sym, ◌∙◌, subst, refl}
 use Rattle.swim_state.specs.Held.{Held}
 use Rattle.swim_member.specs.State.{State}
+use Rattle.swim_member.specs.Events.{wanted}
 use Rattle.swim_member.specs.Fit.{AreAll, own_numbers_in}
 use Rattle.swim_node.specs.declared.entry.Entry.{Entry}
 use Rattle.swim_node.specs.History.{state_after, granted_of}
+use Rattle.swim_node.specs.Lives.{GoesOn}
 use Rattle.swim_node.specs.Node.{base_of, entered}
+use Rattle.swim_node.specs.Saving.{Fails, Grants, broken_after}
+use denote.Param.{param}
+use Rattle.swim_node.specs.contracts.node.Node.{the_view}
+use Rattle.swim_node.proofs.Lists.{granted_from-append}
+use Rattle.swim_node.proofs.Living.{goes_on}
 use Rattle.swim_node.proofs.Nodes.{Enters, node-snoc, state-snoc, said-new, said-old}
 use Rattle.swim_node.proofs.node.Node.apply.Given.{Over}
 use Rattle.swim_node.proofs.node.Node.apply.Goals as goal
@@ -35,6 +42,26 @@ module _ (g : Over) (c : goal.After-push g) where
     turn = rw (← same_entries) c.in_ok-judge.ensures.ok.0;
     texts = c.enter-done.ensures.texts;
   }
+
+  granted_now : granted_of (base_of c.self.inside.base) c.push.new.self.entries ≡ c.enter-done.result.granted
+  granted_now = ap (granted_of (base_of c.self.inside.base)) snoc ∙ granted_from-append c.self.inside.base.granted c.self.inside.journal.entries (entry ∷ [])
+
+  -- what the save granted, said of what a caller sees
+  grants : Grants g.D.Disk.keeps_model (wanted (state_after c.args.self.now.base c.args.self.now.entries) c.args.event) c.enter-done.result.save c.args.self.now.broken (g.D.Disk.state c.args.self.now.disk) (g.D.Disk.state c.enter-done.new.store.disk) (granted_of c.args.self.now.base c.args.self.now.entries) c.enter-done.result.granted
+  grants =
+      subst (λ v. Grants g.D.Disk.keeps_model (wanted (state_after v.base v.entries) c.args.event) c.enter-done.result.save v.broken (g.D.Disk.state v.disk) (g.D.Disk.state c.enter-done.new.store.disk) (granted_of v.base v.entries) c.enter-done.result.granted) c.self.view_is
+      (rw (c.self.invariant.0.member, c.self.invariant.0.granted, c.enter-done.ensures.granted) c.enter-done.ensures.saved.grants)
+
+pub returns-clause-grows : goal.returns-clause-grows
+returns-clause-grows g c =
+    subst (λ v. granted_of v.base v.entries ≤ granted_of (base_of c.self.inside.base) c.push.new.self.entries) c.self.view_is
+    (omega (arith, granted_now g c, c.enter-done.ensures.granted, c.enter-done.ensures.saved.grows, c.self.invariant.0.granted))
+
+pub returns-clause-living : goal.returns-clause-living
+returns-clause-living g c =
+    let new = record c.self.inside { journal = c.push.new.self; member = c.enter-done.new.member; store = c.enter-done.new.store; most = c.greatest_own-self-inside.result } in
+    subst (λ v. GoesOn g.D.Disk.state v (the_view (param 0 g.row.D) g.D.Disk new)) c.self.view_is
+    (goes_on g.D.Disk.state (the_view (param 0 g.row.D) g.D.Disk c.self.inside) (the_view (param 0 g.row.D) g.D.Disk new) refl c.enter-done.ensures.saved.owner refl)
 
 pub invariant_of-self-2 : goal.invariant_of-self-2
 invariant_of-self-2 g c =
@@ -74,7 +101,9 @@ returns-clause-ok g c =
         reply_is = sym (told g c);
         texts = c.enter-done.ensures.texts;
         kept = λ kept. c.enter-done.ensures.saved.kept kept ∙ disk;
-        failed = λ keeps failed. rw disk at (c.enter-done.ensures.saved.failed keeps failed);
+        broken = c.enter-done.ensures.saved.broken ∙ ap (λ v. broken_after c.enter-done.result.save v.broken) c.self.view_is;
+        grants = grants g c;
+        fails = subst (λ v. Fails g.D.Disk.keeps_model c.enter-done.result.save v.broken (g.D.Disk.state v.disk) (g.D.Disk.state c.enter-done.new.store.disk)) c.self.view_is c.enter-done.ensures.saved.fails;
         said = subst (λ (s : State). AreAll s.number (own_numbers_in base.state.settings.me c.enter-done.result.outs.items)) (sym stands)
             (said-new base c.self.inside.journal.entries (entry g c) c.self.inside.first c.self.inside.member c.enter-done.new.member c.self.inside.store.ceiling c.enter-done.new.store.ceiling c.self.inside.most c.self.invariant.0 (enters g c));
         unsaved = λ failed. subst (λ v. AreAll (state_after v.base v.entries).number (own_numbers_in v.base.state.settings.me c.enter-done.result.outs.items)) c.self.view_is

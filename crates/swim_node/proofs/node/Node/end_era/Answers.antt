@@ -1,5 +1,10 @@
+use Rattle.std.proofs.Common.{◌≡◌, subst, refl}
+use Rattle.swim_node.proofs.Living.{ends_era}
 use Rattle.swim_node.proofs.Nodes.{node-rebased}
-use Rattle.swim_node.specs.Node.{base_of}
+use Rattle.swim_node.specs.Lives.{EndsEra}
+use Rattle.swim_node.specs.Node.{base_of, rebased}
+use denote.Param.{param}
+use Rattle.swim_node.specs.contracts.node.Node.{the_view}
 use Rattle.swim_node.proofs.node.Node.end_era.Goals as goal
 
 pub invariant_of-self : goal.invariant_of-self
@@ -8,3 +13,12 @@ invariant_of-self g c = (
       (node-rebased (base_of c.self.inside.base) c.self.inside.journal.entries c.self.inside.first c.self.inside.member c.self.inside.store.ceiling c.self.inside.most c.self.invariant.0 c.base_at-base.ensures.reads),
   c.self.invariant.1,
 )
+
+pub returns-clause-living : goal.returns-clause-living
+returns-clause-living g c =
+    let n = c.self.invariant.0 in
+    let base : base_of c.replace.new.dest ≡ rebased (base_of c.self.inside.base) c.self.inside.journal.entries =
+    rw (c.replace.ensures.after, c.base_at-base.ensures.base, c.ceiling.ensures.value, n.member, n.granted, n.most) refl in
+    let new = record c.self.inside { base = c.replace.new.dest; journal = c.take.new.self } in
+    subst (λ v. EndsEra g.D.Disk.state v (the_view (param 0 g.row.D) g.D.Disk new)) c.self.view_is
+    (ends_era g.D.Disk.state (the_view (param 0 g.row.D) g.D.Disk c.self.inside) (the_view (param 0 g.row.D) g.D.Disk new) base refl refl n.legal n.begun)

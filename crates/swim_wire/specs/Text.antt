@@ -1,0 +1,14 @@
+-- The text of an endpoint.
+use Rattle.std.specs.Prelude.{ℕ, ◌/◌, ◌%◌, List, ◌∷◌, ◌++◌}
+use Rattle.std.specs.Fmt.{decimal}
+
+-- a text with this byte between two parts
+abbrev pub split_by : ℕ → List ℕ → List ℕ → List ℕ
+split_by byte before after = before ++ byte ∷ after
+
+-- four numbers with dots, a colon and the port
+abbrev pub dotted : ℕ → ℕ → ℕ → ℕ → ℕ → List ℕ
+dotted a b c d port = split_by 46 (decimal a) (split_by 46 (decimal b) (split_by 46 (decimal c) (split_by 58 (decimal d) (decimal port))))
+
+abbrev pub endpoint_text : ℕ → List ℕ
+endpoint_text e = dotted (e / 65536 / 16777216) (e / 65536 / 65536 % 256) (e / 65536 / 256 % 256) (e / 65536 % 256) (e % 65536)
