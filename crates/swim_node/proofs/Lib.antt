@@ -3,3 +3,4 @@ pub mod Wants
 pub mod Nodes
 pub mod Lives
 pub mod Living
+pub mod Crosses

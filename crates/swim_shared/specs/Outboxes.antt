@@ -1,0 +1,87 @@
+-- Rings as links, and what a link was handed from one.
+use Rattle.std.specs.Prelude.{◌≡◌, ℕ, ◌+◌, ◌-◌, ◌^◌, min, Bool, if◌then◌else◌}
+use Rattle.std.specs.Prelude.{List, [], ◌∷◌, ◌++◌, map}
+use Rattle.rtrb.specs.Ring.{sent, received, known_items}
+use Rattle.rtrb.specs.declared.producer.Producer.{Producer}
+use Rattle.rtrb.specs.declared.consumer.Consumer.{Consumer}
+use Rattle.swim_node.specs.Link.{LinkId}
+use Rattle.swim_shared.specs.declared.packet.Packet.{Packet}
+
+module _ {T A P : Type 0} where
+  -- which ring the producer has
+  abbrev pub ring_of : Producer T A P → LinkId
+  ring_of p = record { words = p.end.words; slots = p.end.slots; names = p.end.names }
+
+  -- which ring the consumer has
+  abbrev pub ring_from : Consumer T A P → LinkId
+  ring_from c = record { words = c.end.words; slots = c.end.slots; names = c.end.names }
+
+-- what a contract sees of an outbox
+pub record OutboxView : Type 0 where
+  pub ring : LinkId  -- which ring it fills
+  pub put : List (ℕ × List ℕ)  -- what it put in, in order
+  pub failures : ℕ  -- how many it refused
+
+-- what a contract sees of a sender
+pub record SenderView : Type 0 where
+  pub ring : LinkId  -- which ring it empties
+  pub got : List (ℕ × List ℕ)  -- what it took out, in order
+  pub owed : ℕ  -- how many losses were not told yet
+
+-- destination and text of a datagram on its way
+abbrev pub packed : Packet → ℕ × List ℕ
+packed p = (p.to, p.bytes.items)
+
+module _ {A P : Type 0} where
+  -- destination and text of all that was put into the ring, in order
+  abbrev pub put : Producer Packet A P → List (ℕ × List ℕ)
+  put p = map packed (sent p)
+
+  -- what was taken out of the ring, and what is known to be in it still
+  abbrev pub through : Consumer Packet A P → List Packet
+  through c = received c ++ known_items c
+
+  -- destination and text of all that was taken out of the ring, in order
+  abbrev pub got : Consumer Packet A P → List (ℕ × List ℕ)
+  got c = map packed (received c)
+
+-- a datagram that a link was handed, and whether it took it
+pub record Fate : Type 0 where
+  pub datagram : ℕ × List ℕ
+  pub taken : Bool
+
+-- the datagrams, whatever became of them
+abbrev pub all_of : List Fate → List (ℕ × List ℕ)
+all_of [] = []
+all_of (f ∷ fs) = f.datagram ∷ all_of fs
+
+-- the datagrams that the link took
+abbrev pub kept_of : List Fate → List (ℕ × List ℕ)
+kept_of [] = []
+kept_of (f ∷ fs) = if f.taken then f.datagram ∷ kept_of fs else kept_of fs
+
+-- how many the link refused
+abbrev pub lost_of : List Fate → ℕ
+lost_of [] = 0
+lost_of (f ∷ fs) = (if f.taken then 0 else 1) + lost_of fs
+
+-- a link tells what it took and how many it refused
+module _ {L : Type 0} (tells : Type 0) (took : L → List (ℕ × List ℕ)) (failures : L → ℕ) where
+  -- what came out of the ring was handed to the link in order; of it the link took all but as many
+  -- as it refused
+  pub record Handed (out out' : List (ℕ × List ℕ)) (old new : L) : Type 0 where
+    pub fates : List Fate
+    pub out_is : out' ≡ out ++ all_of fates
+    pub took_is : tells → took new ≡ took old ++ kept_of fates
+    pub failures_is : failures new ≡ failures old + lost_of fates
+
+  -- the same of one datagram
+  pub record HandedOne (out out' : List (ℕ × List ℕ)) (old new : L) (taken : Bool) : Type 0 where
+    pub datagram : ℕ × List ℕ
+    pub out_is : out' ≡ out ++ datagram ∷ []
+    pub took_is : tells → took new ≡ (if taken then took old ++ datagram ∷ [] else took old)
+    pub failures_is : failures new ≡ (if taken then failures old else failures old + 1)
+
+-- what is owed after the failures that the link told in between, at most 2^32 - 1
+abbrev pub owed_after : ℕ → ℕ → ℕ → ℕ
+owed_after owed before after = min (owed + (after - before)) (2 ^ 32 - 1)
