@@ -1,0 +1,16 @@
+use Rattle.std.proofs.Common.{[]}
+use Rattle.swim_disk.specs.MemDisk.{state_of}
+use Rattle.swim_node.specs.Link.{numbered}
+use Rattle.swim_two_callers.proofs.main.Given as goal
+
+-- the parts that were just made
+abbrev pub ghosts-era : goal.ghosts-era
+ghosts-era g a = record {
+  book = a.parts.book;
+  base = a.parts.node.base;
+  disk = (state_of a.parts.node.disk).name;
+  owner = a.parts.node.owner;
+  first = a.parts.node.first;
+  link = numbered a.parts.link.number;
+  start = [];
+}
