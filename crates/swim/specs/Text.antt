@@ -1,34 +1,21 @@
 -- The words of a transcript.
 use Rattle.std.specs.Prelude.{ℕ, List, ◌++◌, codes}
 use Rattle.std.specs.Fmt.{decimal}
-use Rattle.swim_wire.specs.declared.update.UpdateKind.{UpdateKind}
-use Rattle.swim_wire.specs.declared.update.UpdateKind.TheVariants.{Alive, Suspect, Confirm}
 use Rattle.swim_member.specs.Texts.{setting_text}
-use Rattle.swim_member.specs.declared.state.Phase.{Phase}
-use Rattle.swim_member.specs.declared.state.Phase.TheVariants.{Running, Left, Expelled}
 use Rattle.swim_node.specs.Fault.{text_of_open}
 use Rattle.swim_node.specs.declared.entry.Outcome.{Outcome}
 use Rattle.swim_node.specs.declared.entry.Outcome.TheVariants.{Taken, Lost}
 use Rattle.swim_node.specs.declared.entry.Save.{Save}
 use Rattle.swim_node.specs.declared.entry.Save.TheVariants.{Kept, Done, Failed}
 use Rattle.swim_node.specs.declared.entry.Status.{Status}
+use Rattle.swim_words.specs.Names.{phase_word}
 use Rattle.swim.specs.declared.story.Refusal.{Refusal}
 use Rattle.swim.specs.declared.story.Refusal.TheVariants.{Settings, Open}
-
-abbrev pub phase_word : Phase → List ℕ
-phase_word Running = codes "running"
-phase_word Left = codes "left"
-phase_word Expelled = codes "expelled"
 
 abbrev pub save_word : Save → List ℕ
 save_word Kept = codes "none"
 save_word Done = codes "done"
 save_word Failed = codes "failed"
-
-abbrev pub kind_word : UpdateKind → List ℕ
-kind_word Alive = codes "alive"
-kind_word Suspect = codes "suspect"
-kind_word Confirm = codes "confirm"
 
 abbrev pub outcome_word : Outcome → List ℕ
 outcome_word Taken = codes "taken"

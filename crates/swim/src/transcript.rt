@@ -3,27 +3,17 @@
 ghost use Rattle.std.specs.Prelude.{◌≡◌, All};
 ghost use Rattle.swim_wire.specs.Spelling.{HasText};
 ghost use Rattle.swim_node.specs.Sending.{HasTexts};
-ghost use Rattle.swim.specs.Text.{kind_word, outcome_word, phase_word, save_word};
+ghost use Rattle.swim.specs.Text.{outcome_word, save_word};
 
 use crate::story::Opening;
 use std::alloc::{AllocError, Global};
 use std::fmt;
 use std::fmt::Write;
-use swim_member::{Note, Out, Phase};
+use swim_member::{Note, Out};
 use swim_node::{Entry, Outcome, Save, Status};
 use swim_state::{Reading, slots_in};
-use swim_wire::{Update, UpdateKind, encode};
-
-/// The name of a phase.
-fn phase_name(phase: Phase) -> &'static str
-    ensures { result.now ≡ phase_word phase }
-{
-    match phase {
-        Phase::Running => "running",
-        Phase::Left => "left",
-        Phase::Expelled => "expelled",
-    }
-}
+use swim_wire::{Update, encode};
+use swim_words::{kind_name, phase_name};
 
 /// The name of what became of the ceiling.
 fn save_name(save: Save) -> &'static str
@@ -33,17 +23,6 @@ fn save_name(save: Save) -> &'static str
         Save::Kept => "none",
         Save::Done => "done",
         Save::Failed => "failed",
-    }
-}
-
-/// The name of what an update says.
-fn kind_name(kind: UpdateKind) -> &'static str
-    ensures { result.now ≡ kind_word kind }
-{
-    match kind {
-        UpdateKind::Alive => "alive",
-        UpdateKind::Suspect => "suspect",
-        UpdateKind::Confirm => "confirm",
     }
 }
 

@@ -1,0 +1,129 @@
+//! What control answers.
+
+ghost use Rattle.std.specs.Prelude.{◌≡◌, ◌+◌, ◌≤◌, ◌++◌, [], length};
+ghost use Rattle.std.specs.List.{list_any};
+ghost use Rattle.swim_shell.specs.Control.{end_by, is_misdirected, is_stopped, joined_text, left_text, refusal_text};
+
+use crate::calling::Refusal;
+use crate::worker::ControlEnd;
+use arrayvec::{ArrayString, ArrayVec};
+use std::fmt::Write;
+use swim_member::{NOTES_MAX, Note};
+use swim_node::{Reply, Status};
+use swim_wire::{UPDATES_MAX, Update};
+use swim_words::{kind_name, phase_name};
+
+/// Room for the longest answer: a head, and thirty rows of at most 51 bytes.
+const ANSWER_MAX: usize = 2048;
+
+/// The text of an answer.
+pub(crate) type Answer = ArrayString<ANSWER_MAX>;
+
+/// Adds a text, where it fits.
+pub(crate) fn add_text(answer: &mut Answer, text: &str)
+    ensures { length answer.old.bytes + length text.now ≤ 2048 → answer.new.bytes ≡ answer.old.bytes
+        ++ text.now }
+{
+    let _ = answer.try_push_str(text);
+}
+
+/// The line of a status.
+pub(crate) fn add_status(answer: &mut Answer, status: &Status) {
+    let phase = phase_name(status.phase);
+    let number = status.number;
+    let alive = status.alive;
+    let suspect = status.suspect;
+    let confirmed = status.confirmed;
+    let length = status.length;
+    let _ = writeln!(
+        answer,
+        "ok {phase} number {number} alive {alive} suspect {suspect} confirmed {confirmed} length {length}"
+    );
+}
+
+/// The line of a member.
+fn add_row(answer: &mut Answer, row: &Update) {
+    let kind = kind_name(row.kind);
+    let who = row.who;
+    let number = row.number;
+    let _ = writeln!(answer, "{kind} {who} {number}");
+}
+
+/// How many members follow, and their lines.
+pub(crate) fn add_page(answer: &mut Answer, page: &ArrayVec<Update, UPDATES_MAX>) {
+    let rows = page.len();
+    let _ = writeln!(answer, "ok {rows}");
+    for row in page.as_slice() {
+        add_row(answer, row);
+    }
+}
+
+/// Whether the member takes no part.
+fn has_stopped(notes: &ArrayVec<Note, NOTES_MAX>) -> bool
+    ensures { result ≡ list_any is_stopped notes.now.items }
+{
+    notes
+        .as_slice()
+        .iter()
+        .any(|note| matches!(note, Note::Stopped))
+}
+
+/// Whether the member was told to join itself.
+fn is_to_itself(notes: &ArrayVec<Note, NOTES_MAX>) -> bool
+    ensures { result ≡ list_any is_misdirected notes.now.items }
+{
+    notes
+        .as_slice()
+        .iter()
+        .any(|note| matches!(note, Note::Misdirected))
+}
+
+/// What came of a join.
+pub(crate) fn add_joined(answer: &mut Answer, reply: &Reply)
+    requires { answer.old.bytes ≡ [] }
+    ensures { answer.new.bytes ≡ joined_text reply.now }
+{
+    if has_stopped(&reply.notes) {
+        add_text(answer, "ok stopped\n");
+    } else if is_to_itself(&reply.notes) {
+        add_text(answer, "error 7 self\n");
+    } else if reply.lost > 0 {
+        add_text(answer, "ok lost\n");
+    } else {
+        add_text(answer, "ok sent\n");
+    }
+}
+
+/// What came of a leave.
+pub(crate) fn add_left(answer: &mut Answer, reply: &Reply)
+    requires { answer.old.bytes ≡ [] }
+    ensures { answer.new.bytes ≡ left_text reply.now }
+{
+    if has_stopped(&reply.notes) {
+        add_text(answer, "ok stopped\n");
+    } else {
+        add_text(answer, "ok left\n");
+    }
+}
+
+/// That a call was refused, and whether the conversation ends with it.
+pub(crate) fn add_refusal(answer: &mut Answer, why: Refusal) -> Option<ControlEnd>
+    requires { answer.old.bytes ≡ [] }
+    ensures text { answer.new.bytes ≡ refusal_text why }
+    ensures end { result ≡ end_by why }
+{
+    match why {
+        Refusal::Memory => {
+            add_text(answer, "error 4 memory\n");
+            None
+        }
+        Refusal::EraFull => {
+            add_text(answer, "error 5 era full\n");
+            Some(ControlEnd::EraFull)
+        }
+        Refusal::Unread => {
+            add_text(answer, "error 6 unread\n");
+            Some(ControlEnd::Unread)
+        }
+    }
+}

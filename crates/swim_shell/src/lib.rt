@@ -1,0 +1,28 @@
+//! The workers of a member that runs: each takes things as they come, and makes one call of the shared node for
+//! each. What came, what was drawn, which lines were read and what was lost can be read off its calls.
+#![tactic(auto)]
+
+mod answers;
+mod asked;
+mod calling;
+mod controlling;
+mod doors;
+mod inbound;
+mod lines;
+mod note_log;
+mod receiving;
+mod sending;
+mod ticking;
+mod worker;
+
+pub use asked::Asked;
+pub use calling::Refusal;
+pub use controlling::control;
+pub use doors::Doors;
+pub use inbound::{Inbound, ReceiveFault};
+pub use lines::{LINE_MAX, Line};
+pub use note_log::LOGGED_MAX;
+pub use receiving::{FAILURES_MAX, receiver};
+pub use sending::sender;
+pub use ticking::ticker;
+pub use worker::{ControlEnd, Gate, Turn, WorkerEnd};
