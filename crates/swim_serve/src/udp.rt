@@ -1,0 +1,134 @@
+//! Datagrams over UDP.
+
+ghost use Rattle.std.specs.Prelude.{◌≡◌};
+
+use arrayvec::ArrayVec;
+use http_server::Log as Failures;
+use std::io::{self, ErrorKind};
+use std::net::{Ipv4Addr, SocketAddr, SocketAddrV4, UdpSocket};
+use swim_member::RECEIVED_MAX;
+use swim_node::{Link, LinkFault};
+use swim_shell::{Inbound, ReceiveFault};
+use swim_wire::Endpoint;
+
+/// The socket address of an endpoint.
+fn address_of(to: Endpoint) -> SocketAddrV4 {
+    SocketAddrV4::new(Ipv4Addr::from_bits(to.address()), to.port())
+}
+
+/// The endpoint that a socket address is; none for IPv6 and for port 0.
+fn endpoint_of(from: SocketAddr) -> Option<Endpoint> {
+    match from {
+        SocketAddr::V4(from) => Endpoint::new(u32::from(*from.ip()), from.port()),
+        SocketAddr::V6(_) => None,
+    }
+}
+
+/// Datagrams that go out over UDP, one a send. A short send is a failure. It does not tell what it took: what a socket
+/// takes is not known here.
+#[derive(Drop)]
+pub struct UdpLink {
+    socket: UdpSocket,
+    failures: Failures<u8, u8>,
+}
+
+impl UdpLink {
+    /// A link over a bound socket.
+    pub fn new(socket: UdpSocket) -> UdpLink {
+        UdpLink {
+            socket,
+            failures: Failures::new(),
+        }
+    }
+
+    /// Sends one datagram whole.
+    fn send_whole(&self, to: Endpoint, bytes: &[u8]) -> bool {
+        match self.socket.send_to(bytes, address_of(to)) {
+            Ok(sent) => sent == bytes.len(),
+            Err(_) => false,
+        }
+    }
+}
+
+impl Link for UdpLink {
+    ghost use Rattle.std.specs.Prelude.{[], length};
+    ghost use Rattle.swim_node.specs.Link.{numbered};
+
+    ghost name = { λ _. numbered 0 };
+
+    ghost tells = { ⊥ };
+
+    ghost took = { λ _. [] };
+
+    ghost failures = { λ l. length l.failures.items };
+
+    fn send(&mut self, to: Endpoint, bytes: &[u8]) -> Result<(), LinkFault> {
+        if self.send_whole(to, bytes) {
+            return Ok(());
+        }
+        self.failures = self.failures.and(&0, &0);
+        Err(LinkFault)
+    }
+}
+
+/// Datagrams that come in over UDP, within the waiting time of the socket. A datagram from no endpoint is a failed
+/// receive. It does not tell what it answered.
+#[derive(Drop)]
+pub struct UdpInbound {
+    socket: UdpSocket,
+    failures: Failures<u8, u8>,
+}
+
+/// Whether a receive ended because nothing came.
+fn is_wait_over(error: &io::Error) -> bool {
+    matches!(error.kind(), ErrorKind::WouldBlock | ErrorKind::TimedOut)
+}
+
+impl UdpInbound {
+    /// An inbound over a bound socket that has a waiting time.
+    pub fn new(socket: UdpSocket) -> UdpInbound {
+        UdpInbound {
+            socket,
+            failures: Failures::new(),
+        }
+    }
+
+    /// One receive. The system cuts a datagram that is longer than a member keeps.
+    fn receive_one(
+        &self,
+        into: &mut ArrayVec<u8, RECEIVED_MAX>,
+    ) -> Result<Option<Endpoint>, ReceiveFault> {
+        let mut bytes = [0u8; RECEIVED_MAX];
+        into.clear();
+        match self.socket.recv_from(&mut bytes) {
+            Ok((length, from)) => {
+                let from = endpoint_of(from).ok_or(ReceiveFault)?;
+                let _ = into.try_extend_from_slice(&bytes[..length]);
+                Ok(Some(from))
+            }
+            Err(error) if is_wait_over(&error) => Ok(None),
+            Err(_) => Err(ReceiveFault),
+        }
+    }
+}
+
+impl Inbound for UdpInbound {
+    ghost use Rattle.std.specs.Prelude.{[], length};
+
+    ghost tells = { ⊥ };
+
+    ghost came = { λ _. [] };
+
+    ghost failures = { λ i. length i.failures.items };
+
+    fn receive(
+        &mut self,
+        into: &mut ArrayVec<u8, RECEIVED_MAX>,
+    ) -> Result<Option<Endpoint>, ReceiveFault> {
+        let received = self.receive_one(into);
+        if received.is_err() {
+            self.failures = self.failures.and(&0, &0);
+        }
+        received
+    }
+}

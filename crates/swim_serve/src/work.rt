@@ -1,0 +1,77 @@
+//! The workers that get a thread of their own, each with what it works on.
+
+use log::Log;
+use rand_chacha::ChaCha20Rng;
+use std::sync::Wait;
+use std::time::Clock;
+use swim_disk::Disk;
+use swim_node::Link;
+use swim_shared::{Name, Pass, Sender, Shared};
+use swim_shell::{Gate, Inbound, WorkerEnd, receiver, sender, ticker};
+
+/// What a worker does until its gate stops it.
+pub(crate) trait Work {
+    /// Works, with calls of this pass.
+    fn work<N: Name, D: Disk, L: Link, R: Wait + Drop, W: Wait + Log + Clock, G: Gate>(
+        &mut self,
+        rt: &W,
+        shared: &Shared<N, D, L, R>,
+        pass: &mut Pass<N>,
+        gate: &mut G,
+    ) -> WorkerEnd;
+}
+
+/// Hands in what an inbound gives.
+#[derive(Drop)]
+pub(crate) struct Receiving<'a, I: Inbound> {
+    pub(crate) inbound: &'a mut I,
+}
+
+impl<'a, I: Inbound> Work for Receiving<'a, I> {
+    fn work<N: Name, D: Disk, L: Link, R: Wait + Drop, W: Wait + Log + Clock, G: Gate>(
+        &mut self,
+        rt: &W,
+        shared: &Shared<N, D, L, R>,
+        pass: &mut Pass<N>,
+        gate: &mut G,
+    ) -> WorkerEnd {
+        receiver(rt, shared, pass, self.inbound, gate)
+    }
+}
+
+/// Counts the ticks.
+#[derive(Drop)]
+pub(crate) struct Ticking<'a> {
+    pub(crate) rng: &'a mut ChaCha20Rng,
+}
+
+impl<'a> Work for Ticking<'a> {
+    fn work<N: Name, D: Disk, L: Link, R: Wait + Drop, W: Wait + Log + Clock, G: Gate>(
+        &mut self,
+        rt: &W,
+        shared: &Shared<N, D, L, R>,
+        pass: &mut Pass<N>,
+        gate: &mut G,
+    ) -> WorkerEnd {
+        ticker(rt, shared, pass, self.rng, gate)
+    }
+}
+
+/// Hands on what the outbox took.
+#[derive(Drop)]
+pub(crate) struct Sending<'a, M: Link> {
+    pub(crate) ring: &'a mut Sender,
+    pub(crate) link: &'a mut M,
+}
+
+impl<'a, M: Link> Work for Sending<'a, M> {
+    fn work<N: Name, D: Disk, L: Link, R: Wait + Drop, W: Wait + Log + Clock, G: Gate>(
+        &mut self,
+        rt: &W,
+        shared: &Shared<N, D, L, R>,
+        pass: &mut Pass<N>,
+        gate: &mut G,
+    ) -> WorkerEnd {
+        sender(rt, shared, pass, self.ring, self.link, gate)
+    }
+}
