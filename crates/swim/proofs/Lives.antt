@@ -1,64 +1,23 @@
 -- One entry, one era, one life more.
 use Rattle.std.proofs.Common.{◌≡◌, ℕ, ◌<◌, List, [], ◌∷◌, ◌++◌, length, refl, sym, ap, ◌∙◌, arith}
+use Rattle.std.specs.Prelude.{All}
 use Rattle.std.proofs.lemmas.List.Elements.{All-append, All-cons, All-nil}
 use Rattle.swim_disk.specs.Disk.{State, IsSettled}
 use Rattle.swim_state.specs.declared.owner.Owner.{Owner}
 use Rattle.swim_state.specs.Held.{Held}
 use Rattle.swim_node.specs.declared.entry.Entry.{Entry}
-use Rattle.swim_node.specs.History.{Base, IsLegal}
-use Rattle.std.specs.Option.{option_to_list}
-use Rattle.swim_node.specs.Owns.{owns, owns_in, AreAtLeast}
-use Rattle.swim_node.proofs.Lists.{at_least-append}
-use Rattle.swim_node.specs.Lives.{Era, Life, AreJoined, numbers_in, numbers_of, IsLived, ceiling_of, Then, Crashed, Refused, Reached, Here, Next, AreLives}
-use Rattle.swim_node.specs.Node.{rebased}
+use Rattle.swim_node.specs.Lives.{Era, Life, IsLived, ceiling_of, Then, Crashed, Refused, Reached, Here, Next, AreLives}
 use Rattle.swim_node.proofs.Lives.{held-reached}
-use Rattle.swim.specs.Life.{PlayDisk, disk_state, IsMine, AreMine, IsOfOne, IsLiving, IsOnto, Spares, AreOnOneDisk}
+use Rattle.swim.specs.Life.{PlayDisk, disk_state, IsMine, AreMine, IsOfOne, IsOnto, Spares, AreOnOneDisk}
 use Rattle.swim.specs.Story.{Leads}
 
--- ---- a life that goes on
+-- ---- the calls of one caller
 
-joined-snoc : (start : Base) (eras : List Era) (era : Era) → AreJoined start eras era.base → IsLegal era.base era.entries → AreJoined start (eras ++ era ∷ []) (rebased era.base era.entries)
-joined-snoc start [] era joined legal = (joined, legal, refl)
-joined-snoc start (first ∷ eras) era joined legal = (joined.0, joined.1, joined-snoc (rebased first.base first.entries) eras era joined.2 legal)
+pub mine-happened : (entries : List Entry) (e : Entry) → All IsMine entries → IsMine e → All IsMine (entries ++ e ∷ [])
+mine-happened entries e h mine = All-append IsMine entries (e ∷ []) h (All-cons IsMine e [] mine (All-nil IsMine))
 
-pub living-happened : (owner : Owner) (life : Life PlayDisk) (e : Entry) (left : PlayDisk) → IsLiving owner life → IsMine e → IsLiving owner (record life { entries = life.entries ++ e ∷ []; left = left })
-living-happened owner life e left h mine = record {
-  same_owner = h.same_owner;
-  joined = h.joined;
-  above = h.above;
-  begun = h.begun;
-  mine = record { ended = h.mine.ended; last = All-append IsMine life.entries (e ∷ []) h.mine.last (All-cons IsMine e [] mine (All-nil IsMine)) };
-  room = h.room;
-}
-
-at_least-parts : (f : ℕ) (ms ns : List ℕ) → AreAtLeast f (ms ++ ns) → AreAtLeast f ms × AreAtLeast f ns
-at_least-parts f [] ns h = (tt {0}, h)
-at_least-parts f (m ∷ ms) ns h = let rest = at_least-parts f ms ns h.1 in ((h.0, rest.0), rest.1)
-
-least-last : (f : ℕ) (ms ns : List ℕ) → AreAtLeast f (ms ++ ns) → AreAtLeast f ns
-least-last f ms ns h = (at_least-parts f ms ns h).1
-
-numbers-snoc : (f : ℕ) (eras : List Era) (era : Era) → AreAtLeast f (numbers_in eras) → AreAtLeast f (owns era.base era.entries) → AreAtLeast f (numbers_in (eras ++ era ∷ []))
-numbers-snoc f [] era h k = at_least-append f (owns_in era.base.state.settings.me era.entries) [] (least-last f (option_to_list era.base.past) _ k) (tt {0})
-numbers-snoc f (first ∷ eras) era h k =
-    let parts = at_least-parts f (owns_in first.base.state.settings.me first.entries) (numbers_in eras) h in
-    at_least-append f (owns_in first.base.state.settings.me first.entries) _ parts.0 (numbers-snoc f eras era parts.1 k)
-
-pub living-rebased : (owner : Owner) (life : Life PlayDisk) → IsLiving owner life → IsLegal life.base life.entries → AreAtLeast life.first (owns life.base life.entries) → IsLiving owner (record life { eras = life.eras ++ record { base = life.base; entries = life.entries } ∷ []; base = rebased life.base life.entries; entries = [] })
-living-rebased owner life h legal begun =
-    let era : Era = record { base = life.base; entries = life.entries } in
-    record {
-      same_owner = h.same_owner;
-      joined = joined-snoc _ life.eras era h.joined legal;
-      above = h.above;
-      begun = numbers-snoc life.first life.eras era h.begun begun;
-      mine = record { ended = All-append AreMine life.eras (era ∷ []) h.mine.ended (All-cons AreMine era [] h.mine.last (All-nil AreMine)); last = All-nil IsMine };
-      room = h.room;
-    }
-
--- the numbers of a life are those of its ended eras and of its last one
-pub life-begun : (life : Life PlayDisk) → AreAtLeast life.first (numbers_in life.eras) → AreAtLeast life.first (owns life.base life.entries) → AreAtLeast life.first (numbers_of life)
-life-begun life h k = at_least-append life.first (numbers_in life.eras) _ h (least-last life.first (option_to_list life.base.past) _ k)
+pub mine-rebased : (eras : List Era) (era : Era) → All AreMine eras → AreMine era → All AreMine (eras ++ era ∷ [])
+mine-rebased eras era h mine = All-append AreMine eras (era ∷ []) h (All-cons AreMine era [] mine (All-nil AreMine))
 
 -- ---- lives one after another
 

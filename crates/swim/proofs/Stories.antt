@@ -1,6 +1,6 @@
 -- What happens to a story, and what that is to a script.
-use Rattle.std.proofs.Common.{◌≡◌, ℕ, ◌<◌, Bool, true, false, List, [], ◌∷◌, ◌++◌, length, refl, sym, subst}
-use Rattle.std.specs.Prelude.{All, Result, Ok, Err, OnOk}
+use Rattle.std.proofs.Common.{◌≡◌, ℕ, ◌<◌, Bool, true, false, List, [], ◌∷◌, ◌++◌, length, refl, sym, subst, ap, ◌∙◌}
+use Rattle.std.specs.Prelude.{All, Option, Some, None, is_some, Result, Ok, Err, OnOk}
 use Rattle.std.proofs.lemmas.List.Elements.{All-nil}
 use Rattle.swim_disk.specs.Disk.{IsSettled}
 use Rattle.swim_state.specs.Held.{Held}
@@ -13,7 +13,7 @@ use Rattle.swim.specs.declared.story.Stage.{Stage}
 use Rattle.swim.specs.declared.story.Stage.TheVariants.{Bare, Idle, Open}
 use Rattle.swim.specs.Life.{PlayDisk, disk_state, IsOfOne, Spares, AreOnOneDisk}
 use Rattle.swim.specs.Story.{Leads, IsStory}
-use Rattle.swim.specs.Play.{Playing, IsRun, Does, Plays}
+use Rattle.swim.specs.Play.{Playing, Asked, Scene, IsRun, Shows, Plays, kept_by, ended, ended_with}
 use Rattle.swim.proofs.Lives.{leads-held, leads-none, leads-spared, leads-crashed, leads-ended, on_one_disk}
 
 -- the lives since the last other disk or owner are of one owner on one disk
@@ -83,7 +83,19 @@ pub always_ok : {T E : Type 0} (P : Type 0) (result : Result T E) → P → OnOk
 always_ok P (Ok v) p = p
 always_ok P (Err e) p = tt
 
+kept-some : (o : Option PlayDisk) (planned : Option ℕ) → is_some o ≡ true → kept_by o planned ≡ None
+kept-some None planned there = absurd (cc)
+kept-some (Some disk) planned there = refl
+
+ended-disk : (p : Playing) (o : Option Asked) → (ended_with o p).disk ≡ p.disk
+ended-disk p None = refl
+ended-disk p (Some life) = refl
+
+-- where there is a disk a crash leaves no plan of the link
+pub kept-none : (p q : Playing) (planned : Option ℕ) → q ≡ ended p → is_some q.disk ≡ true → kept_by p.disk planned ≡ None
+kept-none p q planned closed there = kept-some p.disk planned (subst (λ (o : Option PlayDisk). is_some o ≡ true) (ap (λ (r : Playing). r.disk) closed ∙ ended-disk p p.life) there)
+
 -- one line more
-pub plays-snoc : (p : Playing) (commands : List Command) (q : Playing) (command : Command) (r : Playing) → Plays p commands q → Does q command r → Plays p (commands ++ command ∷ []) r
-plays-snoc p [] q command r h step = (r, subst (λ (x : Playing). Does x command r) h step, refl)
+pub plays-snoc : (p : Scene) (commands : List Command) (q : Scene) (command : Command) (r : Scene) → Plays p commands q → Shows q command r → Plays p (commands ++ command ∷ []) r
+plays-snoc p [] q command r h step = (r, subst (λ (x : Scene). Shows x command r) h step, refl)
 plays-snoc p (first ∷ commands) q command r h step = (h.0, h.1, plays-snoc h.0 commands q command r h.2 step)

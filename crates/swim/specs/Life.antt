@@ -11,10 +11,7 @@ use Rattle.swim_member.specs.declared.event.Event.{Event}
 use Rattle.swim_node.specs.declared.entry.Entry.{Entry}
 use Rattle.swim_node.specs.declared.fault.ApplyFault.{ApplyFault}
 use Rattle.swim_node.specs.declared.fault.ApplyFault.TheVariants.{NoMemory, EraFull, OutOfTurn}
-use Rattle.swim_node.specs.History.{fresh_base}
-use Rattle.swim_node.specs.Lives.{Era, Life, AreJoined, numbers_in, Reached, ceiling_of, AreLives}
-use Rattle.swim_node.specs.Owns.{AreAtLeast}
-use Rattle.swim_node.specs.Node.{owner_of}
+use Rattle.swim_node.specs.Lives.{Era, Life, IsLiving, Reached, ceiling_of, AreLives}
 
 -- the disk of a script, and what it tells
 abbrev pub PlayDisk : Type 0
@@ -35,12 +32,9 @@ pub record IsOfOne (life : Life PlayDisk) : Type 0 where
   pub ended : All AreMine life.eras
   pub last : All IsMine life.entries
 
--- what holds of a life at all times beside what its node keeps
-pub record IsLiving (owner : Owner) (life : Life PlayDisk) : Type 0 where
-  pub same_owner : owner ≡ owner_of life.settings
-  pub joined : AreJoined (fresh_base life.settings life.first life.limit) life.eras life.base
-  pub above : (b : ℕ) → Held (owner_of life.settings) (disk_state life.opened) b → b < life.first
-  pub begun : AreAtLeast life.first (numbers_in life.eras)
+-- what holds of a life at all times beside what its node keeps: it goes on, all its calls are of one caller, and its eras have its limit
+pub record IsOngoing (owner : Owner) (life : Life PlayDisk) : Type 0 where
+  pub living : IsLiving disk_state owner life
   pub mine : IsOfOne life
   pub room : life.base.limit ≡ life.limit
 

@@ -111,11 +111,6 @@ pub record IsCrashed (choice : Choice) (old new : PlayDisk) : Type 0 where
   pub image : (disk_state old).images (disk_state new).content
   pub settled : IsSettled (disk_state new)
 
--- the send that is to be lost, after a line that plans this
-abbrev pub lost_by : Failure → Option ℕ → Option ℕ
-lost_by (failure.Send k) planned = Some k
-lost_by _ planned = planned
-
 -- ---- lives
 
 -- these lives as a run of their own, unless there are none
@@ -241,13 +236,42 @@ Does p (Overwrite patch) q = IfClosed p.life p q (IfDisk p.disk p q (λ disk. Be
 Does p Slots q = q ≡ p
 Does p Rebase q = q ≡ record p { life = rebased p.life }
 
--- what these lines, in order, may make of it
-abbrev pub Plays : Playing → List Command → Playing → Type 0
-Plays p [] q = q ≡ p
-Plays p (command ∷ commands) q = (r : Playing) × Does p command r × Plays r commands q
+-- ---- the link
 
-abbrev pub beginning : Playing
-beginning = record { setup = first_setup; disk = None; apart = false; runs = []; lives = []; life = None }
+-- what plays, and which send from now on the link is to lose, if any
+pub record Scene : Type 0 where
+  pub playing : Playing
+  pub loses : Option ℕ
+
+-- the send that is to be lost, after a line that plans this
+abbrev pub lost_by : Failure → Option ℕ → Option ℕ
+lost_by (failure.Send k) planned = Some k
+lost_by _ planned = planned
+
+-- after a crash of what there is, nothing is planned to be lost
+abbrev pub kept_by : Option PlayDisk → Option ℕ → Option ℕ
+kept_by None planned = planned
+kept_by (Some disk) planned = None
+
+-- what a line makes of the plan of the link: the sends of an event may come to it, and no other line but these changes it
+abbrev pub IsPlanned : Scene → Command → Option ℕ → Type 0
+IsPlanned p (Plan failure) planned = planned ≡ lost_by failure p.loses
+IsPlanned p (Crash choice) planned = planned ≡ kept_by p.playing.disk p.loses
+IsPlanned p (Happen event) planned = p.playing.life ≡ None → planned ≡ p.loses
+IsPlanned p command planned = planned ≡ p.loses
+
+-- what a line may make of it
+pub record Shows (p : Scene) (command : Command) (q : Scene) : Type 0 where
+  pub does : Does p.playing command q.playing
+  pub planned : IsPlanned p command q.loses
+
+-- what these lines, in order, may make of it
+abbrev pub Plays : Scene → List Command → Scene → Type 0
+Plays p [] q = q ≡ p
+Plays p (command ∷ commands) q = (r : Scene) × Shows p command r × Plays r commands q
+
+abbrev pub beginning : Scene
+beginning = record { playing = record { setup = first_setup; disk = None; apart = false; runs = []; lives = []; life = None }; loses = None }
 
 -- all lives, an open one among them; those of one disk and owner are together
 abbrev pub all_of : Playing → List (List Asked)
@@ -275,8 +299,8 @@ IsRising run = AreRising run.lives.items
 
 -- these runs were played by these lines: their lives are those that the lines ask for, those of each run are lives of one owner on one disk, and so own numbers rise over them
 pub record ArePlayed (commands : List Command) (runs : List Run) : Type 0 where
-  pub end : Playing
+  pub end : Scene
   pub plays : Plays beginning commands end
-  pub asked : map run_of runs ≡ all_of end
+  pub asked : map run_of runs ≡ all_of end.playing
   pub lived : All IsRun runs
   pub rising : All IsRising runs

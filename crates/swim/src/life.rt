@@ -83,7 +83,7 @@ pub(crate) struct Living {
 
 impl Model for Living {
     ghost use Rattle.swim_node.specs.Lives.{Life as Lives};
-    ghost use Rattle.swim.specs.Life.{PlayDisk as Disks, IsLiving};
+    ghost use Rattle.swim.specs.Life.{PlayDisk as Disks, IsOngoing};
 
     ghost Value = { Lives Disks };
 
@@ -98,7 +98,7 @@ impl Model for Living {
       left = l.node.disk;
     } };
 
-    ghost invariant = { λ l. IsLiving l.node.owner (record {
+    ghost invariant = { λ l. IsOngoing l.node.owner (record {
       settings = l.setup.settings;
       limit = l.setup.limit;
       opened = l.opened.value;

@@ -1,10 +1,10 @@
 //! Plays the commands of a script.
 
-ghost use Rattle.std.specs.Prelude.{◌≡◌, List, map, All, OnOk, IfOk, IfErr};
+ghost use Rattle.std.specs.Prelude.{◌≡◌, List, None, map, All, OnOk, IfOk, IfErr};
 ghost use Rattle.swim_script.specs.Commands.{IsScript};
 ghost use Rattle.swim_script.specs.Faults.{IsFirstFault};
 ghost use Rattle.swim_script.specs.declared.command.Command.{Command as Commands};
-ghost use Rattle.swim.specs.Play.{ArePlayed, Does, IsMade, IsRun, IsRising, Plays, all_of, beginning, lost_by, run_of};
+ghost use Rattle.swim.specs.Play.{ArePlayed, Shows, IsMade, IsRun, IsRising, all_of, beginning, lost_by, run_of};
 
 use crate::life::PlayDisk;
 use crate::story::{Run, Story};
@@ -56,6 +56,13 @@ fn plan_send(link: &mut MemoryLink, failure: Failure)
     }
 }
 
+/// A new link, which has taken nothing and is to lose nothing.
+fn renew(link: &mut MemoryLink, alloc: Global)
+    ensures { link.new.loses ≡ None }
+{
+    *link = MemoryLink::new(alloc, 0);
+}
+
 /// Plans a failure of the disk, if there is one.
 fn plan_failure(plan: Option<&Plan>, failure: Failure) {
     let Some(plan) = plan else {
@@ -78,7 +85,8 @@ fn clear_plan(plan: Option<&Plan>) {
     }
 }
 
-/// What plays: the lives, the plans of what is to fail, and the text so far.
+/// What plays: the lives, the plans of what is to fail, and the text so far. Contracts see the lives and the plan of the
+/// link.
 #[derive(Drop)]
 struct Player {
     alloc: Global,
@@ -89,11 +97,11 @@ struct Player {
 }
 
 impl Model for Player {
-    ghost use Rattle.swim.specs.Play.{Playing};
+    ghost use Rattle.swim.specs.Play.{Scene};
 
-    ghost Value = { Playing };
+    ghost Value = { Scene };
 
-    ghost view = { λ p. p.story };
+    ghost view = { λ p. record { playing = p.story; loses = p.link.loses } };
 }
 
 impl Player {
@@ -111,7 +119,7 @@ impl Player {
 
     /// Makes a disk with a state file of this ceiling.
     fn init(&mut self, ceiling: u64) -> Result<(), AllocError>
-        ensures { OnOk result (Does self.old (Command.Init ceiling) self.new) }
+        ensures { OnOk result (Shows self.old (Command.Init ceiling) self.new) }
     {
         if self.story.is_open() {
             return writeln!(self.text, "open already");
@@ -127,7 +135,7 @@ impl Player {
 
     /// Makes a disk and opens a member with this number on it.
     fn start(&mut self, first: FirstNumber) -> Result<(), AllocError>
-        ensures { OnOk result (Does self.old (Command.Start first) self.new) }
+        ensures { OnOk result (Shows self.old (Command.Start first) self.new) }
     {
         if self.story.is_open() {
             return writeln!(self.text, "open already");
@@ -144,7 +152,7 @@ impl Player {
 
     /// Opens a member on the disk that there is.
     fn open(&mut self) -> Result<(), AllocError>
-        ensures { OnOk result (Does self.old Command.Open self.new) }
+        ensures { OnOk result (Shows self.old Command.Open self.new) }
     {
         if self.story.is_open() {
             return writeln!(self.text, "open already");
@@ -158,7 +166,7 @@ impl Player {
 
     /// Gives the open member an event.
     fn happen(&mut self, event: Event) -> Result<(), AllocError>
-        ensures { OnOk result (Does self.old (Command.Happen event) self.new) }
+        ensures { OnOk result (Shows self.old (Command.Happen event) self.new) }
     {
         if !self.story.is_open() {
             return writeln!(self.text, "no member");
@@ -175,7 +183,7 @@ impl Player {
 
     /// Drops the member.
     fn kill(&mut self) -> Result<(), AllocError>
-        ensures { OnOk result (Does self.old Command.Kill self.new) }
+        ensures { OnOk result (Shows self.old Command.Kill self.new) }
     {
         if !self.story.is_open() {
             return writeln!(self.text, "no member");
@@ -186,7 +194,7 @@ impl Player {
 
     /// Drops the member, if there is one, and leaves of the disk what a crash leaves. Nothing is planned to fail then.
     fn crash(&mut self, choice: Choice) -> Result<(), AllocError>
-        ensures { OnOk result (Does self.old (Command.Crash choice) self.new) }
+        ensures { OnOk result (Shows self.old (Command.Crash choice) self.new) }
     {
         if self.story.is_open() {
             self.story.end()?;
@@ -195,14 +203,14 @@ impl Player {
             return writeln!(self.text, "no disk");
         }
         self.story.crash(self.alloc, choice);
-        self.link = MemoryLink::new(self.alloc, 0);
+        renew(&mut self.link, self.alloc);
         clear_plan(self.plan.as_ref());
         writeln!(self.text, "crashed")
     }
 
     /// Writes over a part of the disk.
     fn overwrite(&mut self, patch: Patch) -> Result<(), AllocError>
-        ensures { OnOk result (Does self.old (Command.Overwrite patch) self.new) }
+        ensures { OnOk result (Shows self.old (Command.Overwrite patch) self.new) }
     {
         if self.story.is_open() {
             return writeln!(self.text, "open already");
@@ -215,7 +223,7 @@ impl Player {
 
     /// Begins an era.
     fn rebase(&mut self) -> Result<(), AllocError>
-        ensures { OnOk result (Does self.old Command.Rebase self.new) }
+        ensures { OnOk result (Shows self.old Command.Rebase self.new) }
     {
         if !self.story.is_open() {
             return writeln!(self.text, "no member");
@@ -226,7 +234,7 @@ impl Player {
 
     /// Does what a line says.
     fn obey(&mut self, command: Command) -> Result<(), AllocError>
-        ensures { OnOk result (Does self.old command self.new) }
+        ensures { OnOk result (Shows self.old command self.new) }
     {
         match command {
             Command::Group(group) => self.story.set_group(group),
@@ -251,7 +259,7 @@ impl Player {
 
     /// What the script did.
     fn finish(self) -> Result<Transcript, AllocError>
-        ensures asked { IfOk result (λ transcript. map run_of transcript.lives.items ≡ all_of self) }
+        ensures asked { IfOk result (λ transcript. map run_of transcript.lives.items ≡ all_of self.playing) }
         ensures lived { IfOk result (λ transcript. All IsRun transcript.lives.items) }
         ensures rising { IfOk result (λ transcript. All IsRising transcript.lives.items) }
     {

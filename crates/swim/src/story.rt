@@ -139,7 +139,7 @@ fn refused(fault: OpenFault) -> Result<Opening, AllocError>
 impl Story {
     /// No disk, and no life so far.
     pub(crate) fn new(alloc: Global) -> Story
-        ensures { result ≡ beginning }
+        ensures { result ≡ beginning.playing }
     {
         Story {
             setup: Setup::first(),

@@ -1,16 +1,20 @@
 use Rattle.std.proofs.Common.{ap, refl}
 use Rattle.swim_node.specs.declared.entry.Tag.{Tag}
-use Rattle.swim.specs.contracts.life.Living.{the_view}
-use Rattle.swim.proofs.Lives.{living-happened}
+use Rattle.swim.proofs.Lives.{mine-happened}
 use Rattle.swim.proofs.life.Living.happen.Goals as goal
 
 pub invariant_of-self-2 : goal.invariant_of-self-2
 invariant_of-self-2 c =
-    let living = c.self.inside in
-    let life = the_view living in
+    let before = c.self.invariant in
     let ok = c.in_ok-apply.ensures.ok in
-    rw (c.apply.ensures.owner, c.apply.ensures.first, c.apply.ensures.base, ok.1.entries)
-    (living-happened living.node.owner life ok.0 c.apply.new.self.disk c.self.invariant (ap (λ (t : Tag). t.caller) ok.1.tag_is))
+    record {
+      living = c.apply.ensures.living _ _ _ _ before.living;
+      mine = record {
+        ended = before.mine.ended;
+        last = rw ok.1.entries (mine-happened c.self.inside.node.entries ok.0 before.mine.last (ap (λ (t : Tag). t.caller) ok.1.tag_is));
+      };
+      room = rw c.apply.ensures.base before.room;
+    }
 
 pub returns-clause-ok : goal.returns-clause-ok
 returns-clause-ok c =

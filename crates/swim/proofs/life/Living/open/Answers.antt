@@ -8,10 +8,7 @@ pub invariant_of-result : goal.invariant_of-result
 invariant_of-result c =
     let said = c.in_ok-node.ensures in
     record {
-      same_owner = said.owner;
-      joined = rw c.new.ensures.items said.base;
-      above = rw c.of-opened.ensures (λ b held. said.above (tt {0}) b held);
-      begun = rw c.new.ensures.items (tt {0});
+      living = rw (c.of-opened.ensures, c.new.ensures.items) (said.living (tt {0}));
       mine = record { ended = rw c.new.ensures.items (All-nil AreMine); last = rw said.entries (All-nil IsMine) };
       room = ap (λ (b : Base). b.limit) said.base;
     }

@@ -1,7 +1,7 @@
 use Rattle.std.proofs.Common.{◌≡◌, sym, ◌∙◌}
 use Rattle.swim.specs.Play.{ended}
 use Rattle.swim.proofs.Openings.{crash-does, ended-none}
-use Rattle.swim.proofs.Stories.{always_ok}
+use Rattle.swim.proofs.Stories.{always_ok, kept-none}
 use Rattle.swim.proofs.player.Player.crash.Goals.{then-is_open+in_ok-end, else-is_open}
 use Rattle.swim.proofs.player.Player.crash.Goals as goal
 
@@ -13,4 +13,8 @@ returns c =
       | then-is_open+in_ok-end w ↦ rw w.self-inside-is w.in_ok-end.ensures.ended
       | else-is_open w ↦ rw w.self-inside-is (ended-none p (sym c.is_open.ensures ∙ w.if-is_open.false))
     ] in
-    rw (← c.self.view_is) (always_ok _ c.writeln-2.result (crash-does p m c.crash.new.self c.args.choice closed (sym c.has_disk.ensures ∙ c.if-not-has_disk.false) c.crash.ensures))
+    let there = sym c.has_disk.ensures ∙ c.if-not-has_disk.false in
+    rw (← c.self.view_is) (always_ok _ c.writeln-2.result (record {
+      does = crash-does p m c.crash.new.self c.args.choice closed there c.crash.ensures;
+      planned = c.renew.ensures ∙ sym (kept-none p m _ closed there);
+    }))
