@@ -1,5 +1,7 @@
 -- What control lines name.
-use Rattle.std.specs.Prelude.{◌≡◌, ◌≢◌, ◌⊎◌, ℕ, ◌+◌, ◌<◌, ◌≤◌, nat_lt, Bool, true, false, if◌then◌else◌, List, [], ◌∷◌, ◌++◌, length, Option, Some, None, Result, Ok, Err, codes}
+use Rattle.std.specs.Prelude.{◌≡◌, ◌≢◌, ◌⊎◌, ℕ, ◌+◌, ◌<◌, ◌≤◌, nat_lt, Bool, true, false}
+use Rattle.std.specs.Prelude.{if◌then◌else◌, List, [], ◌∷◌, ◌++◌, length, codes}
+use Rattle.std.specs.Prelude.{Option, Some, None, Result, Ok, Err}
 use Rattle.std.specs.List.{list_any}
 use Rattle.std.specs.Io.KnownBytes.{Consumes, Appends, IsAtEnd}
 use Rattle.swim_wire.specs.Numbers.{IsEndpoint}
@@ -45,8 +47,11 @@ pub record IsNoAddress (text : List ℕ) : Type 0 where
 
 abbrev pub NamesShort : List ℕ → Asked → Type 0
 NamesShort text asked.Status = text ≡ codes "status"
-NamesShort text (asked.Members after) = ((text ≡ codes "members") × (after ≡ 0)) ⊎ ((text ≡ spaced (codes "members") (endpoint_text after)) × IsEndpoint after)
-NamesShort text (asked.Join peer) = (text ≡ spaced (codes "join") (endpoint_text peer)) × IsEndpoint peer
+NamesShort text (asked.Members after) =
+    ((text ≡ codes "members") × (after ≡ 0))
+    ⊎ ((text ≡ spaced (codes "members") (endpoint_text after)) × IsEndpoint after)
+NamesShort text (asked.Join peer) =
+    (text ≡ spaced (codes "join") (endpoint_text peer)) × IsEndpoint peer
 NamesShort text asked.Leave = text ≡ codes "leave"
 NamesShort text asked.Stop = text ≡ codes "stop"
 NamesShort text asked.Address = IsNoAddress text
@@ -59,7 +64,8 @@ Names text asked.TooLong = 64 < length text
 Names text a = (length text ≤ 64) × NamesShort text a
 
 -- what a read of one byte tells
-abbrev pub ReadsByte : {E : Type 0} → Option (List ℕ) → Option (List ℕ) → Result (Option ℕ) E → Type 0
+abbrev pub ReadsByte : {E : Type 0} → Option (List ℕ) → Option (List ℕ) → Result (Option ℕ) E
+    → Type 0
 ReadsByte old new (Ok (Some byte)) = Consumes old new (byte ∷ [])
 ReadsByte old new (Ok None) = Consumes old new [] × IsAtEnd new
 ReadsByte old new (Err _) = Consumes old new []
@@ -121,15 +127,18 @@ joined_text reply =
 
 -- what is written after a leave
 abbrev pub left_text : Reply → List ℕ
-left_text reply = if list_any is_stopped reply.notes.items then codes "ok stopped\n" else codes "ok left\n"
+left_text reply =
+    if list_any is_stopped reply.notes.items then codes "ok stopped\n" else codes "ok left\n"
 
 -- a line makes no call, and this is written
-pub record Plain (entries : List Entry) (refused : Option Refusal) (answer text : List ℕ) : Type 0 where
+pub record Plain (entries : List Entry) (refused : Option Refusal) (answer text : List ℕ)
+    : Type 0 where
   pub none : entries ≡ []
   pub unrefused : refused ≡ None
   pub is : answer ≡ text
 
--- a line makes this call, and what is written follows from its reply; or the call was refused, as is written then
+-- a line makes this call, and what is written follows from its reply; or the call was refused, as is
+-- written then
 abbrev pub Calls : Event → (Reply → List ℕ → Type 0) → List Entry → Option Refusal → List ℕ → Type 0
 Calls event Writes [] (Some why) answer = answer ≡ refusal_text why
 Calls event Writes (e ∷ []) None answer = (e.event ≡ event) × Writes e.reply answer
@@ -138,18 +147,25 @@ Calls event Writes _ _ answer = ⊥
 -- the status is written, which makes no call; or the watch gave none
 abbrev pub ShowsStatus : List Entry → Option Refusal → List ℕ → Type 0
 ShowsStatus entries None answer = entries ≡ []
-ShowsStatus entries (Some why) answer = (entries ≡ []) × (why ≡ refusal.Unread) × (answer ≡ refusal_text why)
+ShowsStatus entries (Some why) answer =
+    (entries ≡ []) × (why ≡ refusal.Unread) × (answer ≡ refusal_text why)
 
 -- what a line makes and writes
 abbrev pub Answers : Asked → List Entry → Option Refusal → List ℕ → Type 0
 Answers asked.Status entries refused answer = ShowsStatus entries refused answer
-Answers (asked.Members after) entries refused answer = Calls (event.Members after) (λ reply text. Unit {0}) entries refused answer
-Answers (asked.Join peer) entries refused answer = Calls (event.Join peer) (λ reply text. text ≡ joined_text reply) entries refused answer
-Answers asked.Leave entries refused answer = Calls event.Leave (λ reply text. text ≡ left_text reply) entries refused answer
+Answers (asked.Members after) entries refused answer =
+    Calls (event.Members after) (λ reply text. Unit {0}) entries refused answer
+Answers (asked.Join peer) entries refused answer =
+    Calls (event.Join peer) (λ reply text. text ≡ joined_text reply) entries refused answer
+Answers asked.Leave entries refused answer =
+    Calls event.Leave (λ reply text. text ≡ left_text reply) entries refused answer
 Answers asked.Stop entries refused answer = Plain entries refused answer (codes "ok stopping\n")
-Answers asked.Unknown entries refused answer = Plain entries refused answer (codes "error 1 unknown\n")
-Answers asked.Address entries refused answer = Plain entries refused answer (codes "error 2 address\n")
-Answers asked.TooLong entries refused answer = Plain entries refused answer (codes "error 3 too long\n")
+Answers asked.Unknown entries refused answer =
+    Plain entries refused answer (codes "error 1 unknown\n")
+Answers asked.Address entries refused answer =
+    Plain entries refused answer (codes "error 2 address\n")
+Answers asked.TooLong entries refused answer =
+    Plain entries refused answer (codes "error 3 too long\n")
 
 -- how a refusal ends a conversation, if it does
 abbrev pub end_by : Refusal → Option ControlEnd
@@ -173,7 +189,8 @@ ShowsWatch answer None = Unit {0}
 ShowsWatch answer (Some end) = (end ≡ ends.Unread) × (answer ≡ refusal_text refusal.Unread)
 
 -- the answer to what was asked, and whether the conversation ends with it
-pub record Responds (p q : PassView) (asked : Asked) (answer : List ℕ) (end : Option ControlEnd) : Type 0 where
+pub record Responds (p q : PassView) (asked : Asked) (answer : List ℕ) (end : Option ControlEnd)
+    : Type 0 where
   pub entries : List Entry
   pub refused : Option Refusal
   pub answers : Answers asked entries refused answer
@@ -181,7 +198,9 @@ pub record Responds (p q : PassView) (asked : Asked) (answer : List ℕ) (end : 
   pub end_is : end ≡ end_of refused asked
 
 -- the same of what makes a call
-pub record RespondsCall (p q : PassView) (event : Event) (Writes : Reply → List ℕ → Type 0) (answer : List ℕ) (end : Option ControlEnd) : Type 0 where
+pub record RespondsCall (p q : PassView) (event : Event) (Writes : Reply → List ℕ → Type 0)
+    (answer : List ℕ) (end : Option ControlEnd)
+    : Type 0 where
   pub entries : List Entry
   pub refused : Option Refusal
   pub calls : Calls event Writes entries refused answer
@@ -190,7 +209,8 @@ pub record RespondsCall (p q : PassView) (event : Event) (Writes : Reply → Lis
 
 -- ---- conversations
 
--- a line that was heard, the calls that it made, why its call was refused, if it was, and what was answered
+-- a line that was heard, the calls that it made, why its call was refused, if it was, and what was
+-- answered
 pub record Heard : Type 0 where
   pub text : List ℕ
   pub asked : Asked
@@ -241,7 +261,8 @@ pub record ByGate (heard : List Heard) (shows : Type 0) (t u : List Turn) : Type
   pub halted : Halted shows t u (length heard)
 
 -- its last line ended it in this way
-pub record ByLine (heard : List Heard) (shows : Type 0) (t u : List Turn) (end : ControlEnd) : Type 0 where
+pub record ByLine (heard : List Heard) (shows : Type 0) (t u : List Turn) (end : ControlEnd)
+    : Type 0 where
   pub last : EndsWith heard (λ h. end_at h ≡ Some end)
   pub went : Went shows t u (length heard)
 
@@ -266,7 +287,9 @@ EndsBy ends.Memory heard shows t u = ⊥
 EndsBy ends.Unread heard shows t u = ByLine heard shows t u ends.Unread
 
 -- the lines that were read and answered, none of which ends the conversation
-pub record Converses (old new u v : Option (List ℕ)) (p q : PassView) (shows : Type 0) (s t : List Turn) : Type 0 where
+pub record Converses (old new u v : Option (List ℕ)) (p q : PassView) (shows : Type 0)
+    (s t : List Turn)
+    : Type 0 where
   pub heard : List Heard
   pub took : Consumes old new (bytes_of heard)
   pub lines : AreHeard heard
@@ -275,8 +298,11 @@ pub record Converses (old new u v : Option (List ℕ)) (p q : PassView) (shows :
   pub gains : Gains p q (entries_of heard)
   pub wrote : Appends u v (answers_of heard)
 
--- the lines that were read, with what was cut after them, and the new calls, which are those of the lines. Unless a write failed, the answers were written
-pub record Controls (old new u v : Option (List ℕ)) (p q : PassView) (shows : Type 0) (s t : List Turn) (end : ControlEnd) : Type 0 where
+-- the lines that were read, with what was cut after them, and the new calls, which are those of the
+-- lines. Unless a write failed, the answers were written
+pub record Controls (old new u v : Option (List ℕ)) (p q : PassView) (shows : Type 0)
+    (s t : List Turn) (end : ControlEnd)
+    : Type 0 where
   pub heard : List Heard
   pub cut : List ℕ
   pub took : Consumes old new (bytes_of heard ++ cut)
@@ -287,7 +313,8 @@ pub record Controls (old new u v : Option (List ℕ)) (p q : PassView) (shows : 
   pub ended : EndsBy end heard shows s t
 
 -- one line was read; where it could be answered, that is how the conversation goes on or ends
-pub record OneLine (old new u v : Option (List ℕ)) (p q : PassView) (end : Option ControlEnd) : Type 0 where
+pub record OneLine (old new u v : Option (List ℕ)) (p q : PassView) (end : Option ControlEnd)
+    : Type 0 where
   pub line : Heard
   pub took : Consumes old new (line.text ++ 10 ∷ [])
   pub is : IsHeard line
@@ -304,13 +331,16 @@ pub record NoLine (old new u v : Option (List ℕ)) (p q : PassView) : Type 0 wh
   pub wrote : Appends u v []
 
 -- one turn, which goes on or ends
-abbrev pub ControlsOne : Option (List ℕ) → Option (List ℕ) → Option (List ℕ) → Option (List ℕ) → PassView → PassView → Option ControlEnd → Type 0
+abbrev pub ControlsOne : Option (List ℕ) → Option (List ℕ) → Option (List ℕ) → Option (List ℕ)
+    → PassView → PassView → Option ControlEnd → Type 0
 ControlsOne old new u v p q (Some ends.Closed) = NoLine old new u v p q
 ControlsOne old new u v p q (Some ends.ReadFault) = NoLine old new u v p q
 ControlsOne old new u v p q end = OneLine old new u v p q end
 
 -- the answer to a line
-pub record AnswersLine (p q : PassView) (line : Line) (u v : Option (List ℕ)) (end : Option ControlEnd) : Type 0 where
+pub record AnswersLine (p q : PassView) (line : Line) (u v : Option (List ℕ))
+    (end : Option ControlEnd)
+    : Type 0 where
   pub asked : Asked
   pub entries : List Entry
   pub refused : Option Refusal

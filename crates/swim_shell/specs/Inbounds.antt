@@ -1,5 +1,6 @@
 -- What an inbound answers, and what a receiver makes of it.
-use Rattle.std.specs.Prelude.{◌≡◌, ℕ, ◌+◌, ◌&&◌, nat_lt, if◌then◌else◌, Bool, true, List, [], ◌∷◌, ◌++◌, length, Option, Some, None, Result, Ok, Err}
+use Rattle.std.specs.Prelude.{◌≡◌, ℕ, ◌+◌, ◌&&◌, nat_lt, if◌then◌else◌, Bool, true}
+use Rattle.std.specs.Prelude.{List, [], ◌∷◌, ◌++◌, length, Option, Some, None, Result, Ok, Err}
 use Rattle.swim_member.specs.declared.event.Event.{Event}
 use Rattle.swim_member.specs.declared.event.Event.TheVariants.{Datagram, ReceiveFailed}
 use Rattle.swim_shared.specs.Passes.{PassView}
@@ -86,15 +87,20 @@ EndsBy ends.Stopped p q came = Served p q came
 EndsBy ends.Fault p q came = Faulty p q came
 EndsBy _ p q came = Refused p q came
 
--- a receiver takes one answer of its inbound a turn; its calls are those for the answers, up to the call that was refused
-pub record Receives (tells : Type 0) (old new : List Came) (f g : ℕ) (p q : PassView) (shows : Type 0) (t u : List Turn) (end : WorkerEnd) : Type 0 where
+-- a receiver takes one answer of its inbound a turn; its calls are those for the answers, up to the
+-- call that was refused
+pub record Receives (tells : Type 0) (old new : List Came) (f g : ℕ) (p q : PassView)
+    (shows : Type 0) (t u : List Turn) (end : WorkerEnd)
+    : Type 0 where
   pub came : List Came
   pub took : Took tells old new f g came
   pub turns : Guided end shows t u (length came)
   pub ended : EndsBy end p q came
 
 -- so far
-pub record Receiving (tells : Type 0) (old new : List Came) (f g : ℕ) (p q : PassView) (shows : Type 0) (t u : List Turn) (row : ℕ) : Type 0 where
+pub record Receiving (tells : Type 0) (old new : List Came) (f g : ℕ) (p q : PassView)
+    (shows : Type 0) (t u : List Turn) (row : ℕ)
+    : Type 0 where
   pub came : List Came
   pub took : Took tells old new f g came
   pub turns : Went shows t u (length came)
@@ -102,7 +108,8 @@ pub record Receiving (tells : Type 0) (old new : List Came) (f g : ℕ) (p q : P
   pub row_is : row_of 0 came ≡ row
 
 -- one turn, of which all calls were answered
-pub record TookOne (tells : Type 0) (old new : List Came) (f g : ℕ) (p q : PassView) (failed : Bool) : Type 0 where
+pub record TookOne (tells : Type 0) (old new : List Came) (f g : ℕ) (p q : PassView) (failed : Bool)
+    : Type 0 where
   pub one : Came
   pub took : Took tells old new f g (one ∷ [])
   pub calls : NewCalls p q (events_at one)

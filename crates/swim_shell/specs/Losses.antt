@@ -27,12 +27,15 @@ abbrev pub AreLow : List ℕ → Type 0
 AreLow [] = Unit {0}
 AreLow (c ∷ cs) = (c < 2 ^ 32 - 1) × AreLow cs
 
--- the counts that were told and what is still owed add up to what was owed before and the new failures, as long as they can be counted
+-- the counts that were told and what is still owed add up to what was owed before and the new
+-- failures, as long as they can be counted
 abbrev pub Balances : ℕ → ℕ → ℕ → ℕ → List ℕ → Type 0
-Balances owed after f g counts = AreLow counts → after < 2 ^ 32 - 1 → told_in counts + after + f ≡ owed + g
+Balances owed after f g counts =
+    AreLow counts → after < 2 ^ 32 - 1 → told_in counts + after + f ≡ owed + g
 
 -- so far, after so many turns
-pub record Telling (owed after : ℕ) (f g : ℕ) (p q : PassView) (shows : Type 0) (t u : List Turn) : Type 0 where
+pub record Telling (owed after : ℕ) (f g : ℕ) (p q : PassView) (shows : Type 0) (t u : List Turn)
+    : Type 0 where
   pub counts : List ℕ
   pub turns : ℕ
   pub went : Went shows t u turns
@@ -40,7 +43,9 @@ pub record Telling (owed after : ℕ) (f g : ℕ) (p q : PassView) (shows : Type
   pub balance : Balances owed after f g counts
 
 -- all calls of a sender are SendFailed. Unless it ends with Unread their counts balance
-pub record Tells (owed after : ℕ) (f g : ℕ) (p q : PassView) (shows : Type 0) (t u : List Turn) (end : WorkerEnd) : Type 0 where
+pub record Tells (owed after : ℕ) (f g : ℕ) (p q : PassView) (shows : Type 0) (t u : List Turn)
+    (end : WorkerEnd)
+    : Type 0 where
   pub counts : List ℕ
   pub turns : ℕ
   pub went : Guided end shows t u turns

@@ -32,14 +32,17 @@ TicksBy ends.Fault p q words = ⊥
 TicksBy _ p q words = LastRefused p q words
 
 -- a ticker's calls are Ticks with the words drawn, one a turn, up to the call that was refused
-pub record Ticks (old new : ChaCha) (p q : PassView) (shows : Type 0) (t u : List Turn) (end : WorkerEnd) : Type 0 where
+pub record Ticks (old new : ChaCha) (p q : PassView) (shows : Type 0) (t u : List Turn)
+    (end : WorkerEnd)
+    : Type 0 where
   pub words : List ℕ
   pub draws : Draws old words new
   pub turns : Guided end shows t u (length words)
   pub ended : TicksBy end p q words
 
 -- so far
-pub record Ticking (old new : ChaCha) (p q : PassView) (shows : Type 0) (t u : List Turn) : Type 0 where
+pub record Ticking (old new : ChaCha) (p q : PassView) (shows : Type 0) (t u : List Turn)
+    : Type 0 where
   pub words : List ℕ
   pub draws : Draws old words new
   pub turns : Went shows t u (length words)

@@ -10,7 +10,7 @@ use arrayvec::{ArrayString, ArrayVec};
 use std::fmt::Write;
 use swim_member::{NOTES_MAX, Note};
 use swim_node::{Reply, Status};
-use swim_wire::{UPDATES_MAX, Update};
+use swim_wire::Update;
 use swim_words::{kind_name, phase_name};
 
 /// Room for the longest answer: a head, and thirty rows of at most 51 bytes.
@@ -49,12 +49,33 @@ fn add_row(answer: &mut Answer, row: &Update) {
     let _ = writeln!(answer, "{kind} {who} {number}");
 }
 
-/// How many members follow, and their lines.
-pub(crate) fn add_page(answer: &mut Answer, page: &ArrayVec<Update, UPDATES_MAX>) {
-    let rows = page.len();
-    let _ = writeln!(answer, "ok {rows}");
-    for row in page.as_slice() {
-        add_row(answer, row);
+/// What is written where a call was answered.
+pub(crate) trait AnswerTo {
+    ghost use Rattle.std.specs.Prelude.{◌≡◌, [], ℕ, List};
+    ghost use Rattle.swim_node.specs.declared.entry.Reply.{Reply as Replies};
+
+    /// How it follows from the reply.
+    ghost writes: { Replies → List ℕ → Type 0 };
+
+    /// Writes it.
+    fn write(self, answer: &mut Answer, reply: &Reply)
+        requires { answer.old.bytes ≡ [] }
+        ensures { writes reply.now answer.new.bytes };
+}
+
+/// The answer to `members`: how many follow, and their lines.
+#[derive(Clone, Copy)]
+pub(crate) struct Shown;
+
+impl AnswerTo for Shown {
+    ghost writes = { λ reply text. Unit {0} };
+
+    fn write(self, answer: &mut Answer, reply: &Reply) {
+        let rows = reply.page.len();
+        let _ = writeln!(answer, "ok {rows}");
+        for row in reply.page.as_slice() {
+            add_row(answer, row);
+        }
     }
 }
 
@@ -78,31 +99,39 @@ fn is_to_itself(notes: &ArrayVec<Note, NOTES_MAX>) -> bool
         .any(|note| matches!(note, Note::Misdirected))
 }
 
-/// What came of a join.
-pub(crate) fn add_joined(answer: &mut Answer, reply: &Reply)
-    requires { answer.old.bytes ≡ [] }
-    ensures { answer.new.bytes ≡ joined_text reply.now }
-{
-    if has_stopped(&reply.notes) {
-        add_text(answer, "ok stopped\n");
-    } else if is_to_itself(&reply.notes) {
-        add_text(answer, "error 7 self\n");
-    } else if reply.lost > 0 {
-        add_text(answer, "ok lost\n");
-    } else {
-        add_text(answer, "ok sent\n");
+/// The answer to `join`.
+#[derive(Clone, Copy)]
+pub(crate) struct Joined;
+
+impl AnswerTo for Joined {
+    ghost writes = { λ reply text. text ≡ joined_text reply };
+
+    fn write(self, answer: &mut Answer, reply: &Reply) {
+        if has_stopped(&reply.notes) {
+            add_text(answer, "ok stopped\n");
+        } else if is_to_itself(&reply.notes) {
+            add_text(answer, "error 7 self\n");
+        } else if reply.lost > 0 {
+            add_text(answer, "ok lost\n");
+        } else {
+            add_text(answer, "ok sent\n");
+        }
     }
 }
 
-/// What came of a leave.
-pub(crate) fn add_left(answer: &mut Answer, reply: &Reply)
-    requires { answer.old.bytes ≡ [] }
-    ensures { answer.new.bytes ≡ left_text reply.now }
-{
-    if has_stopped(&reply.notes) {
-        add_text(answer, "ok stopped\n");
-    } else {
-        add_text(answer, "ok left\n");
+/// The answer to `leave`.
+#[derive(Clone, Copy)]
+pub(crate) struct Left;
+
+impl AnswerTo for Left {
+    ghost writes = { λ reply text. text ≡ left_text reply };
+
+    fn write(self, answer: &mut Answer, reply: &Reply) {
+        if has_stopped(&reply.notes) {
+            add_text(answer, "ok stopped\n");
+        } else {
+            add_text(answer, "ok left\n");
+        }
     }
 }
 

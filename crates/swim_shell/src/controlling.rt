@@ -2,11 +2,10 @@
 
 ghost use Rattle.std.specs.Prelude.{◌≡◌, ◌≢◌, ◌∷◌, [], IfOk, IfErr, IsTrue, Some};
 ghost use Rattle.std.specs.Io.KnownBytes.{IsAtEnd, Appends};
-ghost use Rattle.swim_member.specs.declared.event.Event.TheVariants as event;
 ghost use Rattle.swim_shell.specs.Calls.{NewCall, NewCalls};
-ghost use Rattle.swim_shell.specs.Control.{Responds, RespondsCall, AnswersLine, ControlsOne, Controls, ShowsWatch, joined_text, left_text};
+ghost use Rattle.swim_shell.specs.Control.{Responds, RespondsCall, AnswersLine, ControlsOne, Controls, ShowsWatch};
 
-use crate::answers::{Answer, add_joined, add_left, add_page, add_refusal, add_status, add_text};
+use crate::answers::{Answer, AnswerTo, Joined, Left, Shown, add_refusal, add_status, add_text};
 use crate::asked::{Asked, understand};
 use crate::calling::{Refusal, enter};
 use crate::lines::{Line, read_line};
@@ -21,7 +20,6 @@ use swim_disk::Disk;
 use swim_member::Event;
 use swim_node::{Link, Reply};
 use swim_shared::{Name, Pass, Shared, Watch};
-use swim_wire::{Cursor, Endpoint};
 
 /// Makes the call, and shows it to the watch where it was answered.
 fn enter_and_show<N: Name, D: Disk, L: Link, R: Wait + Drop, W: Wait + Log + Clock>(
@@ -44,71 +42,24 @@ fn enter_and_show<N: Name, D: Disk, L: Link, R: Wait + Drop, W: Wait + Log + Clo
     }
 }
 
-/// Shows the next members after this.
+/// Makes the call of a line, and writes what came of it.
 #[tactic(auto, using(crate::proofs::Hearing::call_answered, crate::proofs::Hearing::call_refused))]
-fn show_members<N: Name, D: Disk, L: Link, R: Wait + Drop, W: Wait + Log + Clock>(
+fn call<N: Name, D: Disk, L: Link, R: Wait + Drop, W: Wait + Log + Clock, A: AnswerTo + Copy>(
     rt: &W,
     shared: &Shared<N, D, L, R>,
     pass: &mut Pass<N>,
     watch: &mut Watch<N>,
     notes: &mut NoteLog,
     answer: &mut Answer,
-    after: Cursor,
+    event: Event,
+    answers: A,
 ) -> Option<ControlEnd>
     requires { answer.old.bytes ≡ [] }
-    ensures { RespondsCall pass.old pass.new (event.Members after) (λ reply text. Unit {0})
-        answer.new.bytes result }
+    ensures { RespondsCall pass.old pass.new event A.writes answer.new.bytes result }
 {
-    match enter_and_show(rt, shared, pass, watch, notes, Event::Members { after }) {
+    match enter_and_show(rt, shared, pass, watch, notes, event) {
         Ok(reply) => {
-            add_page(answer, &reply.page);
-            None
-        }
-        Err(refusal) => add_refusal(answer, refusal),
-    }
-}
-
-/// Asks this member for all that it knows.
-#[tactic(auto, using(crate::proofs::Hearing::call_answered, crate::proofs::Hearing::call_refused))]
-fn join<N: Name, D: Disk, L: Link, R: Wait + Drop, W: Wait + Log + Clock>(
-    rt: &W,
-    shared: &Shared<N, D, L, R>,
-    pass: &mut Pass<N>,
-    watch: &mut Watch<N>,
-    notes: &mut NoteLog,
-    answer: &mut Answer,
-    peer: Endpoint,
-) -> Option<ControlEnd>
-    requires { answer.old.bytes ≡ [] }
-    ensures { RespondsCall pass.old pass.new (event.Join peer)
-        (λ reply text. text ≡ joined_text reply) answer.new.bytes result }
-{
-    match enter_and_show(rt, shared, pass, watch, notes, Event::Join { peer }) {
-        Ok(reply) => {
-            add_joined(answer, &reply);
-            None
-        }
-        Err(refusal) => add_refusal(answer, refusal),
-    }
-}
-
-/// Leaves the group.
-#[tactic(auto, using(crate::proofs::Hearing::call_answered, crate::proofs::Hearing::call_refused))]
-fn leave<N: Name, D: Disk, L: Link, R: Wait + Drop, W: Wait + Log + Clock>(
-    rt: &W,
-    shared: &Shared<N, D, L, R>,
-    pass: &mut Pass<N>,
-    watch: &mut Watch<N>,
-    notes: &mut NoteLog,
-    answer: &mut Answer,
-) -> Option<ControlEnd>
-    requires { answer.old.bytes ≡ [] }
-    ensures { RespondsCall pass.old pass.new event.Leave (λ reply text. text ≡ left_text reply)
-        answer.new.bytes result }
-{
-    match enter_and_show(rt, shared, pass, watch, notes, Event::Leave) {
-        Ok(reply) => {
-            add_left(answer, &reply);
+            answers.write(answer, &reply);
             None
         }
         Err(refusal) => add_refusal(answer, refusal),
@@ -145,9 +96,15 @@ fn respond<N: Name, D: Disk, L: Link, R: Wait + Drop, W: Wait + Log + Clock>(
 {
     match asked {
         Asked::Status => show_status(watch, answer),
-        Asked::Members(after) => show_members(rt, shared, pass, watch, notes, answer, after),
-        Asked::Join(peer) => join(rt, shared, pass, watch, notes, answer, peer),
-        Asked::Leave => leave(rt, shared, pass, watch, notes, answer),
+        Asked::Members(after) => {
+            let event = Event::Members { after };
+            call(rt, shared, pass, watch, notes, answer, event, Shown)
+        }
+        Asked::Join(peer) => {
+            let event = Event::Join { peer };
+            call(rt, shared, pass, watch, notes, answer, event, Joined)
+        }
+        Asked::Leave => call(rt, shared, pass, watch, notes, answer, Event::Leave, Left),
         Asked::Stop => {
             add_text(answer, "ok stopping\n");
             Some(ControlEnd::Stop)

@@ -26,3 +26,6 @@ pub use receiving::{FAILURES_MAX, receiver};
 pub use sending::sender;
 pub use ticking::ticker;
 pub use worker::{ControlEnd, Gate, Turn, WorkerEnd};
+
+#[cfg(test)]
+mod tests;

@@ -29,6 +29,7 @@ fn tell<N: Name, D: Disk, L: Link, R: Wait + Drop, W: Wait + Log + Clock>(
     ensures kept { OnErr result (NewCalls pass.old pass.new []) }
     ensures memory { result ≡ Err Refusal.Memory → sender.new.owed ≡ sender.old.owed }
     ensures full { result ≡ Err Refusal.EraFull → sender.new.owed ≡ sender.old.owed }
+    ensures ring { sender.new.ring ≡ sender.old.ring }
 {
     let count = sender.owed();
     if count == 0 {
@@ -61,8 +62,10 @@ pub fn sender<N: Name, D: Disk, L: Link, R: Wait + Drop, W: Wait + Log + Clock, 
     link: &mut M,
     gate: &mut G,
 ) -> WorkerEnd
-    ensures { Tells sender.old.owed sender.new.owed (M.failures link.old) (M.failures link.new)
-        pass.old pass.new G.tells (G.turns gate.old) (G.turns gate.new) result }
+    ensures tells { Tells sender.old.owed sender.new.owed (M.failures link.old)
+        (M.failures link.new) pass.old pass.new G.tells (G.turns gate.old) (G.turns gate.new)
+        result }
+    ensures ring { sender.new.ring ≡ sender.old.ring }
 {
     let mut notes = NoteLog::new();
     for _ in rt.forever() {

@@ -1,0 +1,144 @@
+//! The receiver, the ticker and the sender.
+
+use super::fakes::{Given, Goes, Listed};
+use super::scene::{Host, Play, played};
+use crate::{WorkerEnd, receiver, sender, ticker};
+use rand_chacha::ChaCha20Rng;
+use rand_core::SeedableRng;
+use std::test::Fail;
+use swim_disk::MemDisk;
+use swim_member::{Event, Note};
+use swim_node::MemoryLink;
+use swim_shared::{Name, Outbox, Pass, Sender, Shared, Watch};
+
+const KEY: [u8; 32] = [
+    0, 1, 2, 3, 4, 5, 6, 7, 8, 9, 10, 11, 12, 13, 14, 15, 16, 17, 18, 19, 20, 21, 22, 23, 24, 25,
+    26, 27, 28, 29, 30, 31,
+];
+
+/// So many ticks of a generator with this key.
+#[derive(Drop)]
+struct Ticks {
+    goes: u32,
+    end: Option<WorkerEnd>,
+}
+
+impl Play for Ticks {
+    fn play<N: Name, R: Host>(
+        &mut self,
+        rt: &R,
+        shared: &Shared<N, MemDisk, Outbox, &R>,
+        pass: &mut Pass<N>,
+        _watch: &mut Watch<N>,
+        _ring: &mut Sender,
+    ) {
+        let mut rng = ChaCha20Rng::from_seed(KEY);
+        let mut gate = Goes { left: self.goes };
+        self.end = Some(ticker(rt, shared, pass, &mut rng, &mut gate));
+    }
+}
+
+/// Three turns are three ticks, with the first three words of the generator.
+#[test]
+fn three_ticks(rt: HostRuntime) -> Result<(), Fail> {
+    let mut ticks = Ticks { goes: 3, end: None };
+    let node = played(&rt, rt.alloc(), 8, 1, &mut ticks)?;
+    assert_eq!(&rt; ticks.end, Some(WorkerEnd::Stopped));
+    assert_eq!(&rt; node.len(), 3);
+    for (entry, want) in node
+        .journal()
+        .iter()
+        .zip([0x7d2b_fd39u32, 0x6a19_c5d9, 0x7703_bd8d])
+    {
+        assert!(&rt; matches!(entry.event, Event::Tick { word } if word == want));
+    }
+    Ok(())
+}
+
+/// A receiver over a list.
+#[derive(Drop)]
+struct Receives<'a> {
+    given: &'a [Given],
+    goes: u32,
+    end: Option<WorkerEnd>,
+}
+
+impl<'a> Play for Receives<'a> {
+    fn play<N: Name, R: Host>(
+        &mut self,
+        rt: &R,
+        shared: &Shared<N, MemDisk, Outbox, &R>,
+        pass: &mut Pass<N>,
+        _watch: &mut Watch<N>,
+        _ring: &mut Sender,
+    ) {
+        let mut inbound = Listed::new(self.given);
+        let mut gate = Goes { left: self.goes };
+        self.end = Some(receiver(rt, shared, pass, &mut inbound, &mut gate));
+    }
+}
+
+/// Fifteen failures on each side of a receive of nothing are 30 calls and no end; sixteen in a row are 16, and a fault.
+#[test]
+fn failed_receives(rt: HostRuntime) -> Result<(), Fail> {
+    let mut parted = [Given::Failed; 31];
+    parted[15] = Given::Nothing;
+    let in_a_row = [Given::Failed; 31];
+    for (given, end, calls) in [
+        (&parted, WorkerEnd::Stopped, 30),
+        (&in_a_row, WorkerEnd::Fault, 16),
+    ] {
+        let mut receives = Receives {
+            given,
+            goes: 31,
+            end: None,
+        };
+        let node = played(&rt, rt.alloc(), 40, 1, &mut receives)?;
+        assert_eq!(&rt; (receives.end, node.len()), (Some(end), calls));
+    }
+    Ok(())
+}
+
+/// A receiver of two pings, and then two turns of a sender whose link refuses the second ack.
+#[derive(Drop)]
+struct TwoPings {
+    link: MemoryLink,
+    end: Option<WorkerEnd>,
+}
+
+impl Play for TwoPings {
+    fn play<N: Name, R: Host>(
+        &mut self,
+        rt: &R,
+        shared: &Shared<N, MemDisk, Outbox, &R>,
+        pass: &mut Pass<N>,
+        _watch: &mut Watch<N>,
+        ring: &mut Sender,
+    ) {
+        let mut inbound = Listed::new(&[Given::Ping(1), Given::Ping(2)]);
+        let mut gate = Goes { left: 2 };
+        receiver(rt, shared, pass, &mut inbound, &mut gate);
+        let mut gate = Goes { left: 2 };
+        self.end = Some(sender(rt, shared, pass, ring, &mut self.link, &mut gate));
+    }
+}
+
+/// Of two acks one is taken and one is lost, which is told in one call, and only once.
+#[test]
+fn one_ack_lost(rt: HostRuntime) -> Result<(), Fail> {
+    let mut link = MemoryLink::new(rt.alloc(), 1);
+    link.lose(2);
+    let mut pings = TwoPings { link, end: None };
+    let node = played(&rt, rt.alloc(), 8, 8, &mut pings)?;
+    assert_eq!(&rt;
+        (pings.end, pings.link.taken().len()),
+        (Some(WorkerEnd::Stopped), 1)
+    );
+    assert_eq!(&rt; node.len(), 3);
+    let told = node.journal().last().ok_or("an entry")?;
+    assert_eq!(&rt;
+        told.reply.notes.as_slice(),
+        [Note::SendFailed(1)].as_slice()
+    );
+    Ok(())
+}
