@@ -1,11 +1,11 @@
 //! A worker in a thread of its own, beside all else.
 
+use crate::ended::Ended;
 use crate::start::Start;
 use crate::until::{Closing, Until};
 use crate::work::Work;
 use log::Log;
 use std::sync::Wait;
-use std::sync::atomic::AtomicBool;
 use std::thread::{Threads, join};
 use std::time::Clock;
 use swim_disk::Disk;
@@ -68,7 +68,7 @@ pub(crate) fn beside<
     work: &mut K,
     gate: &mut G,
     start: &Start,
-    ended: &AtomicBool,
+    ended: &Ended,
     rest: F,
 ) -> (WorkerEnd, E)
     requires { F.pre rest }

@@ -5,7 +5,8 @@
 
 mod beside;
 mod doors;
-mod gates;
+mod ended;
+mod ring_sender;
 mod serving;
 mod start;
 mod udp;
@@ -13,6 +14,10 @@ mod until;
 mod work;
 
 pub use doors::TcpDoors;
-pub use gates::{Always, Paced};
+pub use ended::Ended;
+pub use ring_sender::RingSender;
 pub use serving::{Ends, serve};
-pub use udp::{UdpInbound, UdpLink};
+pub use udp::{UdpInbound, UdpLink, address_of};
+
+#[cfg(test)]
+mod tests;

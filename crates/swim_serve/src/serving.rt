@@ -3,18 +3,19 @@
 ghost use denote.Param.Send.{IsSend, IsSync};
 
 use crate::beside::beside;
+use crate::ended::Ended;
+use crate::ring_sender::RingSender;
 use crate::start::Start;
 use crate::until::Until;
 use crate::work::{Receiving, Sending, Ticking};
 use log::Log;
 use rand_chacha::ChaCha20Rng;
-use std::sync::atomic::{AtomicBool, Ordering};
 use std::sync::{Wait, WaitMethods};
 use std::thread::{Threads, join};
 use std::time::Clock;
 use swim_disk::Disk;
 use swim_node::Link;
-use swim_shared::{Name, Pass, Sender, Shared, Watch};
+use swim_shared::{Name, Pass, Shared, Watch};
 use swim_shell::{
     ControlEnd, Doors, Gate, Inbound, Turn, WorkerEnd, control, receiver, sender, ticker,
 };
@@ -64,14 +65,14 @@ fn run_control<N: Name, D: Disk, L: Link, R: Wait + Drop, W: Wait + Log + Clock,
     doors: &mut O,
     gate: &mut G,
     start: &Start,
-    ended: &AtomicBool,
+    ended: &Ended,
 ) -> ControlEnd {
     let mut closing = Until { gate, start, ended };
     if !start.wait(rt) {
-        ended.store(true, Ordering::SeqCst);
+        ended.end();
     }
     let end = doorkeeper(rt, shared, pass, watch, doors, &mut closing);
-    ended.store(true, Ordering::SeqCst);
+    ended.end();
     end
 }
 
@@ -90,14 +91,14 @@ fn send_and_control<
     rt: &T,
     shared: &Shared<N, D, L, R>,
     sender_pass: &mut Pass<N>,
-    ring: &mut Sender,
+    ring: &mut RingSender<N>,
     link: &mut M,
     sender_gate: &mut S,
     control_pass: &mut Pass<N>,
     watch: &mut Watch<N>,
     doors: &mut O,
     control_gate: &mut C,
-    ended: &AtomicBool,
+    ended: &Ended,
 ) -> (WorkerEnd, ControlEnd) {
     let made = Start::new();
     let start = &made;
@@ -144,14 +145,14 @@ fn tick_and_send<
     rng: &mut ChaCha20Rng,
     ticker_gate: &mut B,
     sender_pass: &mut Pass<N>,
-    ring: &mut Sender,
+    ring: &mut RingSender<N>,
     link: &mut M,
     sender_gate: &mut S,
     control_pass: &mut Pass<N>,
     watch: &mut Watch<N>,
     doors: &mut O,
     control_gate: &mut C,
-    ended: &AtomicBool,
+    ended: &Ended,
 ) -> (WorkerEnd, (WorkerEnd, ControlEnd)) {
     let made = Start::new();
     let start = &made;
@@ -170,7 +171,7 @@ fn tick_and_send<
             requires workers { IsSend M.row × IsSend S.row }
         {
             if !start.wait(rt) {
-                ended.store(true, Ordering::SeqCst);
+                ended.end();
             }
             send_and_control(
                 rt,
@@ -190,7 +191,8 @@ fn tick_and_send<
 }
 
 /// Runs receiver, ticker and sender in threads of their own and control in this one, until one of them has ended and
-/// the others have stopped. A worker for which the system has no thread ends with Memory, and all with it.
+/// the others have stopped. A gate that waits long may rest on `ended`, which no other workers had before. A worker for
+/// which the system has no thread ends with Memory, and all with it.
 pub fn serve<
     N: Name + Send + Sync,
     D: Disk + Send,
@@ -207,13 +209,12 @@ pub fn serve<
 >(
     rt: &T,
     shared: &Shared<N, D, L, R>,
+    ended: &Ended,
     receiving: (&mut Pass<N>, &mut I, &mut A),
     ticking: (&mut Pass<N>, &mut ChaCha20Rng, &mut B),
-    sending: (&mut Pass<N>, &mut Sender, &mut M, &mut S),
+    sending: (&mut Pass<N>, &mut RingSender<N>, &mut M, &mut S),
     controlling: (&mut Pass<N>, &mut Watch<N>, &mut O, &mut C),
 ) -> Ends {
-    let flag = AtomicBool::new(false);
-    let ended = &flag;
     let made = Start::new();
     let start = &made;
     let (pass, inbound, gate) = receiving;
@@ -235,7 +236,7 @@ pub fn serve<
             requires workers { IsSend M.row × IsSend B.row × IsSend S.row }
         {
             if !start.wait(rt) {
-                ended.store(true, Ordering::SeqCst);
+                ended.end();
             }
             tick_and_send(
                 rt,

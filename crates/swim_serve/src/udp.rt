@@ -12,8 +12,9 @@ use swim_shell::{Inbound, ReceiveFault};
 use swim_wire::Endpoint;
 
 /// The socket address of an endpoint.
-fn address_of(to: Endpoint) -> SocketAddrV4 {
-    SocketAddrV4::new(Ipv4Addr::from_bits(to.address()), to.port())
+pub fn address_of(endpoint: Endpoint) -> SocketAddr {
+    let address = Ipv4Addr::from_bits(endpoint.address());
+    SocketAddr::V4(SocketAddrV4::new(address, endpoint.port()))
 }
 
 /// The endpoint that a socket address is; none for IPv6 and for port 0.

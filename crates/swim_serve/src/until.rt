@@ -1,7 +1,7 @@
 //! The end of all workers.
 
+use crate::ended::Ended;
 use crate::start::Start;
-use std::sync::atomic::{AtomicBool, Ordering};
 use swim_shell::{Gate, Turn, WorkerEnd};
 
 /// A gate that knows how its worker begins and ends.
@@ -18,7 +18,7 @@ pub(crate) trait Closing: Gate {
 pub(crate) struct Until<'a, G: Gate> {
     pub(crate) gate: &'a mut G,
     pub(crate) start: &'a Start,
-    pub(crate) ended: &'a AtomicBool,
+    pub(crate) ended: &'a Ended,
 }
 
 impl<'a, G: Gate> Gate for Until<'a, G> {
@@ -29,7 +29,7 @@ impl<'a, G: Gate> Gate for Until<'a, G> {
     ghost turns = { λ _. [] };
 
     fn turn(&mut self) -> Turn {
-        if self.ended.load(Ordering::SeqCst) {
+        if self.ended.has_ended() {
             return Turn::Stop;
         }
         self.gate.turn()
@@ -42,7 +42,7 @@ impl<'a, G: Gate> Closing for Until<'a, G> {
     }
 
     fn close(&self, end: WorkerEnd) -> WorkerEnd {
-        self.ended.store(true, Ordering::SeqCst);
+        self.ended.end();
         if self.start.is_given_up() {
             WorkerEnd::Memory
         } else {

@@ -1,13 +1,14 @@
 //! The workers that get a thread of their own, each with what it works on.
 
+use crate::ring_sender::RingSender;
 use log::Log;
 use rand_chacha::ChaCha20Rng;
 use std::sync::Wait;
 use std::time::Clock;
 use swim_disk::Disk;
 use swim_node::Link;
-use swim_shared::{Name, Pass, Sender, Shared};
-use swim_shell::{Gate, Inbound, WorkerEnd, receiver, sender, ticker};
+use swim_shared::{Name, Pass, Shared};
+use swim_shell::{Gate, Inbound, WorkerEnd, receiver, ticker};
 
 /// What a worker does until its gate stops it.
 pub(crate) trait Work {
@@ -59,12 +60,12 @@ impl<'a> Work for Ticking<'a> {
 
 /// Hands on what the outbox took.
 #[derive(Drop)]
-pub(crate) struct Sending<'a, M: Link> {
-    pub(crate) ring: &'a mut Sender,
-    pub(crate) link: &'a mut M,
+pub(crate) struct Sending<'a, 'b, P: Name, M: Link> {
+    pub(crate) ring: &'a mut RingSender<P>,
+    pub(crate) link: &'b mut M,
 }
 
-impl<'a, M: Link> Work for Sending<'a, M> {
+impl<'a, 'b, P: Name, M: Link> Work for Sending<'a, 'b, P, M> {
     fn work<N: Name, D: Disk, L: Link, R: Wait + Drop, W: Wait + Log + Clock, G: Gate>(
         &mut self,
         rt: &W,
@@ -72,6 +73,6 @@ impl<'a, M: Link> Work for Sending<'a, M> {
         pass: &mut Pass<N>,
         gate: &mut G,
     ) -> WorkerEnd {
-        sender(rt, shared, pass, self.ring, self.link, gate)
+        self.ring.work(rt, shared, pass, self.link, gate)
     }
 }
