@@ -1,0 +1,46 @@
+-- The keys of a settings file.
+use Rattle.std.specs.Prelude.{ℕ, List, [], ◌∷◌, take, codes}
+use Rattle.swim_settings.specs.declared.key.Key.{Key}
+use Rattle.swim_settings.specs.declared.key.Key.TheVariants.{File, Group, Me, Control, TickMs, Lambda, Period, Direct, Suspect, Forget, Helpers, Limit, RandomKey, Join}
+
+-- the key as a file has it
+abbrev pub key_text : Key → List ℕ
+key_text File = codes "file"
+key_text Group = codes "group"
+key_text Me = codes "me"
+key_text Control = codes "control"
+key_text TickMs = codes "tick_ms"
+key_text Lambda = codes "lambda"
+key_text Period = codes "period"
+key_text Direct = codes "direct"
+key_text Suspect = codes "suspect"
+key_text Forget = codes "forget"
+key_text Helpers = codes "helpers"
+key_text Limit = codes "limit"
+key_text RandomKey = codes "random_key"
+key_text Join = codes "join"
+
+-- all keys, in the order in which a refused one is looked for
+abbrev pub keys : List Key
+keys = File ∷ Group ∷ Me ∷ Control ∷ TickMs ∷ Lambda ∷ Period ∷ Direct ∷ Suspect ∷ Forget ∷ Helpers ∷ Limit ∷ RandomKey ∷ Join ∷ []
+
+-- how many keys come before it
+abbrev pub place : Key → ℕ
+place File = 0
+place Group = 1
+place Me = 2
+place Control = 3
+place TickMs = 4
+place Lambda = 5
+place Period = 6
+place Direct = 7
+place Suspect = 8
+place Forget = 9
+place Helpers = 10
+place Limit = 11
+place RandomKey = 12
+place Join = 13
+
+-- the keys before it
+abbrev pub before : Key → List Key
+before key = take (place key) keys

@@ -1,0 +1,146 @@
+-- What the table of a settings file says.
+use Rattle.std.specs.Prelude.{◌≡◌, ◌⊎◌, ◌≤◌, ◌-◌, ℕ, ℤ, pos, negsuc, List, [], ◌∷◌, string_bytes, IsUtf8, Option, Some, None, option_and_then, Ok}
+use Rattle.std.specs.List.{AllByRecursion}
+use Rattle.hex.specs.Hex.{decode_of}
+use Rattle.toml.specs.Parse.{parse_document}
+use Rattle.toml.specs.Data.{Data, Items, no_items, item, Members, get_member, as_str, as_integer, as_array}
+use Rattle.swim_wire.specs.Numbers.{IsEndpoint}
+use Rattle.swim_words.specs.Words.{endpoint_text, No}
+use Rattle.swim_settings.specs.declared.key.Key.{Key}
+use Rattle.swim_settings.specs.declared.key.Key.TheVariants.{File, Group, Me, Control, TickMs, Lambda, Period, Direct, Suspect, Forget, Helpers, Limit, RandomKey, Join}
+use Rattle.swim_member.specs.declared.settings.Settings.{Settings}
+use Rattle.swim_settings.specs.declared.refusal.Refusal.{Refusal}
+use Rattle.swim_settings.specs.declared.refusal.Refusal.TheVariants as refusals
+use Rattle.swim_settings.specs.declared.settings.RunSettings.{RunSettings}
+use Rattle.swim_settings.specs.Keys.{key_text, before}
+
+-- what stands at the key
+abbrev pub value_at : Key → Members → Option Data
+value_at key table = get_member (key_text key) table
+
+-- the text there
+abbrev pub text_at : Key → Members → Option (List ℕ)
+text_at key table = option_and_then as_str (value_at key table)
+
+-- a number that isn't below 0
+abbrev pub natural_of : ℤ → Option ℕ
+natural_of (pos n) = Some n
+natural_of (negsuc n) = None
+
+-- the number there, if it isn't below 0
+abbrev pub number_at : Key → Members → Option ℕ
+number_at key table = option_and_then natural_of (option_and_then as_integer (value_at key table))
+
+-- the number there, or the default where the table hasn't the key
+abbrev pub IsNumber : Key → ℕ → Members → ℕ → Type 0
+IsNumber key default table n = (number_at key table ≡ Some n) ⊎ ((value_at key table ≡ None) × (n ≡ default))
+
+-- what the hex digits there spell; nothing where the table hasn't the key
+abbrev pub AreBytes : Key → Members → Option (List ℕ) → Type 0
+AreBytes key table (Some bytes) = (text : List ℕ) × (text_at key table ≡ Some text) × (decode_of text ≡ Ok bytes)
+AreBytes key table None = value_at key table ≡ None
+
+-- the items are the texts of these endpoints, in this order
+abbrev pub AreTexts : Items → List ℕ → Type 0
+AreTexts no_items [] = Unit
+AreTexts (item d ds) (e ∷ es) = (as_str d ≡ Some (endpoint_text e)) × AreTexts ds es
+AreTexts _ _ = ⊥
+
+-- the endpoints there; none where the table hasn't the key
+abbrev pub AreEndpoints : Key → Members → List ℕ → Type 0
+AreEndpoints key table es =
+    ((items : Items) × (option_and_then as_array (value_at key table) ≡ Some items) × AreTexts items es)
+    ⊎ ((value_at key table ≡ None) × (es ≡ []))
+
+-- the table says these settings of the member, its group and endpoint aside
+pub record SaysMember (table : Members) (settings : Settings) : Type 0 where
+  pub lambda : IsNumber Lambda 3 table settings.lambda
+  pub period : IsNumber Period 10 table settings.period
+  pub direct : IsNumber Direct 3 table settings.direct
+  pub suspect : IsNumber Suspect 50 table settings.suspect
+  pub forget : IsNumber Forget 6000 table settings.forget
+  pub helpers : IsNumber Helpers 3 table settings.helpers
+
+-- the table says these settings
+pub record Says (table : Members) (run : RunSettings) : Type 0 where
+  pub file : text_at File table ≡ Some (string_bytes run.file)
+  pub group : number_at Group table ≡ Some run.settings.group
+  pub me : text_at Me table ≡ Some (endpoint_text run.settings.me)
+  pub control : text_at Control table ≡ Some (endpoint_text run.control)
+  pub tick_ms : IsNumber TickMs 100 table run.tick_ms
+  pub member : SaysMember table run.settings
+  pub limit : IsNumber Limit 4096 table run.limit
+  pub random_key : AreBytes RandomKey table run.random_key
+  pub join : AreEndpoints Join table run.join.items
+
+-- the endpoint whose text is there
+abbrev pub IsEndpointAt : Key → Members → ℕ → Type 0
+IsEndpointAt key table e = (text_at key table ≡ Some (endpoint_text e)) × IsEndpoint e
+
+-- the number there, or the default, from the least to the most
+abbrev pub IsWithin : Key → ℕ → ℕ → ℕ → Members → ℕ → Type 0
+IsWithin key default least most table n = IsNumber key default table n × (least ≤ n) × (n ≤ most)
+
+-- the table has nothing at the key that the key takes; of the last two keys it isn't said
+abbrev pub IsRefused : Key → Members → Type 0
+IsRefused File table = text_at File table ≡ None
+IsRefused Group table = number_at Group table ≡ None
+IsRefused Me table = No (IsEndpointAt Me table)
+IsRefused Control table = No (IsEndpointAt Control table)
+IsRefused TickMs table = No (IsWithin TickMs 100 1 60000 table)
+IsRefused Lambda table = No (IsWithin Lambda 3 1 16 table)
+IsRefused Period table = No (IsWithin Period 10 2 1000 table)
+IsRefused Direct table = (period : ℕ) × IsNumber Period 10 table period × No (IsWithin Direct 3 1 (period - 1) table)
+IsRefused Suspect table = No (IsWithin Suspect 50 1 100000 table)
+IsRefused Forget table = No (IsWithin Forget 6000 1 1000000 table)
+IsRefused Helpers table = No (IsWithin Helpers 3 0 8 table)
+IsRefused Limit table = No (IsWithin Limit 4096 1 65536 table)
+IsRefused _ table = Unit
+
+-- the refusal is of the text, which is no TOML, or memory ran out
+abbrev pub IsOfText : List ℕ → Refusal → Type 0
+IsOfText text refusals.Memory = Unit
+IsOfText text refusals.Toml = IsUtf8 text → parse_document text ≡ None
+IsOfText text _ = ⊥
+
+-- the table has at the key what the key takes; of the last two keys it isn't said
+abbrev pub IsTaken : Key → Members → Type 0
+IsTaken File table = (text : List ℕ) × (text_at File table ≡ Some text)
+IsTaken Group table = (n : ℕ) × (number_at Group table ≡ Some n)
+IsTaken Me table = (e : ℕ) × (text_at Me table ≡ Some (endpoint_text e))
+IsTaken Control table = (e : ℕ) × (text_at Control table ≡ Some (endpoint_text e))
+IsTaken TickMs table = (n : ℕ) × IsWithin TickMs 100 1 60000 table n
+IsTaken Lambda table = (n : ℕ) × IsWithin Lambda 3 1 16 table n
+IsTaken Period table = (n : ℕ) × IsWithin Period 10 2 1000 table n
+IsTaken Direct table = (period n : ℕ) × IsNumber Period 10 table period × IsWithin Direct 3 1 (period - 1) table n
+IsTaken Suspect table = (n : ℕ) × IsWithin Suspect 50 1 100000 table n
+IsTaken Forget table = (n : ℕ) × IsWithin Forget 6000 1 1000000 table n
+IsTaken Helpers table = (n : ℕ) × IsWithin Helpers 3 0 8 table n
+IsTaken Limit table = (n : ℕ) × IsWithin Limit 4096 1 65536 table n
+IsTaken _ table = Unit
+
+-- all keys before the key have what they take
+abbrev pub AreTakenBefore : Key → Members → Type 0
+AreTakenBefore key table = AllByRecursion (λ earlier. IsTaken earlier table) (before key)
+
+-- the key is the first that is refused
+abbrev pub IsFirst : Key → Members → Type 0
+IsFirst key table = AreTakenBefore key table × IsRefused key table
+
+-- the refusal is of the first key that is refused, or memory ran out
+abbrev pub IsOfKey : Members → Refusal → Type 0
+IsOfKey table refusals.Memory = Unit
+IsOfKey table (refusals.Key key) = IsFirst key table
+IsOfKey table _ = ⊥
+
+-- the refusal is of a key that is unknown, or memory ran out
+abbrev pub IsOfUnknown : Refusal → Type 0
+IsOfUnknown refusals.Memory = Unit
+IsOfUnknown (refusals.Unknown key) = Unit
+IsOfUnknown _ = ⊥
+
+-- the text is refused with reason: it is no TOML, or its table has a value that its key does not take
+abbrev pub IsReason : List ℕ → Refusal → Type 0
+IsReason text refusals.Toml = IsUtf8 text → parse_document text ≡ None
+IsReason text (refusals.Key key) = (table : Members) × (parse_document text ≡ Some table) × IsFirst key table
+IsReason text _ = Unit

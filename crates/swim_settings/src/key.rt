@@ -1,0 +1,92 @@
+//! The keys of a settings file.
+
+ghost use Rattle.std.specs.Prelude.{◌≡◌};
+ghost use Rattle.swim_settings.specs.Keys.{key_text};
+
+use std::fmt;
+
+/// A key of a settings file.
+#[derive(Clone, Copy, Debug, PartialEq, Eq)]
+pub enum Key {
+    /// The path of the state file.
+    File,
+    /// The group's number.
+    Group,
+    /// The own endpoint, to which the UDP socket is bound.
+    Me,
+    /// The endpoint to which the control socket is bound.
+    Control,
+    /// Milliseconds from one tick to the next.
+    TickMs,
+    /// Sends of an update, times the binary digits of the count of members.
+    Lambda,
+    /// Ticks from one probe to the next.
+    Period,
+    /// Ticks until others are asked about a target.
+    Direct,
+    /// Ticks until a Suspect becomes Confirm.
+    Suspect,
+    /// Ticks until a Confirm is forgotten.
+    Forget,
+    /// Members that are asked about a target.
+    Helpers,
+    /// Entries in an era.
+    Limit,
+    /// The key of the generator that the ticker's words come from.
+    RandomKey,
+    /// Whom to join after the opening.
+    Join,
+}
+
+impl Key {
+    /// All keys, in the order in which a refused one is looked for.
+    pub const ALL: [Key; 14] = [
+        Key::File,
+        Key::Group,
+        Key::Me,
+        Key::Control,
+        Key::TickMs,
+        Key::Lambda,
+        Key::Period,
+        Key::Direct,
+        Key::Suspect,
+        Key::Forget,
+        Key::Helpers,
+        Key::Limit,
+        Key::RandomKey,
+        Key::Join,
+    ];
+
+    /// The key as a file has it.
+    pub fn text(self) -> &'static str
+        ensures { result.now ≡ key_text self }
+    {
+        match self {
+            Key::File => "file",
+            Key::Group => "group",
+            Key::Me => "me",
+            Key::Control => "control",
+            Key::TickMs => "tick_ms",
+            Key::Lambda => "lambda",
+            Key::Period => "period",
+            Key::Direct => "direct",
+            Key::Suspect => "suspect",
+            Key::Forget => "forget",
+            Key::Helpers => "helpers",
+            Key::Limit => "limit",
+            Key::RandomKey => "random_key",
+            Key::Join => "join",
+        }
+    }
+}
+
+impl fmt::Display for Key {
+    ghost use Rattle.std.specs.Prelude.{Some};
+
+    ghost output = { λ key. Some (key_text key) };
+
+    fn fmt<W: fmt::Write>(&self, f: &mut fmt::Formatter<W>) -> fmt::Result {
+        let text = self.text();
+        write!(f, "{text}")
+    }
+}

@@ -1,0 +1,14 @@
+//! The settings file of `swim run`, a TOML table. It is read whole, and refused at the first key that is missing or has
+//! another value than it takes, in the order of `Key::ALL`, and else at a key that is none of these.
+#![tactic(auto)]
+
+mod key;
+mod refusal;
+mod settings;
+#[cfg(test)]
+mod tests;
+mod value;
+
+pub use key::Key;
+pub use refusal::Refusal;
+pub use settings::{JOIN_MAX, RunSettings, read_settings};

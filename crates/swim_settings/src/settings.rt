@@ -1,0 +1,133 @@
+//! The settings of `swim run`.
+
+ghost use Rattle.std.specs.Prelude.{◌≡◌, Some, IfOk, IfErr};
+ghost use Rattle.toml.specs.Data.{Members};
+ghost use Rattle.toml.specs.Parse.{parse_document};
+ghost use Rattle.toml.specs.View.{table_view};
+ghost use Rattle.swim_member.specs.Checks.{AreSound};
+ghost use Rattle.swim_settings.specs.Ranges.{AreInRange};
+ghost use Rattle.swim_settings.specs.Says.{AreTakenBefore, IsOfKey, IsOfText, IsOfUnknown, IsReason, Says, SaysMember};
+ghost use Rattle.swim_settings.specs.declared.key.Key.TheVariants as keys;
+
+use crate::key::Key;
+use crate::refusal::Refusal;
+use crate::value::{
+    read_bytes, read_endpoint_at, read_endpoints, read_number, read_text, read_within,
+};
+use arrayvec::ArrayVec;
+use std::alloc::Global;
+use swim_member::{HELPERS_MAX, Settings};
+use swim_wire::Endpoint;
+use toml::Table;
+
+/// The most peers that a file names.
+pub const JOIN_MAX: usize = 8;
+
+/// What `swim run` is told by its settings file.
+#[derive(Drop)]
+pub struct RunSettings {
+    /// `file`: the path of the state file.
+    pub file: String,
+    /// `group`, `me` and `lambda` to `helpers`: what the member is told.
+    pub settings: Settings,
+    /// `control`: the endpoint of the control socket.
+    pub control: Endpoint,
+    /// `tick_ms`: milliseconds from one tick to the next, 1 to 60,000.
+    pub tick_ms: u64,
+    /// `limit`: entries in an era, 1 to 65,536.
+    pub limit: u32,
+    /// `random_key`: the key of the generator that the ticker's words come from, if the file has one.
+    pub random_key: Option<[u8; 32]>,
+    /// `join`: whom to join after the opening, in this order.
+    pub join: ArrayVec<Endpoint, JOIN_MAX>,
+}
+
+/// The bytes as a TOML table.
+fn read_table(alloc: Global, bytes: &[u8]) -> Result<Table, Refusal>
+    ensures table { IfOk result (λ table. parse_document bytes.now ≡ Some (table_view table)) }
+    ensures refused { IfErr result (IsOfText bytes.now) }
+{
+    match toml::table_from_slice(alloc, bytes) {
+        Ok(table) => Ok(table),
+        Err(error) if error.is_memory() => Err(Refusal::Memory),
+        Err(_) => Err(Refusal::Toml),
+    }
+}
+
+/// Refuses a key that is none of the known ones; of several the least, by its bytes.
+fn refuse_unknown(alloc: Global, table: &Table) -> Result<(), Refusal>
+    ensures { IfErr result IsOfUnknown }
+{
+    for key in table.keys() {
+        if !Key::ALL.iter().any(|known| known.text() == key.as_str()) {
+            return Err(Refusal::Unknown(String::from_str(alloc, key.as_str())?));
+        }
+    }
+    Ok(())
+}
+
+/// What the member is told, with this group and endpoint.
+fn read_member(table: &Table, group: u64, me: Endpoint) -> Result<Settings, Refusal>
+    requires { AreTakenBefore keys.Lambda (table_view table.now) }
+    ensures sound { IfOk result AreSound }
+    ensures owner { IfOk result (λ settings. (settings.group ≡ group) × (settings.me ≡ me)) }
+    ensures said { IfOk result (SaysMember (table_view table.now)) }
+    ensures taken { IfOk result (λ _. AreTakenBefore keys.Limit (table_view table.now)) }
+    ensures refused { IfErr result (IsOfKey (table_view table.now)) }
+{
+    let lambda = read_within(table, Key::Lambda, 3, 1, 16)?;
+    let period = read_within(table, Key::Period, 10, 2, 1000)?;
+    let direct = read_within(table, Key::Direct, 3, 1, period - 1)?;
+    let suspect = read_within(table, Key::Suspect, 50, 1, 100_000)?;
+    let forget = read_within(table, Key::Forget, 6000, 1, 1_000_000)?;
+    let helpers = read_within(table, Key::Helpers, 3, 0, HELPERS_MAX as u64)?;
+    Ok(Settings {
+        group,
+        me,
+        lambda: lambda as u32,
+        period,
+        direct,
+        suspect,
+        forget,
+        helpers: helpers as usize,
+    })
+}
+
+/// The settings of a table, where each key has a value that it takes.
+fn read_keys(alloc: Global, table: &Table) -> Result<RunSettings, Refusal>
+    ensures range { IfOk result AreInRange }
+    ensures said { IfOk result (Says (table_view table.now)) }
+    ensures refused { IfErr result (IsOfKey (table_view table.now)) }
+{
+    let file = read_text(table, Key::File)?;
+    let group = read_number(table, Key::Group)?;
+    let me = read_endpoint_at(table, Key::Me)?;
+    let control = read_endpoint_at(table, Key::Control)?;
+    let tick_ms = read_within(table, Key::TickMs, 100, 1, 60_000)?;
+    let settings = read_member(table, group, me)?;
+    let limit = read_within(table, Key::Limit, 4096, 1, 65_536)?;
+    let random_key = read_bytes(table, Key::RandomKey)?;
+    let join = read_endpoints(table, Key::Join)?;
+    Ok(RunSettings {
+        file: String::from_str(alloc, file)?,
+        settings,
+        control,
+        tick_ms,
+        limit: limit as u32,
+        random_key,
+        join,
+    })
+}
+
+/// The settings that the bytes of a file say.
+pub fn read_settings(alloc: Global, bytes: &[u8]) -> Result<RunSettings, Refusal>
+    ensures range { IfOk result AreInRange }
+    ensures said { IfOk result (λ run. (table : Members) × (parse_document bytes.now ≡ Some table)
+        × Says table run) }
+    ensures refused { IfErr result (IsReason bytes.now) }
+{
+    let table = read_table(alloc, bytes)?;
+    let settings = read_keys(alloc, &table)?;
+    refuse_unknown(alloc, &table)?;
+    Ok(settings)
+}

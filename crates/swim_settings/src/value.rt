@@ -1,0 +1,167 @@
+//! The values of a table, key by key.
+
+ghost use Rattle.std.specs.Prelude.{◌≡◌, ◌≢◌, ◌^◌, ◌<◌, ◌≤◌, List, ℕ, IfSome, IfNone, IfOk, IfErr};
+ghost use Rattle.std.specs.Prelude.{Ok, Some, None, option_and_then, option_map};
+ghost use Rattle.hex.specs.Hex.{decode_of};
+ghost use Rattle.toml.specs.Data.{as_integer, as_str};
+ghost use Rattle.toml.specs.View.{view, items_view, table_view};
+ghost use Rattle.swim_wire.specs.Numbers.{IsEndpoint};
+ghost use Rattle.swim_words.specs.Words.{endpoint_text, No};
+ghost use Rattle.swim_settings.specs.Says.{value_at, text_at, natural_of, number_at, IsNumber, IsWithin, IsEndpointAt, AreBytes, AreTexts, AreEndpoints};
+ghost use Rattle.swim_settings.specs.declared.refusal.Refusal.TheVariants as refusals;
+
+use crate::key::Key;
+use crate::refusal::Refusal;
+use arrayvec::ArrayVec;
+use hex::FromHex;
+use swim_wire::Endpoint;
+use swim_words::read_endpoint;
+use toml::{Table, Value};
+
+/// The number that a value is, unless it is none or below 0.
+fn as_number(value: &Value) -> Option<u64>
+    ensures number { result ≡ option_and_then natural_of (as_integer (view value.now)) }
+    ensures high { IfSome result (λ number. number < 2 ^ 63) }
+{
+    match value.as_integer() {
+        Some(number) => u64::try_from(number).ok(),
+        None => None,
+    }
+}
+
+/// The endpoint whose text a value is.
+fn as_endpoint(value: &Value) -> Option<Endpoint>
+    ensures endpoint { IfSome result (λ e. as_str (view value.now) ≡ Some (endpoint_text e)) }
+    ensures none { IfNone result ((e : ℕ) → IsEndpoint e
+        → as_str (view value.now) ≢ Some (endpoint_text e)) }
+{
+    match value.as_str() {
+        Some(text) => read_endpoint(text.as_bytes()),
+        None => None,
+    }
+}
+
+/// The 32 bytes that a value spells in hex digits.
+fn as_bytes(value: &Value) -> Option<[u8; 32]>
+    ensures { IfSome result (λ bytes. (text : List ℕ) × (as_str (view value.now) ≡ Some text)
+        × (decode_of text ≡ Ok bytes)) }
+{
+    match value.as_str() {
+        Some(text) => <[u8; 32] as FromHex>::from_hex(text).ok(),
+        None => None,
+    }
+}
+
+/// The endpoints whose texts these are, unless there are more than `N`.
+fn endpoints_in<const N: usize>(items: &[Value]) -> Option<ArrayVec<Endpoint, N>>
+    ensures { IfSome result (λ es. AreTexts (items_view items.now) es.items) }
+{
+    let mut endpoints = ArrayVec::new();
+    for item in items {
+        let endpoint = as_endpoint(item)?;
+        if endpoints.is_full() {
+            return None;
+        }
+        endpoints.push(endpoint);
+    }
+    Some(endpoints)
+}
+
+/// What stands at a key.
+fn find(table: &Table, key: Key) -> Option<&Value>
+    ensures { option_map (λ value. view value.now) result ≡ value_at key (table_view table.now) }
+{
+    table.get(key.text())
+}
+
+/// The text at a key that has to be there.
+pub(crate) fn read_text(table: &Table, key: Key) -> Result<&str, Refusal>
+    ensures text { IfOk result (λ text. text_at key (table_view table.now) ≡ Some text.now) }
+    ensures none { IfErr result (λ refusal. (refusal ≡ refusals.Key key)
+        × (text_at key (table_view table.now) ≡ None)) }
+{
+    match find(table, key) {
+        Some(value) => value.as_str().ok_or(Refusal::Key(key)),
+        None => Err(Refusal::Key(key)),
+    }
+}
+
+/// The endpoint at a key that has to be there.
+pub(crate) fn read_endpoint_at(table: &Table, key: Key) -> Result<Endpoint, Refusal>
+    ensures endpoint { IfOk result (λ e. text_at key (table_view table.now)
+        ≡ Some (endpoint_text e)) }
+    ensures none { IfErr result (λ refusal. (refusal ≡ refusals.Key key)
+        × No (IsEndpointAt key (table_view table.now))) }
+{
+    match find(table, key) {
+        Some(value) => as_endpoint(value).ok_or(Refusal::Key(key)),
+        None => Err(Refusal::Key(key)),
+    }
+}
+
+/// The number at a key that has to be there.
+pub(crate) fn read_number(table: &Table, key: Key) -> Result<u64, Refusal>
+    ensures number { IfOk result (λ number. number_at key (table_view table.now) ≡ Some number) }
+    ensures none { IfErr result (λ refusal. (refusal ≡ refusals.Key key)
+        × (number_at key (table_view table.now) ≡ None)) }
+    ensures high { IfOk result (λ number. number < 2 ^ 63) }
+{
+    match find(table, key) {
+        Some(value) => as_number(value).ok_or(Refusal::Key(key)),
+        None => Err(Refusal::Key(key)),
+    }
+}
+
+/// The number at a key, or the default where the key isn't there. It has to be one from `least` to `most`.
+pub(crate) fn read_within(
+    table: &Table,
+    key: Key,
+    default: u64,
+    least: u64,
+    most: u64,
+) -> Result<u64, Refusal>
+    ensures number { IfOk result (IsNumber key default (table_view table.now)) }
+    ensures range { IfOk result (λ number. (least ≤ number) × (number ≤ most)) }
+    ensures none { IfErr result (λ refusal. (refusal ≡ refusals.Key key)
+        × No (IsWithin key default least most (table_view table.now))) }
+{
+    let number = match find(table, key) {
+        Some(_) => read_number(table, key)?,
+        None => default,
+    };
+    if number < least || most < number {
+        return Err(Refusal::Key(key));
+    }
+    Ok(number)
+}
+
+/// The bytes that hex digits spell at a key; none where the key isn't there.
+pub(crate) fn read_bytes(table: &Table, key: Key) -> Result<Option<[u8; 32]>, Refusal>
+    ensures bytes { IfOk result (AreBytes key (table_view table.now)) }
+    ensures refusal { IfErr result (λ refusal. refusal ≡ refusals.Key key) }
+{
+    match find(table, key) {
+        Some(value) => match as_bytes(value) {
+            Some(bytes) => Ok(Some(bytes)),
+            None => Err(Refusal::Key(key)),
+        },
+        None => Ok(None),
+    }
+}
+
+/// The endpoints at a key; none where the key isn't there.
+pub(crate) fn read_endpoints<const N: usize>(
+    table: &Table,
+    key: Key,
+) -> Result<ArrayVec<Endpoint, N>, Refusal>
+    ensures endpoints { IfOk result (λ es. AreEndpoints key (table_view table.now) es.items) }
+    ensures refusal { IfErr result (λ refusal. refusal ≡ refusals.Key key) }
+{
+    let Some(value) = find(table, key) else {
+        return Ok(ArrayVec::new());
+    };
+    match value.as_array() {
+        Some(items) => endpoints_in(items.as_slice()).ok_or(Refusal::Key(key)),
+        None => Err(Refusal::Key(key)),
+    }
+}
