@@ -1,6 +1,5 @@
-//! A member of a group, as a program.
-//!
-//! `swim play` reads a script from standard input and prints what came of it.
+//! A member of a group, as a program: `swim init` makes its state file, `swim run` runs it, `swim ctl` asks it, and
+//! `swim play` plays a script over a member in memory.
 #![tactic(auto)]
 
 mod life;
@@ -11,41 +10,21 @@ mod story;
 mod tests;
 mod transcript;
 
-use crate::player::{Transcript, play};
+use crate::player::play;
+use clap::Error;
+use clap::error::ErrorKind;
+use log::{Log, Logged};
 use std::env;
 use std::io::{self, Read, Write};
 use std::process::ExitCode;
+use std::sync::Wait;
+use std::thread::Threads;
+use std::time::Clock;
+use swim_run::{Asked, Ending, Stamped, ask, level, make, read_words, run};
 use swim_script::ScriptFault;
 
-/// The exit status of a fault.
-const FAILED: u8 = 1;
-
-/// The exit status where the words or the script are refused.
+/// The exit status where the words are refused.
 const REFUSED: u8 = 2;
-
-/// Why the program ends without a transcript.
-#[derive(Clone, Copy, Debug, PartialEq, Eq)]
-enum Ending {
-    /// The words are not `play`.
-    Words,
-    /// There is no memory for the words.
-    Memory,
-    /// Standard input or output failed.
-    File,
-    /// The script is refused.
-    Script(ScriptFault),
-}
-
-/// Whether the words after the program's name are just `play`.
-fn is_play(rt: &HostRuntime) -> io::Result<bool> {
-    let mut words = env::args(rt)?;
-    let _ = words.next();
-    let is_play = match words.next() {
-        Some(word) => word.as_str() == "play",
-        None => false,
-    };
-    Ok(is_play && words.next().is_none())
-}
 
 /// All of standard input.
 fn read_input(rt: &HostRuntime) -> Result<Vec<u8>, Ending> {
@@ -59,38 +38,103 @@ fn read_input(rt: &HostRuntime) -> Result<Vec<u8>, Ending> {
     }
 }
 
-fn run(rt: &HostRuntime) -> Result<(), Ending> {
-    match is_play(rt) {
-        Ok(true) => {}
-        Ok(false) => return Err(Ending::Words),
-        Err(_) => return Err(Ending::Memory),
-    }
+/// Prints bytes.
+fn print_bytes(rt: &HostRuntime, bytes: &[u8]) -> Result<(), Ending> {
+    io::writer(rt).write_all(bytes).map_err(|_| Ending::File)
+}
+
+/// Plays the script on standard input, and prints its transcript.
+fn play_input(rt: &HostRuntime) -> Result<ExitCode, Ending> {
     let script = read_input(rt)?;
     let transcript = play(rt.alloc(), &script).map_err(Ending::Script)?;
-    match io::writer(rt).write_all(transcript.text.as_bytes()) {
-        Ok(()) => Ok(()),
-        Err(_) => Err(Ending::File),
+    print_bytes(rt, transcript.text.as_bytes())?;
+    Ok(ExitCode::SUCCESS)
+}
+
+/// Asks a member, and prints its answer. The status says whether it begins with `ok`.
+fn ask_member(rt: &HostRuntime, to: &str, line: &str) -> Result<ExitCode, Ending> {
+    let answer = ask(rt, to, line)?;
+    print_bytes(rt, answer.as_slice())?;
+    Ok(if answer.as_slice().starts_with(b"ok") {
+        ExitCode::SUCCESS
+    } else {
+        ExitCode::FAILURE
+    })
+}
+
+/// Does what was asked. A member that runs has its threads and its log by the other handle.
+fn answer<T: Threads + Wait + Log + Clock + Sync>(
+    rt: &HostRuntime,
+    logged: &T,
+    asked: Asked<'_>,
+) -> Result<ExitCode, Ending> {
+    match asked {
+        Asked::Init {
+            file,
+            group,
+            me,
+            ceiling,
+        } => {
+            make(rt, file, group, me, ceiling)?;
+            Ok(ExitCode::SUCCESS)
+        }
+        Asked::Run { config } => {
+            run(rt, logged, config)?;
+            Ok(ExitCode::SUCCESS)
+        }
+        Asked::Ctl { to, line } => ask_member(rt, to, line),
+        Asked::Play => play_input(rt),
     }
 }
 
-fn main(rt: HostRuntime) -> io::Result<ExitCode> {
-    match run(&rt) {
-        Ok(()) => Ok(ExitCode::from(0)),
-        Err(Ending::Words) => {
-            eprintln!(rt; "usage: swim play < SCRIPT")?;
-            Ok(ExitCode::from(REFUSED))
+/// Prints why the program ends, and gives the status. It is the same where standard error cannot be written.
+fn end(rt: &HostRuntime, ending: &Ending) -> ExitCode {
+    let _ = eprintln!(rt; "swim: {ending}");
+    ending.status()
+}
+
+/// Prints help, the version, or what is wrong with the words.
+fn explain(rt: &HostRuntime, error: &Error) -> ExitCode {
+    if error.kind() == ErrorKind::OutOfMemory {
+        return end(rt, &Ending::Memory);
+    }
+    let is_printed = error.print(rt).is_ok();
+    if error.use_stderr() {
+        ExitCode::from(REFUSED)
+    } else if is_printed {
+        ExitCode::SUCCESS
+    } else {
+        end(rt, &Ending::File)
+    }
+}
+
+/// The words of the command line.
+fn words(rt: &HostRuntime) -> Result<Vec<String>, ExitCode> {
+    let found = match env::args(rt) {
+        Ok(words) => words.collect(rt.alloc()),
+        Err(error) if error.kind() == io::ErrorKind::OutOfMemory => {
+            return Err(end(rt, &Ending::Memory));
         }
-        Err(Ending::Memory) => {
-            eprintln!(rt; "swim: memory")?;
-            Ok(ExitCode::from(FAILED))
+        Err(_) => {
+            let _ = eprintln!(rt; "error: a word is not UTF-8");
+            return Err(ExitCode::from(REFUSED));
         }
-        Err(Ending::File) => {
-            eprintln!(rt; "swim: file refused")?;
-            Ok(ExitCode::from(FAILED))
-        }
-        Err(Ending::Script(fault)) => {
-            eprintln!(rt; "swim: script refused {fault}")?;
-            Ok(ExitCode::from(REFUSED))
-        }
+    };
+    found.map_err(|_| end(rt, &Ending::Memory))
+}
+
+fn main(rt: HostRuntime) -> ExitCode {
+    let words = match words(&rt) {
+        Ok(words) => words,
+        Err(status) => return status,
+    };
+    let logged = Logged::new(rt, level(&rt), Stamped(rt));
+    match read_words(rt.alloc(), words.as_slice()) {
+        Ok(Some(asked)) => match answer(&rt, &logged, asked) {
+            Ok(status) => status,
+            Err(ending) => end(&rt, &ending),
+        },
+        Ok(None) => ExitCode::from(REFUSED),
+        Err(error) => explain(&rt, &error),
     }
 }

@@ -1,0 +1,143 @@
+//! The words of the command line.
+
+use clap::builder::ValueParser;
+use clap::{Arg, ArgAction, ArgMatches, Command, Error};
+use std::alloc::Global;
+
+/// The greatest group number and ceiling among the words, 2^63 - 1.
+const NUMBER_LIMIT: u64 = 9_223_372_036_854_775_807;
+
+/// What the words ask for.
+#[derive(Clone, Copy, Debug, PartialEq, Eq)]
+pub enum Asked<'a> {
+    /// A new state file.
+    Init {
+        /// Its path.
+        file: &'a str,
+        /// The group's number.
+        group: u64,
+        /// The member's endpoint, not yet judged.
+        me: &'a str,
+        /// The number above which the member begins.
+        ceiling: u64,
+    },
+    /// A member that runs.
+    Run {
+        /// The path of its settings.
+        config: &'a str,
+    },
+    /// One control line.
+    Ctl {
+        /// The control socket, not yet judged.
+        to: &'a str,
+        /// The line.
+        line: &'a str,
+    },
+    /// A script from standard input.
+    Play,
+}
+
+/// A word that has to be there, by its place.
+fn word<'a>(alloc: Global, id: &'a str, name: &'a str, help: &'a str) -> Arg<'a> {
+    Arg::new(alloc, id)
+        .required(true)
+        .value_name(name)
+        .help(help)
+}
+
+/// A number after its name.
+fn number<'a>(alloc: Global, id: &'a str, help: &'a str) -> Arg<'a> {
+    Arg::new(alloc, id)
+        .long(id)
+        .action(ArgAction::Set)
+        .value_parser(ValueParser::unsigned(0, NUMBER_LIMIT))
+        .value_name("N")
+        .help(help)
+}
+
+/// `swim init FILE --group N --me A [--ceiling N]`.
+fn init_command<'a>(alloc: Global) -> Result<Command<'a>, Error> {
+    let group = number(alloc, "group", "The number of the group").required(true);
+    let me = word(alloc, "me", "A", "The member's endpoint, as 10.0.0.1:7000").long("me");
+    let ceiling = number(alloc, "ceiling", "The number above which the member begins");
+    let command = Command::new(alloc, "init")
+        .about("Makes a state file")
+        .arg(word(alloc, "file", "FILE", "The state file to make"))?
+        .arg(group)?
+        .arg(me)?
+        .arg(ceiling.default_value("0"))?;
+    Ok(command)
+}
+
+/// `swim ctl ADDR LINE`.
+fn ctl_command<'a>(alloc: Global) -> Result<Command<'a>, Error> {
+    let line = word(
+        alloc,
+        "line",
+        "LINE",
+        "status, members, members A, join A, leave or stop",
+    );
+    let command = Command::new(alloc, "ctl")
+        .about("Sends a control line and prints the answer")
+        .arg(word(
+            alloc,
+            "addr",
+            "ADDR",
+            "The member's control socket, as 127.0.0.1:7100",
+        ))?
+        .arg(line.allow_hyphen_values(true))?;
+    Ok(command)
+}
+
+/// All that the program takes.
+fn command<'a>(alloc: Global) -> Result<Command<'a>, Error> {
+    let run = Command::new(alloc, "run")
+        .about("Runs a member until it is stopped")
+        .arg(word(alloc, "config", "CONFIG", "The settings, a TOML table"))?;
+    let play = Command::new(alloc, "play").about("Plays a script from standard input");
+    let command = Command::new(alloc, "swim")
+        .version("0.1.0")
+        .about("A member of a SWIM group that survives its own restarts")
+        .bin_name("swim")?
+        .propagate_version(true)
+        .subcommand_required(true)
+        .subcommand(init_command(alloc)?)?
+        .subcommand(run)?
+        .subcommand(ctl_command(alloc)?)?
+        .subcommand(play)?;
+    Ok(command)
+}
+
+/// A word that the parser saw to.
+fn text<'a>(matches: &ArgMatches<'a>, id: &str) -> &'a str {
+    matches.get_str(id).unwrap_or("")
+}
+
+/// What the matched words ask for.
+fn chosen<'a>(matches: &ArgMatches<'a>) -> Option<Asked<'a>> {
+    match matches.subcommand()? {
+        ("init", words) => Some(Asked::Init {
+            file: text(words, "file"),
+            group: words.get_one::<u64>("group")?,
+            me: text(words, "me"),
+            ceiling: words.get_one::<u64>("ceiling")?,
+        }),
+        ("run", words) => Some(Asked::Run {
+            config: text(words, "config"),
+        }),
+        ("ctl", words) => Some(Asked::Ctl {
+            to: text(words, "addr"),
+            line: text(words, "line"),
+        }),
+        ("play", _) => Some(Asked::Play),
+        _ => None,
+    }
+}
+
+/// What the words ask for, the program's name among them; none where they ask for nothing that is known. An error is
+/// help, a version or a mistake, with its text; want of memory is of kind `OutOfMemory`.
+pub fn read_words<'a>(alloc: Global, words: &'a [String]) -> Result<Option<Asked<'a>>, Error> {
+    let command = command(alloc)?;
+    let matches = command.try_get_matches_from(words)?;
+    Ok(chosen(&matches))
+}

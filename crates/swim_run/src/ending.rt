@@ -1,0 +1,57 @@
+//! Why the program ends before it is done, with the text on standard error and the exit status.
+
+use std::process::ExitCode;
+use swim_node::OpenFault;
+use swim_script::ScriptFault;
+use swim_settings::Refusal;
+use swim_shell::WorkerEnd;
+use swim_state::InitFault;
+use thiserror::Error;
+
+/// The exit status of a refusal or a fault.
+const FAILED: u8 = 1;
+
+/// The exit status where words, settings or a script are refused.
+const REFUSED: u8 = 2;
+
+/// Why the program ends. Each prints its one line, after `swim: `.
+#[derive(Debug, Drop, Error)]
+pub enum Ending {
+    /// The state file was not made.
+    #[error("init refused {0}")]
+    Init(InitFault),
+    /// The state file was not opened as this member's.
+    #[error("open refused {0}")]
+    Open(OpenFault),
+    /// The settings or the state file cannot be opened, read, made or locked, or standard input or output failed.
+    #[error("file refused")]
+    File,
+    /// A socket was not bound or connected, or a connection ended before the whole answer.
+    #[error("socket refused")]
+    Socket,
+    /// A worker ended by itself.
+    #[error("worker ended {0}")]
+    Worker(WorkerEnd),
+    /// There is no memory.
+    #[error("memory")]
+    Memory,
+    /// An endpoint among the words is none.
+    #[error("address refused")]
+    Address,
+    /// A key of the settings is refused, or their text.
+    #[error("settings refused {0}")]
+    Settings(Refusal),
+    /// The script is refused.
+    #[error("script refused {0}")]
+    Script(ScriptFault),
+}
+
+impl Ending {
+    /// The exit status.
+    pub fn status(&self) -> ExitCode {
+        match self {
+            Ending::Address | Ending::Settings(_) | Ending::Script(_) => ExitCode::from(REFUSED),
+            _ => ExitCode::from(FAILED),
+        }
+    }
+}

@@ -1,0 +1,278 @@
+//! One era of a running member: the workers over one shared node, from its beginning to its end.
+
+ghost use Rattle.std.specs.Prelude.{◌≡◌, [], IfOk};
+
+use crate::ending::Ending;
+use crate::entrance::Entrance;
+use crate::gates::{Pace, Pacing, Resting, Ringing};
+use crate::joining::Joining;
+use crate::outside::Outside;
+use crate::said::Said;
+use log::{Log, warn};
+use rand_chacha::ChaCha20Rng;
+use std::alloc::Global;
+use std::sync::Wait;
+use std::thread::Threads;
+use std::time::{Clock, Duration};
+use swim_disk::Disk;
+use swim_member::Event;
+use swim_node::{Link, Node};
+use swim_serve::{Ends, RingSender, serve};
+use swim_shared::{CallFault, Name, Outbox, Parts, Pass, Sender, Shared, Watch};
+use swim_shell::{ControlEnd, Doors, Inbound, WorkerEnd};
+
+/// The workers, each with a pass of its own.
+pub(crate) const CALLERS: u8 = 4;
+
+/// One watch for control, and one for the program's own joins.
+pub(crate) const WATCHES: u8 = 2;
+
+/// What is left of an era.
+#[derive(Drop)]
+pub(crate) struct EraEnd<D: Disk> {
+    /// The node with the era's journal.
+    pub(crate) node: Node<D>,
+    /// The losses that no call has told.
+    pub(crate) owed: u32,
+    /// Whether the line `stop` ended it.
+    pub(crate) is_stopped: bool,
+}
+
+/// The end of a worker that ends the program.
+fn fault_of(ends: &Ends) -> Option<WorkerEnd> {
+    let by_control = match ends.control {
+        ControlEnd::Memory => WorkerEnd::Memory,
+        ControlEnd::Unread => WorkerEnd::Unread,
+        _ => WorkerEnd::Stopped,
+    };
+    let all = [ends.receiver, ends.ticker, ends.sender, by_control];
+    all.into_iter().find(|end| !matches!(end, WorkerEnd::Stopped | WorkerEnd::EraFull))
+}
+
+/// Tells what the era before lost and told in no call.
+fn tell<N: Name, D: Disk, L: Link, R: Wait + Drop, W: Wait + Log>(
+    rt: &W,
+    shared: &Shared<N, D, L, R>,
+    pass: &mut Pass<N>,
+    count: u32,
+) -> Result<(), Ending> {
+    if count == 0 {
+        return Ok(());
+    }
+    match shared.call(rt, pass, Event::SendFailed { count }) {
+        Ok(reply) => {
+            for note in reply.notes.as_slice() {
+                warn!(rt; "note {note}");
+            }
+            Ok(())
+        }
+        Err(CallFault::NoMemory) => Err(Ending::Worker(WorkerEnd::Memory)),
+        Err(_) => Err(Ending::Worker(WorkerEnd::Unread)),
+    }
+}
+
+/// Runs the workers, each with its gate.
+fn attend<
+    N: Name + Send + Sync,
+    D: Disk + Send,
+    L: Link + Send,
+    R: Wait + Drop + Send + Sync,
+    T: Threads + Wait + Log + Clock + Sync,
+    I: Inbound + Send,
+    M: Link + Send,
+    O: Doors,
+>(
+    rt: &T,
+    shared: &Shared<N, D, L, R>,
+    receiver: (&mut Pass<N>, &mut I),
+    ticker: (&mut Pass<N>, &mut ChaCha20Rng, Duration),
+    sender: (&mut Pass<N>, &mut RingSender<N>, &mut M),
+    control: (&mut Pass<N>, &mut Watch<N>, &mut O),
+) -> Ends {
+    let pace = Pace::new();
+    let (receiver_pass, inbound) = receiver;
+    let (ticker_pass, rng, tick) = ticker;
+    let (sender_pass, ring, link) = sender;
+    let (control_pass, watch, doors) = control;
+    let mut receiver_gate = Ringing::new(&pace);
+    let mut ticker_gate = Pacing::new(rt, &pace, tick);
+    let mut sender_gate = Resting::new(rt, &pace);
+    let mut control_gate = Ringing::new(&pace);
+    serve(
+        rt,
+        shared,
+        &pace.ended,
+        (receiver_pass, inbound, &mut receiver_gate),
+        (ticker_pass, rng, &mut ticker_gate),
+        (sender_pass, ring, link, &mut sender_gate),
+        (control_pass, watch, doors, &mut control_gate),
+    )
+}
+
+/// Runs the workers with the program's own joins among the control connections.
+fn attend_entrance<
+    'x,
+    N: Name + Send + Sync,
+    D: Disk + Send,
+    L: Link + Send,
+    R: Wait + Drop + Send + Sync,
+    T: Threads + Wait + Log + Clock + Sync,
+    I: Inbound + Send,
+    M: Link + Send,
+    O: Doors,
+>(
+    rt: &'x T,
+    shared: &Shared<N, D, L, R>,
+    passes: (&mut Pass<N>, &mut Pass<N>, &mut Pass<N>, &mut Pass<N>),
+    shown: &mut Watch<N>,
+    ring: &mut RingSender<N>,
+    inbound: &mut I,
+    link: &mut M,
+    rng: &mut ChaCha20Rng,
+    tick: Duration,
+    doors: &'x mut O,
+    watch: &'x mut Watch<N>,
+    joining: &'x mut Joining,
+    said: &'x Said,
+) -> Ends {
+    let mut entrance = Entrance {
+        doors,
+        watch,
+        joining,
+        clock: rt,
+        said,
+    };
+    let (receiver, ticker, sender, control) = passes;
+    attend(
+        rt,
+        shared,
+        (receiver, inbound),
+        (ticker, rng, tick),
+        (sender, ring, link),
+        (control, shown, &mut entrance),
+    )
+}
+
+/// Runs the workers over what is outside.
+fn attend_outside<
+    'x,
+    N: Name + Send + Sync,
+    D: Disk + Send,
+    L: Link + Send,
+    R: Wait + Drop + Send + Sync,
+    T: Threads + Wait + Log + Clock + Sync,
+    I: Inbound + Send,
+    M: Link + Send,
+    O: Doors,
+>(
+    rt: &'x T,
+    shared: &Shared<N, D, L, R>,
+    passes: (&mut Pass<N>, &mut Pass<N>, &mut Pass<N>, &mut Pass<N>),
+    shown: &mut Watch<N>,
+    watch: &'x mut Watch<N>,
+    ring: &mut RingSender<N>,
+    outside: &'x mut Outside<I, M, O>,
+    said: &'x Said,
+) -> Ends {
+    let (receiver, ticker, sender, control) = passes;
+    attend_entrance(
+        rt,
+        shared,
+        (receiver, ticker, sender, control),
+        shown,
+        ring,
+        &mut outside.inbound,
+        &mut outside.link,
+        &mut outside.rng,
+        outside.tick,
+        &mut outside.doors,
+        watch,
+        &mut outside.joining,
+        said,
+    )
+}
+
+/// Tells what the era before owes, and runs the workers until one of them ends. Says whether the line `stop` ended it;
+/// where the era is full, what was received last comes again in the next one. An error is the program's end.
+fn work<
+    N: Name + Send + Sync,
+    D: Disk + Send,
+    L: Link + Send,
+    R: Wait + Drop + Send + Sync,
+    T: Threads + Wait + Log + Clock + Sync,
+    I: Inbound + Send,
+    M: Link + Send,
+    O: Doors,
+>(
+    rt: &T,
+    shared: &Shared<N, D, L, R>,
+    mut passes: Vec<Pass<N>>,
+    mut watches: Vec<Watch<N>>,
+    ring: &mut RingSender<N>,
+    owed: u32,
+    outside: &mut Outside<I, M, O>,
+) -> Result<bool, Ending> {
+    let mut receiver = passes.pop().ok_or(Ending::Memory)?;
+    let mut ticker = passes.pop().ok_or(Ending::Memory)?;
+    let mut sender = passes.pop().ok_or(Ending::Memory)?;
+    let mut control = passes.pop().ok_or(Ending::Memory)?;
+    let mut shown = watches.pop().ok_or(Ending::Memory)?;
+    let mut watch = watches.pop().ok_or(Ending::Memory)?;
+    tell(rt, shared, &mut receiver, owed)?;
+    let said = Said::new();
+    let ends = attend_outside(
+        rt,
+        shared,
+        (&mut receiver, &mut ticker, &mut sender, &mut control),
+        &mut shown,
+        &mut watch,
+        ring,
+        outside,
+        &said,
+    );
+    if let Some(end) = fault_of(&ends) {
+        return Err(Ending::Worker(end));
+    }
+    outside.end_era(rt, &ends, &said);
+    Ok(said.is_stopping())
+}
+
+/// One era of a shared node, from its beginning to its end.
+pub(crate) fn run_era<
+    N: Name + Send + Sync,
+    D: Disk + Drop + Send,
+    T: Threads + Wait + Log + Clock + Sync,
+    I: Inbound + Send,
+    M: Link + Send,
+    O: Doors,
+>(
+    rt: &T,
+    alloc: Global,
+    parts: Parts<D, Outbox>,
+    sender: Sender,
+    owed: u32,
+    outside: &mut Outside<I, M, O>,
+) -> Result<EraEnd<D>, Ending>
+    requires book { parts.book ≡ N.book }
+    requires base { parts.node.base ≡ N.base }
+    requires disk { (D.state parts.node.disk).name ≡ N.disk }
+    requires owner { parts.node.owner ≡ N.owner }
+    requires first { parts.node.first ≡ N.first }
+    requires link { parts.link.ring ≡ N.link }
+    requires start { parts.link.put ≡ N.start }
+    requires ring { N.link ≡ sender.ring }
+    requires nothing { N.start ≡ [] }
+{
+    let made = Shared::<N, D, Outbox, &T>::new(alloc, rt, parts);
+    let (shared, passes, watches) = made.ok().ok_or(Ending::Memory)?;
+    let mut ring = RingSender::<N>::new(sender);
+    let is_stopped = work(rt, &shared, passes, watches, &mut ring, owed, outside)?;
+    let sender = ring.into_inner();
+    let (none, nobody) = (Vec::new(alloc), Vec::new(alloc));
+    let closed = shared.close_sent(none, nobody, sender, &mut outside.link);
+    Ok(EraEnd {
+        node: closed.node,
+        owed: closed.owed,
+        is_stopped,
+    })
+}

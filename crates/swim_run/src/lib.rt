@@ -1,0 +1,27 @@
+//! The program round a member: its words, its state file, its sockets, and the eras in which its workers run.
+#![tactic(auto)]
+
+mod again;
+mod asking;
+mod bell;
+mod command_line;
+mod connection;
+mod ending;
+mod entrance;
+mod era;
+mod gates;
+mod joining;
+mod locked_file;
+mod making;
+mod outside;
+mod running;
+mod said;
+mod sockets;
+mod stamped;
+
+pub use asking::ask;
+pub use command_line::{Asked, read_words};
+pub use ending::Ending;
+pub use making::make;
+pub use running::run;
+pub use stamped::{Stamped, level};

@@ -1,0 +1,39 @@
+//! What a member has outside itself, from one era to the next.
+
+use crate::again::Again;
+use crate::joining::Joining;
+use crate::said::Said;
+use rand_chacha::ChaCha20Rng;
+use std::time::{Clock, Duration};
+use swim_node::Link;
+use swim_serve::Ends;
+use swim_shell::{Doors, Inbound, WorkerEnd};
+
+/// What the workers of each era work on.
+#[derive(Drop)]
+pub(crate) struct Outside<I: Inbound, M: Link, O: Doors> {
+    /// Whence datagrams come.
+    pub(crate) inbound: Again<I>,
+    /// Where they go.
+    pub(crate) link: M,
+    /// Whence control connections come.
+    pub(crate) doors: O,
+    /// What gives the ticks their words.
+    pub(crate) rng: ChaCha20Rng,
+    /// The peers to join.
+    pub(crate) joining: Joining,
+    /// How long a tick is.
+    pub(crate) tick: Duration,
+}
+
+impl<I: Inbound, M: Link, O: Doors> Outside<I, M, O> {
+    /// After an era that ended so: what did not fit into it comes again.
+    pub(crate) fn end_era<C: Clock>(&mut self, clock: &C, ends: &Ends, said: &Said) {
+        if ends.receiver == WorkerEnd::EraFull {
+            self.inbound.repeat();
+        }
+        if said.take_joined() {
+            self.joining.joined(clock);
+        }
+    }
+}

@@ -1,0 +1,162 @@
+//! `swim run`.
+
+ghost use Rattle.std.specs.Prelude.{◌≡◌, [], IfOk, IfSome};
+ghost use Rattle.swim_member.specs.Checks.{AreSound};
+ghost use Rattle.swim_settings.specs.Ranges.{AreInRange};
+
+use crate::again::Again;
+use crate::ending::Ending;
+use crate::era::{CALLERS, WATCHES, run_era};
+use crate::joining::Joining;
+use crate::locked_file::{file_ending, open_locked};
+use crate::outside::Outside;
+use crate::sockets::{bind_datagrams, bind_doors, wait_of};
+use log::Log;
+use rand_chacha::ChaCha20Rng;
+use rand_core::SeedableRng;
+use std::alloc::Global;
+use std::fs::{self, File};
+use std::marker::Brand;
+use std::net::{Net, TcpListener, TcpStream};
+use std::random::RandomSource;
+use std::rt::Files;
+use std::sync::{Wait, WaitMethods};
+use std::thread::Threads;
+use std::time::{Clock, Duration};
+use swim_disk::{Disk, FileDisk};
+use swim_member::Settings;
+use swim_node::{Link, Node, OpenFault};
+use swim_serve::{TcpDoors, UdpInbound, UdpLink};
+use swim_settings::{Refusal, RunSettings, read_settings};
+use swim_shared::{Outbox, Parts};
+use swim_shell::{Doors, Inbound};
+
+/// How many datagrams wait at most until the sender takes them.
+const OUTBOX_PLACES: usize = 256;
+
+/// The settings that a file says.
+fn settings_at<R: Files<File = File> + AllocGlobal>(
+    rt: &R,
+    config: &str,
+) -> Result<RunSettings, Ending>
+    ensures { IfOk result AreInRange }
+{
+    let bytes = fs::read(rt, config).map_err(|error| file_ending(&error))?;
+    match read_settings(rt.alloc(), bytes.as_slice()) {
+        Ok(settings) => Ok(settings),
+        Err(Refusal::Memory) => Err(Ending::Memory),
+        Err(refusal) => Err(Ending::Settings(refusal)),
+    }
+}
+
+/// Opens the member on its state file.
+fn open<R: Files<File = File> + AllocGlobal>(
+    rt: &R,
+    file: &str,
+    settings: Settings,
+    limit: u32,
+) -> Result<Node<FileDisk>, Ending>
+    requires { AreSound settings }
+    ensures { IfOk result (λ node. node.entries ≡ []) }
+{
+    let disk = FileDisk::new(open_locked(rt, file, false)?);
+    match Node::open(rt.alloc(), disk, settings, limit) {
+        Ok(node) => Ok(node),
+        Err((_, fault)) => Err(Ending::Open(fault)),
+    }
+}
+
+/// The generator of the ticks' words, by the given key or by one from the system.
+fn generator<R: RandomSource>(rt: &R, given: Option<[u8; 32]>) -> Result<ChaCha20Rng, Ending> {
+    let mut key = [0u8; 32];
+    match given {
+        Some(given) => key = given,
+        None => rt.fill_bytes(&mut key).map_err(|_| Ending::File)?,
+    }
+    Ok(ChaCha20Rng::from_seed(key))
+}
+
+/// One era of a node, and the node at the beginning of the next with what is owed; none where the line `stop` ended it.
+fn one_era<
+    D: Disk + Drop + Send,
+    T: Threads + Wait + Log + Clock + Sync,
+    I: Inbound + Send,
+    M: Link + Send,
+    O: Doors,
+>(
+    rt: &T,
+    alloc: Global,
+    node: Node<D>,
+    owed: u32,
+    outside: &mut Outside<I, M, O>,
+) -> Result<Option<(Node<D>, u32)>, Ending>
+    requires { node.entries ≡ [] }
+    ensures { IfOk result (λ next. IfSome next (λ both. both.0.entries ≡ [])) }
+{
+    let made = Outbox::new(alloc, OUTBOX_PLACES);
+    let (outbox, sender) = made.ok().ok_or(Ending::Memory)?;
+    let parts = Parts::new(node, outbox, CALLERS, WATCHES);
+    let mut end = run_era::<Brand, _, _, _, _, _>(rt, alloc, parts, sender, owed, outside)?;
+    if end.is_stopped {
+        return Ok(None);
+    }
+    end.node.rebase();
+    Ok(Some((end.node, end.owed)))
+}
+
+/// Era after era, until the line `stop` or a fault of a worker.
+fn eras<
+    D: Disk + Drop + Send,
+    T: Threads + Wait + Log + Clock + Sync,
+    I: Inbound + Send,
+    M: Link + Send,
+    O: Doors,
+>(rt: &T, alloc: Global, node: Node<D>, outside: &mut Outside<I, M, O>) -> Result<(), Ending>
+    requires { node.entries ≡ [] }
+{
+    let mut node = node;
+    let mut owed = 0;
+    for _ in rt.forever() {
+        match one_era(rt, alloc, node, owed, outside)? {
+            Some((next, left)) => {
+                node = next;
+                owed = left;
+            }
+            None => return Ok(()),
+        }
+    }
+    unreachable!()
+}
+
+/// Runs the member that the settings file describes until the line `stop`: opens and locks its state file, takes a number
+/// above all that it may have used, binds its sockets, and serves era after era. An error is why it ended before.
+pub fn run<R, T>(rt: &R, logged: &T, config: &str) -> Result<(), Ending>
+where
+    R: Files<File = File>
+        + Net<Listener = TcpListener, Stream = TcpStream>
+        + RandomSource
+        + AllocGlobal,
+    T: Threads + Wait + Log + Clock + Sync,
+{
+    let RunSettings {
+        file,
+        settings,
+        control,
+        tick_ms,
+        limit,
+        random_key,
+        join,
+    } = settings_at(rt, config)?;
+    let node = open(rt, file.as_str(), settings, limit)?;
+    let wait = wait_of(tick_ms);
+    let (inbound, link) = bind_datagrams(rt, settings.me, wait)?;
+    let mut outside = Outside {
+        inbound: Again::new(inbound),
+        link,
+        doors: bind_doors(rt, logged, control, wait)?,
+        rng: generator(rt, random_key)?,
+        joining: Joining::new(join, settings.period, tick_ms),
+        tick: Duration::from_millis(tick_ms),
+    };
+    eras(logged, rt.alloc(), node, &mut outside)
+}
