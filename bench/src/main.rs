@@ -1,8 +1,10 @@
 //! The proved crates beside plain Rust of the same work: nanoseconds, ratios, allocations. `bench/run` builds and runs it,
-//! with the program that saves and a folder for the state files as its words, and then a part of the cases' names, if any.
+//! with the program that saves, the one that calls a shared member and a folder for the state files as its words, and then a
+//! part of the cases' names, if any.
 
 mod allocations;
 mod cases;
+mod lock;
 mod measure;
 mod plain;
 mod proved;
@@ -24,7 +26,7 @@ const SAVE_ROUNDS: u32 = 400;
 const SAVE: &str = "save of the state file";
 
 /// Measures the cases whose name has this part.
-fn run(program: &Path, folder: &Path, part: &str) -> io::Result<()> {
+fn run(saving: &Path, calling: &Path, folder: &Path, part: &str) -> io::Result<()> {
     table::head();
     for mut case in cases::cases() {
         if case.name.contains(part) {
@@ -40,23 +42,23 @@ fn run(program: &Path, folder: &Path, part: &str) -> io::Result<()> {
         }
     }
     if SAVE.contains(part) {
-        let (proved, plain) = save::measure(program, folder, SAVE_ROUNDS)?;
+        let (proved, plain) = save::measure(saving, folder, SAVE_ROUNDS)?;
         table::row(SAVE, proved, plain, Some(1.05), "");
     }
-    Ok(())
+    lock::run(calling, part)
 }
 
 fn main() -> ExitCode {
     let words: Vec<String> = env::args().skip(1).collect();
-    let (program, folder, part) = match words.as_slice() {
-        [program, folder] => (program, folder, ""),
-        [program, folder, part] => (program, folder, part.as_str()),
+    let (saving, calling, folder, part) = match words.as_slice() {
+        [saving, calling, folder] => (saving, calling, folder, ""),
+        [saving, calling, folder, part] => (saving, calling, folder, part.as_str()),
         _ => {
-            eprintln!("usage: bench SAVING-PROGRAM FOLDER [PART]");
+            eprintln!("usage: bench SAVING-PROGRAM CALLING-PROGRAM FOLDER [PART]");
             return ExitCode::from(2);
         }
     };
-    match run(Path::new(program), Path::new(folder), part) {
+    match run(Path::new(saving), Path::new(calling), Path::new(folder), part) {
         Ok(()) => ExitCode::SUCCESS,
         Err(error) => {
             eprintln!("bench: {error}");

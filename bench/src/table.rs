@@ -23,3 +23,11 @@ pub fn row(name: &str, proved: f64, plain: f64, bar: Option<f64>, allocations: &
     let ratio = proved / plain;
     println!("| {name:<44} | {proved:>10.1} | {plain:>9.1} | {ratio:>5.2} | {bar:>4} | {allocations:>11} |");
 }
+
+/// A row without a plain side.
+pub fn row_alone(name: &str, proved: f64) {
+    println!(
+        "| {name:<44} | {proved:>10.1} | {:>9} | {:>5} | {:>4} | {:>11} |",
+        "", "", "", ""
+    );
+}

@@ -70,6 +70,16 @@ impl Member {
         }
     }
 
+    /// The own number.
+    pub fn number(&self) -> u64 {
+        self.number
+    }
+
+    /// How many members are held for alive or suspected.
+    pub fn eligible_count(&self) -> usize {
+        self.table.eligible_count()
+    }
+
     fn hear(&mut self, update: Update) {
         if self.table.hear(update, self.time) == Heard::Accepted {
             self.buffer.offer(update);

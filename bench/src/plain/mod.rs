@@ -1,8 +1,10 @@
-//! The same work in plain Rust, which the proved crates are measured against: std only, no allocation, sorted arrays with
-//! stored counts, straight loops. It has the parts of a member that the cases need, with the same rules.
+//! The same work in plain Rust, which the proved crates are measured against: std only, sorted arrays with stored counts,
+//! straight loops, nothing from the heap but the journal of a shared member. It has the parts of a member that the cases
+//! need, with the same rules.
 
 pub mod buffer;
 pub mod member;
+pub mod shared;
 pub mod table;
 pub mod wire;
 pub mod work;

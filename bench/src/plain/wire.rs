@@ -88,6 +88,7 @@ pub struct Datagram {
 }
 
 /// The bytes of one datagram.
+#[derive(Clone, Copy)]
 pub struct Packet {
     bytes: [u8; DATAGRAM_MAX],
     len: usize,
