@@ -1,4 +1,4 @@
-//! Whole transcripts. The other worked rows are scripts with their transcripts in `examples/rows`.
+//! Whole transcripts. The other worked rows are scripts with their transcripts in `examples/scripts`.
 
 use crate::player::play;
 use std::alloc::Global;
