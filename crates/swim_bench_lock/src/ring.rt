@@ -2,7 +2,6 @@
 
 use crate::scene::{PLACES, endpoint};
 use std::alloc::Global;
-use std::sync::Wait;
 use std::thread::{self, Threads, join};
 use std::time::{Clock, Duration, Instant};
 use swim_node::{Link, LinkFault};

@@ -98,9 +98,5 @@ pub fn ask<R: Net<Stream = TcpStream> + Clock + AllocGlobal>(
     line: &str,
 ) -> Result<Vec<u8>, Ending> {
     let to = read_endpoint(to.as_bytes()).ok_or(Ending::Address)?;
-    match exchange(rt, to, line) {
-        Ok(answer) => Ok(answer),
-        Err(error) if error.kind() == ErrorKind::OutOfMemory => Err(Ending::Memory),
-        Err(_) => Err(Ending::Socket),
-    }
+    exchange(rt, to, line).map_err(|error| Ending::of(&error, Ending::Socket))
 }

@@ -1,5 +1,6 @@
 //! Why the program ends before it is done, with the text on standard error and the exit status.
 
+use std::io::{self, ErrorKind};
 use std::process::ExitCode;
 use swim_node::OpenFault;
 use swim_script::ScriptFault;
@@ -47,6 +48,15 @@ pub enum Ending {
 }
 
 impl Ending {
+    /// The ending by an error of the system: the lack of memory, or else the other one.
+    pub(crate) fn of(error: &io::Error, otherwise: Ending) -> Ending {
+        if error.kind() == ErrorKind::OutOfMemory {
+            Ending::Memory
+        } else {
+            otherwise
+        }
+    }
+
     /// The exit status.
     pub fn status(&self) -> ExitCode {
         match self {

@@ -24,9 +24,7 @@ impl<'a, N: Name, O: Doors, C: Clock> Doors for Entrance<'a, N, O, C> {
     type Writer = Answers<'a, O::Writer>;
 
     fn next(&mut self) -> Option<(Lines<O::Reader>, Answers<'a, O::Writer>)> {
-        if self.said.take_joined() {
-            self.joining.joined(self.clock);
-        }
+        self.joining.take_note(self.said, self.clock);
         let status = self.watch.read();
         if let Some(peer) = self.joining.due(self.clock, status) {
             return Some((join_line(peer), Answers::new(None, self.said)));

@@ -1,6 +1,6 @@
 //! One era of a running member: the workers over one shared node, from its beginning to its end.
 
-ghost use Rattle.std.specs.Prelude.{◌≡◌, [], IfOk};
+ghost use Rattle.std.specs.Prelude.{◌≡◌, []};
 
 use crate::ending::Ending;
 use crate::entrance::Entrance;
@@ -8,7 +8,7 @@ use crate::gates::{Pace, Pacing, Resting, Ringing};
 use crate::joining::Joining;
 use crate::outside::Outside;
 use crate::said::Said;
-use log::{Log, warn};
+use log::Log;
 use rand_chacha::ChaCha20Rng;
 use std::alloc::Global;
 use std::sync::Wait;
@@ -18,8 +18,8 @@ use swim_disk::Disk;
 use swim_member::Event;
 use swim_node::{Link, Node};
 use swim_serve::{Ends, RingSender, serve};
-use swim_shared::{CallFault, Name, Outbox, Parts, Pass, Sender, Shared, Watch};
-use swim_shell::{ControlEnd, Doors, Inbound, WorkerEnd};
+use swim_shared::{Name, Outbox, Parts, Pass, Sender, Shared, Watch};
+use swim_shell::{ControlEnd, Doors, Inbound, NoteLog, Refusal, WorkerEnd, enter};
 
 /// The workers, each with a pass of its own.
 pub(crate) const CALLERS: u8 = 4;
@@ -50,7 +50,7 @@ fn fault_of(ends: &Ends) -> Option<WorkerEnd> {
 }
 
 /// Tells what the era before lost and told in no call.
-fn tell<N: Name, D: Disk, L: Link, R: Wait + Drop, W: Wait + Log>(
+fn tell<N: Name, D: Disk, L: Link, R: Wait + Drop, W: Wait + Log + Clock>(
     rt: &W,
     shared: &Shared<N, D, L, R>,
     pass: &mut Pass<N>,
@@ -59,14 +59,9 @@ fn tell<N: Name, D: Disk, L: Link, R: Wait + Drop, W: Wait + Log>(
     if count == 0 {
         return Ok(());
     }
-    match shared.call(rt, pass, Event::SendFailed { count }) {
-        Ok(reply) => {
-            for note in reply.notes.as_slice() {
-                warn!(rt; "note {note}");
-            }
-            Ok(())
-        }
-        Err(CallFault::NoMemory) => Err(Ending::Worker(WorkerEnd::Memory)),
+    match enter(rt, shared, pass, &mut NoteLog::new(), Event::SendFailed { count }) {
+        Ok(_) => Ok(()),
+        Err(Refusal::Memory) => Err(Ending::Worker(WorkerEnd::Memory)),
         Err(_) => Err(Ending::Worker(WorkerEnd::Unread)),
     }
 }
@@ -153,45 +148,6 @@ fn attend_entrance<
     )
 }
 
-/// Runs the workers over what is outside.
-fn attend_outside<
-    'x,
-    N: Name + Send + Sync,
-    D: Disk + Send,
-    L: Link + Send,
-    R: Wait + Drop + Send + Sync,
-    T: Threads + Wait + Log + Clock + Sync,
-    I: Inbound + Send,
-    M: Link + Send,
-    O: Doors,
->(
-    rt: &'x T,
-    shared: &Shared<N, D, L, R>,
-    passes: (&mut Pass<N>, &mut Pass<N>, &mut Pass<N>, &mut Pass<N>),
-    shown: &mut Watch<N>,
-    watch: &'x mut Watch<N>,
-    ring: &mut RingSender<N>,
-    outside: &'x mut Outside<I, M, O>,
-    said: &'x Said,
-) -> Ends {
-    let (receiver, ticker, sender, control) = passes;
-    attend_entrance(
-        rt,
-        shared,
-        (receiver, ticker, sender, control),
-        shown,
-        ring,
-        &mut outside.inbound,
-        &mut outside.link,
-        &mut outside.rng,
-        outside.tick,
-        &mut outside.doors,
-        watch,
-        &mut outside.joining,
-        said,
-    )
-}
-
 /// Tells what the era before owes, and runs the workers until one of them ends. Says whether the line `stop` ended it;
 /// where the era is full, what was received last comes again in the next one. An error is the program's end.
 fn work<
@@ -220,14 +176,19 @@ fn work<
     let mut watch = watches.pop().ok_or(Ending::Memory)?;
     tell(rt, shared, &mut receiver, owed)?;
     let said = Said::new();
-    let ends = attend_outside(
+    let ends = attend_entrance(
         rt,
         shared,
         (&mut receiver, &mut ticker, &mut sender, &mut control),
         &mut shown,
-        &mut watch,
         ring,
-        outside,
+        &mut outside.inbound,
+        &mut outside.link,
+        &mut outside.rng,
+        outside.tick,
+        &mut outside.doors,
+        &mut watch,
+        &mut outside.joining,
         &said,
     );
     if let Some(end) = fault_of(&ends) {

@@ -1,5 +1,6 @@
 //! When a running member joins the peers of its list.
 
+use crate::said::Said;
 use arrayvec::ArrayVec;
 use std::time::{Clock, Duration, Instant};
 use swim_member::Phase;
@@ -66,8 +67,11 @@ impl Joining {
         None
     }
 
-    /// The peer that was due was joined.
-    pub(crate) fn joined<C: Clock>(&mut self, clock: &C) {
+    /// Takes note of a join that was answered: the peer that was due was joined.
+    pub(crate) fn take_note<C: Clock>(&mut self, said: &Said, clock: &C) {
+        if !said.take_joined() {
+            return;
+        }
         self.last = Instant::now(clock).ok();
         self.next = self.next.saturating_add(1);
         if self.next >= self.peers.len() {

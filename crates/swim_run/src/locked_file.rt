@@ -15,19 +15,10 @@ pub(crate) fn open_locked<R: Files<File = File>>(
 ) -> Result<File, Ending> {
     let mut options = OpenOptions::new();
     let opened = options.read(true).write(true).create(make).open(rt, path);
-    let file = opened.map_err(|error| file_ending(&error))?;
+    let file = opened.map_err(|error| Ending::of(&error, Ending::File))?;
     match file.try_lock() {
         Ok(()) => Ok(file),
         Err(_) => Err(Ending::File),
-    }
-}
-
-/// A failure of a file as an ending.
-pub(crate) fn file_ending(error: &io::Error) -> Ending {
-    if error.kind() == io::ErrorKind::OutOfMemory {
-        Ending::Memory
-    } else {
-        Ending::File
     }
 }
 

@@ -1,7 +1,7 @@
 //! `swim init`.
 
 use crate::ending::Ending;
-use crate::locked_file::{file_ending, open_locked, sync_folder};
+use crate::locked_file::{open_locked, sync_folder};
 use std::fs::File;
 use std::rt::Files;
 use swim_disk::FileDisk;
@@ -24,5 +24,5 @@ pub fn make<R: Files<File = File>>(
     }
     let mut disk = FileDisk::new(open_locked(rt, file, true)?);
     init(&mut disk, Owner { group, me }, ceiling).map_err(Ending::Init)?;
-    sync_folder(rt, file).map_err(|error| file_ending(&error))
+    sync_folder(rt, file).map_err(|error| Ending::of(&error, Ending::File))
 }

@@ -32,8 +32,6 @@ impl<I: Inbound, M: Link, O: Doors> Outside<I, M, O> {
         if ends.receiver == WorkerEnd::EraFull {
             self.inbound.repeat();
         }
-        if said.take_joined() {
-            self.joining.joined(clock);
-        }
+        self.joining.take_note(said, clock);
     }
 }

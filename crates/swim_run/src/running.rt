@@ -8,9 +8,9 @@ use crate::again::Again;
 use crate::ending::Ending;
 use crate::era::{CALLERS, WATCHES, run_era};
 use crate::joining::Joining;
-use crate::locked_file::{file_ending, open_locked};
+use crate::locked_file::open_locked;
 use crate::outside::Outside;
-use crate::sockets::{bind_datagrams, bind_doors, wait_of};
+use crate::sockets::{bind_doors, wait_of};
 use log::Log;
 use rand_chacha::ChaCha20Rng;
 use rand_core::SeedableRng;
@@ -25,8 +25,8 @@ use std::thread::Threads;
 use std::time::{Clock, Duration};
 use swim_disk::{Disk, FileDisk};
 use swim_member::Settings;
-use swim_node::{Link, Node, OpenFault};
-use swim_serve::{TcpDoors, UdpInbound, UdpLink};
+use swim_node::{Link, Node};
+use swim_serve::{address_of, bind_datagrams};
 use swim_settings::{Refusal, RunSettings, read_settings};
 use swim_shared::{Outbox, Parts};
 use swim_shell::{Doors, Inbound};
@@ -41,7 +41,7 @@ fn settings_at<R: Files<File = File> + AllocGlobal>(
 ) -> Result<RunSettings, Ending>
     ensures { IfOk result AreInRange }
 {
-    let bytes = fs::read(rt, config).map_err(|error| file_ending(&error))?;
+    let bytes = fs::read(rt, config).map_err(|error| Ending::of(&error, Ending::File))?;
     match read_settings(rt.alloc(), bytes.as_slice()) {
         Ok(settings) => Ok(settings),
         Err(Refusal::Memory) => Err(Ending::Memory),
@@ -149,7 +149,8 @@ where
     } = settings_at(rt, config)?;
     let node = open(rt, file.as_str(), settings, limit)?;
     let wait = wait_of(tick_ms);
-    let (inbound, link) = bind_datagrams(rt, settings.me, wait)?;
+    let bound = bind_datagrams(rt, address_of(settings.me), wait);
+    let (inbound, link) = bound.map_err(|_| Ending::Socket)?;
     let mut outside = Outside {
         inbound: Again::new(inbound),
         link,

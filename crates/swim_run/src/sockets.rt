@@ -1,10 +1,10 @@
 //! What a running member holds of the network.
 
 use crate::ending::Ending;
-use std::net::{Net, TcpListener, TcpStream, UdpSocket};
+use std::net::{Net, TcpListener, TcpStream};
 use std::rt::Clock;
 use std::time::Duration;
-use swim_serve::{TcpDoors, UdpInbound, UdpLink, address_of};
+use swim_serve::{TcpDoors, address_of};
 use swim_wire::Endpoint;
 
 /// No socket waits longer, in milliseconds.
@@ -13,20 +13,6 @@ const WAIT_MAX_MILLIS: u64 = 1000;
 /// How long a socket waits at most: one tick, or a second if that is less.
 pub(crate) fn wait_of(tick_millis: u64) -> Duration {
     Duration::from_millis(tick_millis.min(WAIT_MAX_MILLIS))
-}
-
-/// Binds the member's socket, and gives what receives from it and what sends through it.
-pub(crate) fn bind_datagrams<R: Net>(
-    rt: &R,
-    me: Endpoint,
-    wait: Duration,
-) -> Result<(UdpInbound, UdpLink), Ending> {
-    let bound = UdpSocket::bind(rt, address_of(me));
-    let socket = bound.map_err(|_| Ending::Socket)?;
-    let waits = socket.set_read_timeout(Some(wait));
-    waits.map_err(|_| Ending::Socket)?;
-    let other = socket.try_clone().map_err(|_| Ending::Socket)?;
-    Ok((UdpInbound::new(socket), UdpLink::new(other)))
 }
 
 /// Binds the control socket.

@@ -17,7 +17,7 @@ pub use doors::TcpDoors;
 pub use ended::Ended;
 pub use ring_sender::RingSender;
 pub use serving::{Ends, serve};
-pub use udp::{UdpInbound, UdpLink, address_of};
+pub use udp::{UdpInbound, UdpLink, address_of, bind_datagrams};
 
 #[cfg(test)]
 mod tests;

@@ -11,7 +11,7 @@ use crate::work::{Receiving, Sending, Ticking};
 use log::Log;
 use rand_chacha::ChaCha20Rng;
 use std::sync::{Wait, WaitMethods};
-use std::thread::{Threads, join};
+use std::thread::Threads;
 use std::time::Clock;
 use swim_disk::Disk;
 use swim_node::Link;

@@ -5,7 +5,8 @@ ghost use Rattle.std.specs.Prelude.{◌≡◌};
 use arrayvec::ArrayVec;
 use http_server::Log as Failures;
 use std::io::{self, ErrorKind};
-use std::net::{Ipv4Addr, SocketAddr, SocketAddrV4, UdpSocket};
+use std::net::{Ipv4Addr, Net, SocketAddr, SocketAddrV4, ToSocketAddrs, UdpSocket};
+use std::time::Duration;
 use swim_member::RECEIVED_MAX;
 use swim_node::{Link, LinkFault};
 use swim_shell::{Inbound, ReceiveFault};
@@ -35,7 +36,7 @@ pub struct UdpLink {
 
 impl UdpLink {
     /// A link over a bound socket.
-    pub fn new(socket: UdpSocket) -> UdpLink {
+    fn new(socket: UdpSocket) -> UdpLink {
         UdpLink {
             socket,
             failures: Failures::new(),
@@ -87,7 +88,7 @@ fn is_wait_over(error: &io::Error) -> bool {
 
 impl UdpInbound {
     /// An inbound over a bound socket that has a waiting time.
-    pub fn new(socket: UdpSocket) -> UdpInbound {
+    fn new(socket: UdpSocket) -> UdpInbound {
         UdpInbound {
             socket,
             failures: Failures::new(),
@@ -132,4 +133,18 @@ impl Inbound for UdpInbound {
         }
         received
     }
+}
+
+/// Binds a socket for datagrams, and gives what receives from it and what sends through it. A receive waits as long as
+/// `wait` at most, which is not zero. An error is the system's: the address is taken or not this machine's, or there are
+/// too many sockets.
+pub fn bind_datagrams<R: Net, A: ToSocketAddrs>(
+    net: &R,
+    at: A,
+    wait: Duration,
+) -> io::Result<(UdpInbound, UdpLink)> {
+    let socket = UdpSocket::bind(net, at)?;
+    socket.set_read_timeout(Some(wait))?;
+    let other = socket.try_clone()?;
+    Ok((UdpInbound::new(socket), UdpLink::new(other)))
 }

@@ -32,9 +32,11 @@ fn origin_of(event: &Event) -> Option<Endpoint> {
     }
 }
 
-/// One call of the pass, whose notes are logged.
+/// One call of the pass, whose notes are logged. It is refused with `EraFull` if the era has no place left, with `Memory`
+/// if there is none for it, and with `Unread` if what it did could not be read back; a refused call is not in the history,
+/// but an unread one may be.
 #[tactic(auto, using(crate::proofs::News::called_new, crate::proofs::News::one_call, crate::proofs::News::unchanged_calls, crate::proofs::News::unseen_calls, crate::proofs::News::full_calls))]
-pub(crate) fn enter<N: Name, D: Disk, L: Link, R: Wait + Drop, W: Wait + Log + Clock>(
+pub fn enter<N: Name, D: Disk, L: Link, R: Wait + Drop, W: Wait + Log + Clock>(
     rt: &W,
     shared: &Shared<N, D, L, R>,
     pass: &mut Pass<N>,

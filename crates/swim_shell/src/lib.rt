@@ -16,12 +16,12 @@ mod ticking;
 mod worker;
 
 pub use asked::Asked;
-pub use calling::Refusal;
+pub use calling::{Refusal, enter};
 pub use controlling::control;
 pub use doors::Doors;
 pub use inbound::{Inbound, ReceiveFault};
 pub use lines::{LINE_MAX, Line};
-pub use note_log::LOGGED_MAX;
+pub use note_log::{LOGGED_MAX, NoteLog};
 pub use receiving::{FAILURES_MAX, receiver};
 pub use sending::sender;
 pub use ticking::ticker;

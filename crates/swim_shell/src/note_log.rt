@@ -31,7 +31,7 @@ const NOTHING: Kind = Kind {
 
 /// Which notes were logged in the second that goes on, and how many were not.
 #[derive(Clone, Copy, Debug, PartialEq, Eq)]
-pub(crate) struct NoteLog {
+pub struct NoteLog {
     second: u64,
     has_left_out: bool,
     kinds: [Kind; KINDS],
@@ -47,7 +47,7 @@ fn write<W: Log>(rt: &W, note: Note, from: &Option<Endpoint>) {
 
 impl NoteLog {
     /// Nothing was logged yet.
-    pub(crate) fn new() -> NoteLog {
+    pub fn new() -> NoteLog {
         NoteLog {
             second: 0,
             has_left_out: false,

@@ -3,14 +3,14 @@
 ghost use Rattle.std.specs.Prelude.{◌≡◌, ◌≤◌, []};
 ghost use Rattle.swim_disk.specs.MemDisk.{state_of};
 
-use crate::{Ended, Ends, RingSender, UdpInbound, UdpLink, serve};
+use crate::{Ended, Ends, RingSender, UdpInbound, UdpLink, bind_datagrams, serve};
 use log::Log;
 use rand_chacha::ChaCha20Rng;
 use rand_core::SeedableRng;
 use std::alloc::Global;
 use std::io;
 use std::marker::Brand;
-use std::net::{Ipv4Addr, Net, SocketAddrV4, UdpSocket};
+use std::net::{Ipv4Addr, Net, SocketAddrV4};
 use std::process::Abort;
 use std::sync::Wait;
 use std::thread::{self, Threads};
@@ -57,10 +57,7 @@ pub(super) fn address(port: u16) -> SocketAddrV4 {
 
 /// What receives and what sends at this port.
 pub(super) fn bound<R: Net>(rt: &R, port: u16) -> io::Result<(UdpInbound, UdpLink)> {
-    let socket = UdpSocket::bind(rt, address(port))?;
-    socket.set_read_timeout(Some(Duration::from_millis(PAUSE_MILLIS)))?;
-    let other = socket.try_clone()?;
-    Ok((UdpInbound::new(socket), UdpLink::new(other)))
+    bind_datagrams(rt, address(port), Duration::from_millis(PAUSE_MILLIS))
 }
 
 /// A member of this port in group 7, with number 1 and an empty journal.
