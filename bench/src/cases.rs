@@ -82,19 +82,19 @@ fn newer_pinging() -> Case {
     let (same_texts, mut same) = (texts.clone(), text.clone());
     case(
         "ping with 30 accepted updates to a full ack",
-        Some(2.0),
+        Some(1.35),
         200,
         move |turns, out| proved::newer_ping_turns(&texts, &mut text, turns, out),
         move |turns, out| plain::work::newer_ping_turns(&same_texts, &mut same, turns, out),
     )
 }
 
-fn ticking(name: &str, period: u64, turns: u32) -> Case {
+fn ticking(name: &str, bar: Option<f64>, period: u64, turns: u32) -> Case {
     let texts = before();
     let same = texts.clone();
     case(
         name,
-        None,
+        bar,
         turns,
         move |turns, out| proved::tick_turns(&texts, period, turns, out),
         move |turns, out| plain::work::tick_turns(&same, period, turns, out),
@@ -113,6 +113,37 @@ fn hearing(name: &str, step: u32) -> Case {
     )
 }
 
+/// Picks of 30 while so many wait, whose counts stay below the limit for all the turns.
+fn picking(members: u32, bar: Option<f64>, turns: u32) -> Case {
+    case(
+        &format!("pick of 30, {members} wait"),
+        bar,
+        turns,
+        move |turns, out| proved::pick_turns(members, turns, out),
+        move |turns, out| plain::work::pick_turns(members, turns, out),
+    )
+}
+
+fn offering(members: u32) -> Case {
+    case(
+        &format!("offer, {members} wait"),
+        None,
+        5_000,
+        move |turns, out| proved::offer_turns(members, turns, out),
+        move |turns, out| plain::work::offer_turns(members, turns, out),
+    )
+}
+
+fn removing(members: u32) -> Case {
+    case(
+        &format!("remove and offer, {members} wait"),
+        None,
+        5_000,
+        move |turns, out| proved::removal_turns(members, turns, out),
+        move |turns, out| plain::work::removal_turns(members, turns, out),
+    )
+}
+
 /// All that run in this process.
 pub fn cases() -> Vec<Case> {
     let mut cases: Vec<Case> = [0, 10, 30].map(decoding).into();
@@ -120,8 +151,13 @@ pub fn cases() -> Vec<Case> {
     cases.push(pinging("ping without updates to an ack", 1.5, 0, NUMBER, 3_000));
     cases.push(pinging("ping with 30 kept updates", 2.0, 30, NUMBER, 2_000));
     cases.push(newer_pinging());
-    cases.push(ticking("tick over 256 rows", 1000, 3_000));
-    cases.push(ticking("tick of a probe, 256 rows", 2, 500));
+    cases.push(ticking("tick over 256 rows", None, 1000, 3_000));
+    cases.push(ticking("tick of a probe, 256 rows", Some(0.9), 2, 500));
+    cases.push(picking(10, None, 140));
+    cases.push(picking(100, None, 400));
+    cases.push(picking(257, Some(1.5), 1_200));
+    cases.extend([10, 100, 256].map(offering));
+    cases.extend([10, 100, 257].map(removing));
     cases.push(hearing("one update heard by 256 rows, accepted", 1));
     cases.push(hearing("one update heard by 256 rows, kept", 0));
     cases

@@ -31,6 +31,9 @@ mod exports {
             out: *mut u8,
             room: usize,
         ) -> u64;
+        pub fn swim_bench_picks(members: u32, turns: u32, out: *mut u8, room: usize) -> u64;
+        pub fn swim_bench_offers(members: u32, turns: u32, out: *mut u8, room: usize) -> u64;
+        pub fn swim_bench_removals(members: u32, turns: u32, out: *mut u8, room: usize) -> u64;
         pub fn swim_bench_hear(
             before: *const u8,
             before_len: usize,
@@ -112,4 +115,19 @@ pub fn hear_turns(before: &[u8], step: u32, turns: u32, out: &mut [u8]) -> u64 {
             out.len(),
         )
     }
+}
+
+pub fn pick_turns(members: u32, turns: u32, out: &mut [u8]) -> u64 {
+    // SAFETY: as above.
+    unsafe { exports::swim_bench_picks(members, turns, out.as_mut_ptr(), out.len()) }
+}
+
+pub fn offer_turns(members: u32, turns: u32, out: &mut [u8]) -> u64 {
+    // SAFETY: as above.
+    unsafe { exports::swim_bench_offers(members, turns, out.as_mut_ptr(), out.len()) }
+}
+
+pub fn removal_turns(members: u32, turns: u32, out: &mut [u8]) -> u64 {
+    // SAFETY: as above.
+    unsafe { exports::swim_bench_removals(members, turns, out.as_mut_ptr(), out.len()) }
 }

@@ -2,6 +2,7 @@
 //! straight loops, nothing from the heap but the journal of a shared member. It has the parts of a member that the cases
 //! need, with the same rules.
 
+pub mod buckets;
 pub mod buffer;
 pub mod member;
 pub mod shared;

@@ -1,5 +1,6 @@
 //! The turns of each case, as `crates/swim_bench` has them for the proved crates.
 
+use super::buckets::{BUCKETS_MAX, Buckets};
 use super::member::{Member, Settings};
 use super::table::{Heard, Table};
 use super::wire::{Endpoint, Packet, Update, UpdateKind, decode, encode};
@@ -130,4 +131,77 @@ pub fn hear_turns(before: &[u8], step: u32, turns: u32, out: &mut [u8]) -> u64 {
         part.copy_from_slice(&row.update.number.to_be_bytes());
     }
     accepted
+}
+
+/// The member of this number, from 0 to 256, about whom an update waits.
+fn waiting_member(number: u32) -> Endpoint {
+    Endpoint {
+        address: OTHERS + number % 257,
+        port: PORT,
+    }
+}
+
+/// Lets an update about this member begin to wait.
+fn begin(buckets: &mut Buckets, member: u32, number: u64) {
+    buckets.offer(black_box(Update {
+        kind: UpdateKind::Alive,
+        who: waiting_member(member),
+        number,
+    }));
+}
+
+/// Buckets in which updates about so many members wait.
+fn buckets_of(members: u32) -> Buckets {
+    let mut buckets = Buckets::new();
+    for member in 0..members {
+        begin(&mut buckets, member, 0);
+    }
+    buckets
+}
+
+/// The member of a turn.
+fn member_of(turn: u32, members: u32) -> u32 {
+    turn.wrapping_mul(97) % members
+}
+
+/// Writes what is picked next.
+fn write_next(buckets: &mut Buckets, out: &mut [u8]) {
+    let updates = buckets.pick(BUCKETS_MAX);
+    for (part, update) in out.chunks_exact_mut(16).zip(updates.as_slice()) {
+        part[..8].copy_from_slice(&update.number.to_be_bytes());
+        part[8..].copy_from_slice(&u64::from(update.who.address).to_be_bytes());
+    }
+}
+
+/// Picks in each turn what a datagram carries, and gives how many updates that were.
+pub fn pick_turns(members: u32, turns: u32, out: &mut [u8]) -> u64 {
+    let mut buckets = buckets_of(members);
+    let mut picked = 0;
+    for _ in 0..turns {
+        picked += black_box(buckets.pick(black_box(BUCKETS_MAX))).as_slice().len() as u64;
+    }
+    write_next(&mut buckets, out);
+    picked
+}
+
+/// Offers in each turn an update about a member of whom one waits, and gives how many wait at the end.
+pub fn offer_turns(members: u32, turns: u32, out: &mut [u8]) -> u64 {
+    let mut buckets = buckets_of(members);
+    for turn in 0..turns {
+        begin(&mut buckets, member_of(turn, members), u64::from(turn));
+    }
+    write_next(&mut buckets, out);
+    buckets.len() as u64
+}
+
+/// The same, with the update that waits removed before each offer.
+pub fn removal_turns(members: u32, turns: u32, out: &mut [u8]) -> u64 {
+    let mut buckets = buckets_of(members);
+    for turn in 0..turns {
+        let member = member_of(turn, members);
+        buckets.remove(black_box(waiting_member(member)));
+        begin(&mut buckets, member, u64::from(turn));
+    }
+    write_next(&mut buckets, out);
+    buckets.len() as u64
 }

@@ -4,6 +4,7 @@
 //! A slice crosses as a pointer and a length. `bench/src/plain/work.rs` has the same turns in plain Rust.
 #![tactic(auto)]
 
+mod buffer;
 mod codec;
 mod scene;
 mod steps;

@@ -29,6 +29,11 @@ pub(crate) fn other(number: u32) -> Endpoint {
     endpoint(OTHERS + number % ROWS)
 }
 
+/// The member of this number, from 0 to 256, about whom an update waits.
+pub(crate) fn waiting_member(number: u32) -> Endpoint {
+    endpoint(OTHERS + number % (ROWS + 1))
+}
+
 /// That a text came from the first other.
 pub(crate) fn received(text: &[u8]) -> Event {
     let mut bytes = ArrayVec::new();

@@ -1,7 +1,8 @@
 -- Where an update stands, and the list without it.
-use Rattle.std.proofs.Common.{◌≡◌, ℕ, ◌<◌, ◌≤◌, ◌==◌, Bool, true, false, not, cond, refl, sym, ◌∙◌, ap, List, [], ◌∷◌, length, suc, zero, get_or, arith}
+use Rattle.std.proofs.Common.{◌≡◌, ◌≢◌, ℕ, ◌+◌, ◌<◌, ◌≤◌, ◌==◌, Bool, true, false, not, cond, refl, sym, ◌∙◌, ap, List, [], ◌∷◌, length, drop, suc, zero, get_or, inl, inr, arith}
 use Rattle.std.specs.List.{remove}
-use Rattle.std.proofs.lemmas.Bool.{false≢true, eqb-true, eq-eqb, ne_eqb, or_parts, or_right}
+use Rattle.std.proofs.lemmas.Bool.{cases_Bool, cases_lt, false≢true, eqb-true, eq-eqb, ne_eqb, or_parts, or_right}
+use Rattle.std.proofs.lemmas.List.{drop_more}
 use Rattle.swim_gossip.specs.declared.buffer.Waiting.{Waiting}
 use Rattle.swim_gossip.specs.Queue.{without, place, is_queued, AreApart}
 
@@ -41,3 +42,34 @@ place-at x (w ∷ queue) zero d h l k = rw (eq-eqb w.update.who x k) refl
 place-at x (w ∷ queue) (suc i) d h l k =
     let other : (w.update.who == x) ≡ false = ne_eqb w.update.who x (λ e. false≢true (sym h.0 ∙ ap (λ y. is_queued y queue) e ∙ queued-at x queue i d (omega arith) k)) in
     rw other (ap suc (place-at x queue i d h.1 (omega arith) k))
+
+-- one more that is not about x
+pub place-more : (x : ℕ) (queue : List Waiting) (i : ℕ) (d : Waiting) → i < length queue → ((get_or queue i d).update.who == x) ≡ false → i + place x (drop i queue) ≡ i + 1 + place x (drop (i + 1) queue)
+place-more x queue i d l n =
+    let e : place x (drop i queue) ≡ suc (place x (drop (i + 1) queue)) = ap (place x) (drop_more queue i d l) ∙ rw n refl in
+    omega arith
+
+about-place : (x : ℕ) (queue : List Waiting) (d : Waiting) → place x queue < length queue → (get_or queue (place x queue) d).update.who ≡ x
+about-place x [] d l = absurd (omega arith)
+about-place x (w ∷ queue) d l =
+    elim (cases_Bool (w.update.who == x)) [
+      | inl t ↦ rw t (eqb-true w.update.who x t)
+      | inr n ↦ let m : suc (place x queue) < length (w ∷ queue) = rw n at l in rw n (about-place x queue d (omega arith))
+    ]
+
+place-most : (x : ℕ) (queue : List Waiting) → place x queue ≤ length queue
+place-most x [] = omega arith
+place-most x (w ∷ queue) =
+    elim (cases_Bool (w.update.who == x)) [
+      | inl t ↦ rw t (omega arith)
+      | inr n ↦ let e : place x queue ≤ length queue = place-most x queue in rw n (omega arith)
+    ]
+
+-- where none of the first and none of the last is about x, and these are all
+pub place-absent : (x : ℕ) (queue : List Waiting) (i : ℕ) (d : Waiting) → length queue ≤ i + i → place x queue ≡ i + place x (drop i queue) → ((k : ℕ) → k < length queue → length queue ≤ k + i → (get_or queue k d).update.who ≢ x) → length queue ≡ place x queue
+place-absent x queue i d l e h =
+    let most : place x queue ≤ length queue = place-most x queue in
+    elim (cases_lt (place x queue) (length queue)) [
+      | inl m ↦ absurd (h (place x queue) m (omega arith) (about-place x queue d m))
+      | inr m ↦ omega arith
+    ]

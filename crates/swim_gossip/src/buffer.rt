@@ -1,9 +1,12 @@
 //! The buffer.
 
-ghost use Rattle.std.specs.Prelude.{◌≡◌, ℕ, ◌+◌, ◌<◌, ◌≤◌, ◌==◌, List, [], ◌∷◌, ◌++◌, length, map, take, filter, not, All};
+ghost use Rattle.std.specs.Prelude.{◌≡◌, ℕ, ◌+◌, ◌<◌, ◌≤◌, List, [], ◌∷◌, ◌++◌, length, map};
 ghost use Rattle.swim_wire.specs.Blank.{blank};
-ghost use Rattle.swim_gossip.specs.Queue.{without, offered, sent_times, in_turn, least_count, place, picked, is_about_any, raise, raised, raise_all, update_of, AreApart};
+ghost use Rattle.swim_gossip.specs.Queue.{without, offered, place, picked, raise_all, AreApart};
+ghost use Rattle.swim_gossip.specs.Buckets.{AreWithin};
 
+use crate::buckets::pick_from;
+use crate::visits::Visits;
 use arrayvec::ArrayVec;
 use std::marker::Model;
 use swim_wire::{Endpoint, UPDATES_MAX, Update};
@@ -29,216 +32,176 @@ impl Default for Waiting {
     }
 }
 
+/// The last bucket that a buffer may have: of the updates that were sent so often.
+pub const BUCKETS_MAX: u32 = 144;
+
 /// The updates that wait, at most one about each member and at most `WAITING_MAX`, in the order in
-/// which they began.
+/// which they began. A pick puts them into the buckets 0 to `most` by how often they were sent.
 #[derive(Drop)]
 pub struct Buffer {
     queue: ArrayVec<Waiting, WAITING_MAX>,
+    most: u32,
 }
 
 impl Model for Buffer {
-    ghost use Rattle.std.specs.Prelude.{List};
-    ghost use Rattle.swim_gossip.specs.declared.buffer.Waiting.{Waiting};
-    ghost use Rattle.swim_gossip.specs.Queue.{AreApart};
+    ghost use Rattle.swim_gossip.specs.Queue.{Gossip};
+    ghost use Rattle.swim_gossip.specs.Buckets.{AreKept};
 
-    ghost Value = { List Waiting };
+    ghost Value = { Gossip };
 
-    ghost view = { λ b. b.queue.items };
+    ghost view = { λ b. record { queue = b.queue.items; most = b.most } };
 
-    ghost invariant = { λ b. AreApart b.queue.items };
+    ghost invariant = { λ b. AreKept b.queue.items b.most };
 }
 
 /// Where the update about a member stands, or how many wait. It is looked for from both ends: what
 /// is told anew began to wait mostly long ago or just now.
-fn place_of(queue: &[Waiting], who: Endpoint) -> usize
-    requires { AreApart queue.now }
-    ensures { result ≡ place who queue.now }
+fn place_of(queue: &[Waiting], who: Endpoint, visits: &mut Visits) -> usize
+    requires apart { AreApart queue.now }
+    requires few { length queue.now ≤ 257 }
+    requires begun { visits.old ≡ 0 }
+    ensures place { result ≡ place who queue.now }
+    ensures visits { visits.new ≤ 258 }
 {
-    for i in 0..queue.len() {
+    let half = queue.len() - queue.len() / 2;
+    for i in 0..half {
         if queue[i].update.who == who {
+            visits.look_at(2 * i + 1);
             return i;
         }
         let back = queue.len() - 1 - i;
         if queue[back].update.who == who {
+            visits.look_at(2 * i + 2);
             return back;
         }
     }
+    visits.look_at(2 * half);
     queue.len()
 }
 
-/// Removes the update about a member, if there is one.
-fn remove_about(queue: &mut ArrayVec<Waiting, WAITING_MAX>, who: Endpoint)
-    requires { AreApart queue.old.items }
-    ensures { queue.new.items ≡ without who queue.old.items }
+/// Removes the update about a member, if there is one. Each one behind it moves.
+fn remove_about(queue: &mut ArrayVec<Waiting, WAITING_MAX>, who: Endpoint, visits: &mut Visits)
+    requires apart { AreApart queue.old.items }
+    requires begun { visits.old ≡ 0 }
+    ensures queue { queue.new.items ≡ without who queue.old.items }
+    ensures visits { visits.new ≤ 515 }
 {
-    let place = place_of(queue, who);
+    let place = place_of(queue, who, visits);
     if place < queue.len() {
+        visits.look_at(queue.len() - place);
         queue.remove(place);
     }
 }
 
 /// Puts an update at the end, in the place of the one about the same member.
-fn offer_in(queue: &mut ArrayVec<Waiting, WAITING_MAX>, update: Update)
+fn offer_in(queue: &mut ArrayVec<Waiting, WAITING_MAX>, update: Update, visits: &mut Visits)
     requires apart { AreApart queue.old.items }
     requires room { length (without update.who queue.old.items) < 257 }
-    ensures { queue.new.items ≡ offered queue.old.items update }
+    requires begun { visits.old ≡ 0 }
+    ensures queue { queue.new.items ≡ offered queue.old.items update }
+    ensures visits { visits.new ≤ 516 }
 {
-    remove_about(queue, update.who);
+    remove_about(queue, update.who, visits);
+    visits.look();
     queue.push(Waiting { update, count: 0 });
 }
 
-/// Adds those that were sent so many times, as long as there is room.
-fn pick_count(
-    queue: &[Waiting],
-    count: u32,
-    room: usize,
-    picked: &mut ArrayVec<Update, UPDATES_MAX>,
-)
-    requires small { room ≤ 30 }
-    requires begun { length picked.old.items ≤ room }
-    ensures { picked.new.items ≡ take room (picked.old.items ++ map update_of (sent_times count queue.now)) }
-{
-    for waiting in queue {
-        if waiting.count == count && picked.len() < room {
-            picked.push(waiting.update);
-        }
-    }
-}
-
-/// The least count from `from` on, below `limit`, of an update that waits, or else `limit`.
-fn next_count(queue: &[Waiting], from: u32, limit: u32) -> u32
-    ensures { result ≡ least_count from limit queue.now }
-{
-    let mut least = limit;
-    for waiting in queue {
-        if from <= waiting.count && waiting.count < least {
-            least = waiting.count;
-        }
-    }
-    least
-}
-
-/// Puts the first of those that were sent fewer than `limit` times into an empty list, and gives a
-/// count below which all of them are. Only the counts that some update has are looked for, and none
-/// once there is no more room.
-fn pick_from(
-    queue: &[Waiting],
-    limit: u32,
-    room: usize,
-    updates: &mut ArrayVec<Update, UPDATES_MAX>,
-) -> u32
-    requires room { room ≤ 30 }
-    requires empty { updates.old.items ≡ [] }
-    ensures picked { updates.new.items ≡ picked limit room queue.now }
-    ensures below { picked limit room queue.now ≡ picked result room queue.now }
-{
-    let mut count = next_count(queue, 0, limit);
-    while count < limit && updates.len() < room {
-        pick_count(queue, count, room, updates);
-        count += 1;
-        if updates.len() < room {
-            count = next_count(queue, count, limit);
-        }
-    }
-    count
-}
-
-/// Whether an update about this member is among them.
-fn is_about(updates: &[Update], who: Endpoint) -> bool
-    ensures { result ≡ is_about_any who updates.now }
-{
-    for update in updates {
-        if update.who == who {
-            return true;
-        }
-    }
-    false
-}
-
-/// Counts one more send, where it is one of these updates.
-fn raise_one(waiting: &mut Waiting, limit: u32, sent: &[Update])
-    ensures { waiting.new ≡ raise limit sent.now waiting.old }
-{
-    if waiting.count < limit && is_about(sent, waiting.update.who) {
-        waiting.count += 1;
-    }
-}
-
-/// Counts one more send of each of these updates.
-fn raise_counts(queue: &mut [Waiting], limit: u32, sent: &[Update])
-    ensures { queue.new ≡ raised limit sent.now queue.old }
-{
-    if sent.is_empty() {
-        return;
-    }
-    for waiting in queue.iter_mut() {
-        raise_one(waiting, limit, sent);
-    }
-}
-
-/// Gives the updates that the next datagram carries, and counts the send of each.
+/// Puts the updates that the next datagram carries into an empty list, and counts the send of each.
 fn pick_in(
     queue: &mut ArrayVec<Waiting, WAITING_MAX>,
     limit: u32,
     room: usize,
-) -> ArrayVec<Update, UPDATES_MAX>
+    updates: &mut ArrayVec<Update, UPDATES_MAX>,
+    visits: &mut Visits,
+)
     requires room { room ≤ 30 }
     requires apart { AreApart queue.old.items }
-    ensures picked { result.items ≡ picked limit room queue.old.items }
+    requires counts { AreWithin 144 queue.old.items }
+    requires limit { limit ≤ 144 }
+    requires empty { updates.old.items ≡ [] }
+    requires begun { visits.old ≡ 0 }
+    ensures picked { updates.new.items ≡ picked limit room queue.old.items }
     ensures counted { queue.new.items ≡ map (raise_all (picked limit room queue.old.items)) queue.old.items }
+    ensures visits { visits.new ≤ 748 }
 {
-    let mut picked = ArrayVec::new();
-    let below = pick_from(queue, limit, room, &mut picked);
-    raise_counts(queue, below, &picked);
-    picked
+    pick_from(queue, limit, room, updates, visits);
 }
 
 impl Buffer {
-    /// A buffer in which nothing waits.
-    pub fn new() -> Buffer
-        ensures { result ≡ [] }
+    /// A buffer in which nothing waits, with the buckets 0 to `most`.
+    pub fn new(most: u32) -> Buffer
+        requires { most ≤ 144 }
+        ensures { result ≡ record { queue = []; most = most } }
     {
         Buffer {
             queue: ArrayVec::new(),
+            most,
         }
     }
 
     /// How many updates stand in the buffer.
     pub fn len(&self) -> usize
-        ensures len { result ≡ length self.now }
+        ensures len { result ≡ length self.now.queue }
         ensures bound { result ≤ 257 }
-        ensures kept { AreApart self.now }
+        ensures kept { AreApart self.now.queue }
     {
         self.queue.len()
     }
 
+    /// The last of its buckets.
+    pub fn most(&self) -> u32
+        ensures { result ≡ self.now.most }
+    {
+        self.most
+    }
+
     /// Lets an update begin to wait, in the place of the one about the same member, for which there
     /// is always room; about another member there must be room for one more.
-    pub fn offer(&mut self, update: Update)
-        requires { length (without update.who self.old) < 257 }
-        ensures queue { self.new ≡ offered self.old update }
-        ensures kept { AreApart self.new }
+    pub fn offer(&mut self, update: Update, visits: &mut Visits)
+        requires room { length (without update.who self.old.queue) < 257 }
+        requires begun { visits.old ≡ 0 }
+        ensures queue { self.new ≡ record self.old { queue = offered self.old.queue update } }
+        ensures kept { AreApart self.new.queue }
+        ensures visits { visits.new ≤ 1000 }
     {
-        offer_in(&mut self.queue, update);
+        offer_in(&mut self.queue, update, visits);
     }
 
     /// Takes out the update about a member, if there is one.
-    pub fn remove(&mut self, who: Endpoint)
-        ensures queue { self.new ≡ without who self.old }
-        ensures kept { AreApart self.new }
+    pub fn remove(&mut self, who: Endpoint, visits: &mut Visits)
+        requires begun { visits.old ≡ 0 }
+        ensures queue { self.new ≡ record self.old { queue = without who self.old.queue } }
+        ensures kept { AreApart self.new.queue }
+        ensures visits { visits.new ≤ 1000 }
     {
-        remove_about(&mut self.queue, who);
+        remove_about(&mut self.queue, who, visits);
     }
 
     /// Gives the updates that the next datagram carries, at most `room`, and counts the send of each.
     /// They are the first of those that were sent fewer than `limit` times, by how often they were
     /// sent, and then in the order in which they began to wait.
-    pub fn pick(&mut self, limit: u32, room: usize) -> ArrayVec<Update, UPDATES_MAX>
-        requires { room ≤ 30 }
-        ensures picked { result.items ≡ picked limit room self.old }
-        ensures counted { self.new ≡ map (raise_all (picked limit room self.old)) self.old }
-        ensures kept { AreApart self.new }
+    pub fn pick(
+        &mut self,
+        limit: u32,
+        room: usize,
+        visits: &mut Visits,
+    ) -> ArrayVec<Update, UPDATES_MAX>
+        requires room { room ≤ 30 }
+        requires limit { limit ≤ self.old.most }
+        requires begun { visits.old ≡ 0 }
+        ensures picked { result.items ≡ picked limit room self.old.queue }
+        ensures counted { self.new
+            ≡ record self.old {
+              queue = map (raise_all (picked limit room self.old.queue)) self.old.queue;
+            } }
+        ensures kept { AreApart self.new.queue }
+        ensures visits { visits.new ≤ 1000 }
     {
-        pick_in(&mut self.queue, limit, room)
+        let mut updates = ArrayVec::new();
+        pick_in(&mut self.queue, limit, room, &mut updates, visits);
+        updates
     }
 }
+
+#[cfg(test)]
+mod drawn;

@@ -1,11 +1,12 @@
 //! The worked rows, as calls of a buffer. The expected updates were written by hand.
 
 use super::*;
+use arrayvec::ArrayVec;
 use std::process::Abort;
 use swim_wire::{Endpoint, UPDATES_MAX, Update, UpdateKind};
 
 /// An update about 10.0.0.0 plus `last`, at port 7000.
-fn update(kind: UpdateKind, last: u16, number: u64) -> Update {
+pub(crate) fn update(kind: UpdateKind, last: u16, number: u64) -> Update {
     let who = Endpoint::new(0x0a00_0000 + last as u32, 7000).unwrap();
     Update { kind, who, number }
 }
@@ -17,14 +18,28 @@ fn alive(last: u16) -> Update {
 }
 
 /// Lets an update begin to wait, where there is room for one more.
-fn begin(rt: &impl Abort, buffer: &mut Buffer, update: Update) {
+pub(crate) fn begin(rt: &impl Abort, buffer: &mut Buffer, update: Update) {
     assert!(rt; buffer.len() < WAITING_MAX);
-    buffer.offer(update);
+    buffer.offer(update, &mut Visits::new());
+}
+
+/// Gives what is picked, with a last bucket that is high enough, and few looks.
+pub(crate) fn pick(
+    rt: &impl Abort,
+    buffer: &mut Buffer,
+    limit: u32,
+    room: usize,
+) -> ArrayVec<Update, UPDATES_MAX> {
+    assert!(rt; room <= UPDATES_MAX && limit <= buffer.most());
+    let mut visits = Visits::new();
+    let updates = buffer.pick(limit, room, &mut visits);
+    assert!(rt; visits.made() <= 748);
+    updates
 }
 
 /// A buffer with these updates, which began to wait in this order.
 fn waiting(rt: &impl Abort, updates: &[Update]) -> Buffer {
-    let mut buffer = Buffer::new();
+    let mut buffer = Buffer::new(BUCKETS_MAX);
     for update in updates {
         begin(rt, &mut buffer, *update);
     }
@@ -64,7 +79,7 @@ fn ten_pings(rt: HostRuntime) {
         if let Some((kind, number)) = heard {
             begin(&rt, &mut buffer, update(kind, 3, number));
         }
-        let picked = buffer.pick(limit, UPDATES_MAX);
+        let picked = pick(&rt, &mut buffer, limit, UPDATES_MAX);
         assert!(rt; picked.len() <= 2);
         assert_eq!(rt; [at(&picked, 0), at(&picked, 1)], wanted);
     }
@@ -77,8 +92,8 @@ fn thirty_updates(rt: HostRuntime) {
         begin(&rt, &mut buffer, alive(last));
     }
     assert_eq!(rt; buffer.len(), 31);
-    let first = buffer.pick(10, UPDATES_MAX);
-    let second = buffer.pick(10, UPDATES_MAX);
+    let first = pick(&rt, &mut buffer, 10, UPDATES_MAX);
+    let second = pick(&rt, &mut buffer, 10, UPDATES_MAX);
     let mut last = 256u16;
     for update in first.as_slice() {
         let wanted = if last == 256 { alive(1) } else { alive(last) };
@@ -94,13 +109,16 @@ fn thirty_updates(rt: HostRuntime) {
 #[test]
 fn removed(rt: HostRuntime) {
     let mut buffer = waiting(&rt, &[alive(1), alive(3), alive(4)]);
-    buffer.remove(alive(3).who);
-    buffer.remove(alive(3).who);
+    buffer.remove(alive(3).who, &mut Visits::new());
+    buffer.remove(alive(3).who, &mut Visits::new());
     assert_eq!(rt; buffer.len(), 2);
-    assert_eq!(rt; buffer.pick(9, 0).len(), 0);
-    assert_eq!(rt; buffer.pick(9, 1).as_slice(), [alive(1)].as_slice());
+    assert_eq!(rt; pick(&rt, &mut buffer, 9, 0).len(), 0);
     assert_eq!(rt;
-        buffer.pick(9, 30).as_slice(),
+        pick(&rt, &mut buffer, 9, 1).as_slice(),
+        [alive(1)].as_slice()
+    );
+    assert_eq!(rt;
+        pick(&rt, &mut buffer, 9, 30).as_slice(),
         [alive(4), alive(1)].as_slice()
     );
 }

@@ -12,7 +12,7 @@ use Rattle.swim_rules.specs.Rules.{beats}
 use Rattle.swim_rules.specs.Rows.{Members, IsTable, AreInOrder, answer_to, heard_as, rows_after, hear_rows, put_row, remove_row, row_of, is_due, is_kind, confirmed, expired, forgotten, heard_row, remove_option}
 use Rattle.swim_rules.proofs.Changes.{found_here, found_other, hear-found}
 use Rattle.swim_gossip.specs.declared.buffer.Waiting.{Waiting}
-use Rattle.swim_gossip.specs.Queue.{offered, without, raise_all}
+use Rattle.swim_gossip.specs.Queue.{Gossip, offered, without, raise_all}
 use Rattle.swim_member.specs.declared.settings.Settings.{Settings}
 use Rattle.swim_member.specs.declared.state.Relay.{Relay}
 use Rattle.swim_member.specs.State.{State}
@@ -24,23 +24,23 @@ use Rattle.swim_member.specs.Kept.{AllWait, IsKept, is_row}
 use Rattle.swim_member.proofs.Waits.{wait-put, wait-own, wait-room, wait-forgotten, wait-raised}
 
 -- another queue in which all wait
-pub keep-queue : (s : Settings) (n t : ℕ) (members : Members) (q p : List Waiting) (made : List Relay) → IsKept s n t members q made → AllWait s.me members.rows p → list_all (may_wait s.me n) p ≡ true → IsKept s n t members p made
-keep-queue s n t members q p made h w low = record { me = h.me; suspect = h.suspect; forget = h.forget; sound = h.sound; table = h.table; wait = w; number = h.number; time = h.time; stand = h.stand; say = low; live = h.live }
+pub keep-queue : (s : Settings) (n t : ℕ) (members : Members) (b : Gossip) (p : List Waiting) (made : List Relay) → IsKept s n t members b made → AllWait s.me members.rows p → list_all (may_wait s.me n) p ≡ true → IsKept s n t members (record b { queue = p }) made
+keep-queue s n t members b p made h w low = record { me = h.me; suspect = h.suspect; forget = h.forget; sound = h.sound; table = h.table; wait = w; most = h.most; number = h.number; time = h.time; stand = h.stand; say = low; live = h.live }
 
 -- the own update begins to wait, with the own number as it then is
-pub keep-own : (s : Settings) (n m t : ℕ) (members : Members) (q : List Waiting) (made : List Relay) (u : Update) → u.who ≡ s.me → u.number ≡ m → m ≤ 2 ^ 62 → IsKept s n t members q made → IsKept s m t members (offered q u) made
-keep-own s n m t members q made u e same l h = record { me = h.me; suspect = h.suspect; forget = h.forget; sound = h.sound; table = h.table; wait = wait-own s.me members.rows q u e h.wait; number = l; time = h.time; stand = h.stand; say = say-spoken s.me n m q u e same l h.say; live = h.live }
+pub keep-own : (s : Settings) (n m t : ℕ) (members : Members) (b : Gossip) (made : List Relay) (u : Update) → u.who ≡ s.me → u.number ≡ m → m ≤ 2 ^ 62 → IsKept s n t members b made → IsKept s m t members (record b { queue = offered b.queue u }) made
+keep-own s n m t members b made u e same l h = record { me = h.me; suspect = h.suspect; forget = h.forget; sound = h.sound; table = h.table; wait = wait-own s.me members.rows b.queue u e h.wait; most = h.most; number = l; time = h.time; stand = h.stand; say = say-spoken s.me n m b.queue u e same l h.say; live = h.live }
 
-pub room-own : (s : Settings) (n t : ℕ) (members : Members) (q : List Waiting) (made : List Relay) (u : Update) → u.who ≡ s.me → IsKept s n t members q made → length (without u.who q) < 257
-room-own s n t members q made u e h = wait-room s.me members.rows q u (wait-own s.me members.rows q u e h.wait) h.table.most
+pub room-own : (s : Settings) (n t : ℕ) (members : Members) (b : Gossip) (made : List Relay) (u : Update) → u.who ≡ s.me → IsKept s n t members b made → length (without u.who b.queue) < 257
+room-own s n t members b made u e h = wait-room s.me members.rows b.queue u (wait-own s.me members.rows b.queue u e h.wait) h.table.most
 
 -- sends are counted
-pub keep-raised : (s : Settings) (n t : ℕ) (members : Members) (q : List Waiting) (made : List Relay) (sent : List Update) → IsKept s n t members q made → IsKept s n t members (map (raise_all sent) q) made
-keep-raised s n t members q made sent h = keep-queue s n t members q (map (raise_all sent) q) made h (wait-raised s.me members.rows q sent h.wait) (all-raised (may_say s.me n) sent q h.say)
+pub keep-raised : (s : Settings) (n t : ℕ) (members : Members) (b : Gossip) (made : List Relay) (sent : List Update) → IsKept s n t members b made → IsKept s n t members (record b { queue = map (raise_all sent) b.queue }) made
+keep-raised s n t members b made sent h = keep-queue s n t members b (map (raise_all sent) b.queue) made h (wait-raised s.me members.rows b.queue sent h.wait) (all-raised (may_say s.me n) sent b.queue h.say)
 
 -- an update is accepted
-pub keep-heard : (s : Settings) (n t : ℕ) (members after : Members) (q : List Waiting) (made : List Relay) (u : Update) (now : ℕ) → u.who ≢ s.me → u.number ≤ 2 ^ 62 → answer_to members.rows u ≡ Accepted → after ≡ record members { rows = hear_rows members.rows u now } → IsTable after → IsKept s n t members q made → IsKept s n t after (offered q u) made
-keep-heard s n t members after q made u now other l e k table h =
+pub keep-heard : (s : Settings) (n t : ℕ) (members after : Members) (b : Gossip) (made : List Relay) (u : Update) (now : ℕ) → u.who ≢ s.me → u.number ≤ 2 ^ 62 → answer_to members.rows u ≡ Accepted → after ≡ record members { rows = hear_rows members.rows u now } → IsTable after → IsKept s n t members b made → IsKept s n t after (record b { queue = offered b.queue u }) made
+keep-heard s n t members after b made u now other l e k table h =
     let rows : after.rows ≡ put_row members.rows (record { update = u; since = now }) =
     ap (λ (m : Members). m.rows) k ∙ ap (λ a. rows_after a members.rows (record { update = u; since = now })) e in
     let me : after.me ≡ s.me = ap (λ (m : Members). m.me) k ∙ h.me in
@@ -52,17 +52,18 @@ keep-heard s n t members after q made u now other l e k table h =
       forget = forget;
       sound = h.sound;
       table = table;
-      wait = rw rows (wait-put s.me members.rows q u now h.table.order other h.wait);
+      wait = rw rows (wait-put s.me members.rows b.queue u now h.table.order other h.wait);
+      most = h.most;
       number = h.number;
       time = h.time;
       stand = rw rows (stand-put s.me members.rows (record { update = u; since = now }) other l h.stand);
-      say = say-offered s.me n q u other l h.say;
+      say = say-offered s.me n b.queue u other l h.say;
       live = h.live;
     }
 
-pub room-heard : (s : Settings) (n t : ℕ) (members after : Members) (q : List Waiting) (made : List Relay) (u : Update) (now : ℕ) → u.who ≢ s.me → u.number ≤ 2 ^ 62 → answer_to members.rows u ≡ Accepted → after ≡ record members { rows = hear_rows members.rows u now } → IsTable after → IsKept s n t members q made → length (without u.who q) < 257
-room-heard s n t members after q made u now other l e k table h =
-    wait-room s.me after.rows q u (IsKept.wait (keep-heard s n t members after q made u now other l e k table h)) table.most
+pub room-heard : (s : Settings) (n t : ℕ) (members after : Members) (b : Gossip) (made : List Relay) (u : Update) (now : ℕ) → u.who ≢ s.me → u.number ≤ 2 ^ 62 → answer_to members.rows u ≡ Accepted → after ≡ record members { rows = hear_rows members.rows u now } → IsTable after → IsKept s n t members b made → length (without u.who b.queue) < 257
+room-heard s n t members after b made u now other l e k table h =
+    wait-room s.me after.rows b.queue u (IsKept.wait (keep-heard s n t members after b made u now other l e k table h)) table.most
 
 -- what a search finds passes its test
 pub find-passes : (test : Row → Bool) (rows : List Row) (r : Row) → find test rows ≡ Some r → test r ≡ true
@@ -148,8 +149,8 @@ forgotten-row members now x e = by_row (find (is_due Confirm members.forget now)
     by_row None f k = absurd (cc)
     by_row (Some r) f k = record { row = r; found = f; name = cc }
 
-pub keep-forgotten : (s : Settings) (n t : ℕ) (members after : Members) (q : List Waiting) (made : List Relay) (now x : ℕ) → forgotten members now ≡ Some x → after ≡ record members { rows = remove_option members.rows (forgotten members now) } → IsTable after → IsKept s n t members q made → IsKept s n t after (without x q) made
-keep-forgotten s n t members after q made now x e k table h =
+pub keep-forgotten : (s : Settings) (n t : ℕ) (members after : Members) (b : Gossip) (made : List Relay) (now x : ℕ) → forgotten members now ≡ Some x → after ≡ record members { rows = remove_option members.rows (forgotten members now) } → IsTable after → IsKept s n t members b made → IsKept s n t after (record b { queue = without x b.queue }) made
+keep-forgotten s n t members after b made now x e k table h =
     let f : ForgottenRow members now x = forgotten-row members now x e in
     let rows : after.rows ≡ remove_row members.rows x = ap (λ (m : Members). m.rows) k ∙ ap (remove_option members.rows) e in
     let there : row_of members.rows x ≡ Some f.row = ap (row_of members.rows) (sym f.name) ∙ found_here (is_due Confirm members.forget now) members.rows f.row h.table.order f.found in
@@ -162,16 +163,17 @@ keep-forgotten s n t members after q made now x e k table h =
       forget = forget;
       sound = h.sound;
       table = table;
-      wait = rw rows (wait-forgotten s.me members.rows q x h.table.order
+      wait = rw rows (wait-forgotten s.me members.rows b.queue x h.table.order
           (λ i. found_other (is_due Confirm members.forget now) members.me members.rows f.row f.found h.table.others (f.name ∙ i ∙ sym h.me))
           (ap is_row there) h.wait);
+      most = h.most;
       number = h.number;
       time = h.time;
       stand = rw rows (stand-remove s.me members.rows x h.stand);
-      say = all-without (may_say s.me n) x q h.say;
+      say = all-without (may_say s.me n) x b.queue h.say;
       live = h.live;
     }
 
 -- other relays, all of them live at this time
-pub keep-made : (s : Settings) (n t now : ℕ) (members : Members) (q : List Waiting) (made left : List Relay) → now ≤ 2 ^ 62 → filter (is_live now s.period) left ≡ left → IsKept s n t members q made → IsKept s n now members q left
-keep-made s n t now members q made left l live h = record { me = h.me; suspect = h.suspect; forget = h.forget; sound = h.sound; table = h.table; wait = h.wait; number = h.number; time = l; stand = h.stand; say = h.say; live = live }
+pub keep-made : (s : Settings) (n t now : ℕ) (members : Members) (b : Gossip) (made left : List Relay) → now ≤ 2 ^ 62 → filter (is_live now s.period) left ≡ left → IsKept s n t members b made → IsKept s n now members b left
+keep-made s n t now members b made left l live h = record { me = h.me; suspect = h.suspect; forget = h.forget; sound = h.sound; table = h.table; wait = h.wait; most = h.most; number = h.number; time = l; stand = h.stand; say = h.say; live = live }

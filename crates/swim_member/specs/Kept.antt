@@ -1,9 +1,9 @@
 -- What holds of a member at all times.
-use Rattle.std.specs.Prelude.{◌≡◌, ℕ, ◌+◌, ◌^◌, ◌≤◌, ◌==◌, ◌||◌, List, length, Option, Some, None, Bool, true, false}
+use Rattle.std.specs.Prelude.{◌≡◌, ℕ, ◌+◌, ◌*◌, ◌^◌, ◌≤◌, ◌==◌, ◌||◌, List, length, Option, Some, None, Bool, true, false}
 use Rattle.swim_rules.specs.declared.table.Row.{Row}
 use Rattle.swim_rules.specs.Rows.{Members, IsTable, row_of}
 use Rattle.swim_gossip.specs.declared.buffer.Waiting.{Waiting}
-use Rattle.swim_gossip.specs.Queue.{AreApart, is_queued}
+use Rattle.swim_gossip.specs.Queue.{Gossip, AreApart, is_queued}
 use Rattle.swim_member.specs.declared.settings.Settings.{Settings}
 use Rattle.std.specs.List.{filter, list_all}
 use Rattle.swim_member.specs.declared.state.Relay.{Relay}
@@ -22,15 +22,16 @@ pub record AllWait (me : ℕ) (rows : List Row) (queue : List Waiting) : Type 0 
   pub count : length queue ≡ length rows + 1
 
 -- the own number is n, the time t
-pub record IsKept (s : Settings) (n t : ℕ) (members : Members) (q : List Waiting) (made : List Relay) : Type 0 where
+pub record IsKept (s : Settings) (n t : ℕ) (members : Members) (b : Gossip) (made : List Relay) : Type 0 where
   pub me : members.me ≡ s.me
   pub suspect : members.suspect ≡ s.suspect
   pub forget : members.forget ≡ s.forget
   pub sound : AreSound s
   pub table : IsTable members
-  pub wait : AllWait s.me members.rows q
+  pub wait : AllWait s.me members.rows b.queue
+  pub most : b.most ≡ s.lambda * 9  -- the last bucket
   pub number : n ≤ 2 ^ 62
   pub time : t ≤ 2 ^ 62
   pub stand : list_all (may_stand s.me) members.rows ≡ true
-  pub say : list_all (may_wait s.me n) q ≡ true
+  pub say : list_all (may_wait s.me n) b.queue ≡ true
   pub live : filter (is_live t s.period) made ≡ made  -- no relay is older than a period

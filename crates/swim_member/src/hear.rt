@@ -9,6 +9,7 @@ use crate::answer::NOTES_MAX;
 use crate::member::Member;
 use crate::note::Note;
 use arrayvec::ArrayVec;
+use swim_gossip::Visits;
 use swim_rules::Heard;
 use swim_wire::{LEAP, NUMBER_MAX, Update, UpdateKind};
 
@@ -23,7 +24,7 @@ impl Member {
         let now = self.time;
         match self.table.hear(*update, now) {
             Heard::Accepted => {
-                self.buffer.offer(*update);
+                self.buffer.offer(*update, &mut Visits::new());
                 None
             }
             Heard::Full => Some(Note::TableFull),

@@ -9,6 +9,7 @@ ghost use Rattle.swim_member.specs.Steps.{apply_all};
 use crate::member::Member;
 use crate::note::Note;
 use crate::state::Phase;
+use swim_gossip::Visits;
 use swim_wire::{Endpoint, LEAP, NUMBER_MAX, Update, UpdateKind};
 
 /// The number that an update asks for, or 0.
@@ -59,11 +60,12 @@ impl Member {
         ensures { self.new ≡ record self.old { number = number; queue = offered self.old.queue (own_with self.old kind number) } }
     {
         self.number = number;
-        self.buffer.offer(Update {
+        let own = Update {
             kind,
             who: self.settings.me,
             number,
-        });
+        };
+        self.buffer.offer(own, &mut Visits::new());
     }
 
     /// Settles the own number after the updates of a datagram.

@@ -13,6 +13,7 @@ ghost use Rattle.swim_member.specs.Steps.{apply};
 use crate::answer::Out;
 use crate::member::Member;
 use arrayvec::ArrayVec;
+use swim_gossip::Visits;
 use swim_wire::{Cursor, Datagram, Endpoint, Kind, UPDATES_MAX, Update};
 
 /// The number of binary digits of `n`.
@@ -45,7 +46,8 @@ fn bits_of(n: usize) -> u32
 impl Member {
     /// How often an update is sent.
     fn limit(&self) -> u32
-        ensures { result ≡ limit self.now }
+        ensures value { result ≡ limit self.now }
+        ensures bound { result ≤ self.now.settings.lambda * 9 }
     {
         self.settings.lambda * bits_of(1 + self.table.count())
     }
@@ -57,7 +59,7 @@ impl Member {
         ensures state { self.new ≡ record self.old { queue = map (raise_all (carried self.old)) self.old.queue } }
     {
         let limit = self.limit();
-        self.buffer.pick(limit, UPDATES_MAX)
+        self.buffer.pick(limit, UPDATES_MAX, &mut Visits::new())
     }
 
     /// Takes the next sequence.

@@ -12,6 +12,7 @@ use crate::answer::{Answer, Out, note_down, send_out};
 use crate::member::Member;
 use crate::note::Note;
 use crate::state::Probe;
+use swim_gossip::Visits;
 use swim_rules::{ROWS_MAX, Row};
 use swim_wire::{Endpoint, Kind, Update, UpdateKind};
 
@@ -57,7 +58,7 @@ impl Member {
         match self.table.expire(now) {
             None => false,
             Some(update) => {
-                self.buffer.offer(update);
+                self.buffer.offer(update, &mut Visits::new());
                 true
             }
         }
@@ -72,7 +73,7 @@ impl Member {
         match self.table.forget(now) {
             None => false,
             Some(who) => {
-                self.buffer.remove(who);
+                self.buffer.remove(who, &mut Visits::new());
                 true
             }
         }

@@ -7,8 +7,8 @@ use Rattle.swim_member.proofs.member.Member.carry.Goals as goal
 pub invariant_of-self : goal.invariant_of-self
 invariant_of-self c =
     rw c.pick.ensures.counted (keep-raised c.self.inside.settings c.self.inside.number c.self.inside.time c.self.inside.table c.self.inside.buffer c.self.inside.relays.items
-    (picked c.limit-limit.result 30 c.self.inside.buffer) c.self.invariant)
+    (picked c.limit-limit.result 30 c.self.inside.buffer.queue) c.self.invariant)
 
 pub returns-clause-said : goal.returns-clause-said
 returns-clause-said c =
-    rw c.pick.ensures.picked (all-picked (may_say c.self.inside.settings.me c.self.inside.number) c.limit-limit.result 30 c.self.inside.buffer c.self.invariant.say)
+    rw c.pick.ensures.picked (all-picked (may_say c.self.inside.settings.me c.self.inside.number) c.limit-limit.result 30 c.self.inside.buffer.queue c.self.invariant.say)

@@ -1,5 +1,6 @@
 use Rattle.std.proofs.Common.{◌≡◌, ap, sym, ◌∙◌, refl, Some}
 use Rattle.swim_rules.specs.Rows.{Members, expired, hear_option}
+use Rattle.swim_gossip.specs.Queue.{Gossip}
 use Rattle.swim_member.specs.contracts.member.Member.{the_view}
 use Rattle.swim_member.specs.State.{State}
 use Rattle.swim_member.specs.Events.{perform, Expire}
@@ -7,8 +8,8 @@ use Rattle.swim_member.specs.Steps.{apply_all}
 use Rattle.swim_member.proofs.Keeping.{keep-heard, room-heard, expired-accepted, expired-other, expired-low, expired-state}
 use Rattle.swim_member.proofs.member.Member.expire_one.Goals as goal
 
-pub offer-requires : goal.offer-requires
-offer-requires c =
+pub offer-requires-clause-room : goal.offer-requires-clause-room
+offer-requires-clause-room c =
     let due : expired c.self.inside.table c.self.inside.time ≡ Some c.in-Some.update = sym c.expire.ensures.answer ∙ c.in-Some.is in
     room-heard c.self.inside.settings c.self.inside.number c.self.inside.time c.self.inside.table c.expire.new.self c.self.inside.buffer c.self.inside.relays.items c.in-Some.update c.self.inside.time
     (λ e. expired-other c.self.inside.table c.self.inside.time c.in-Some.update c.self.invariant.table due (e ∙ sym c.self.invariant.me))
@@ -30,7 +31,7 @@ invariant_of-self-in-Some c =
 pub returns-in-Some-clause-state : goal.returns-in-Some-clause-state
 returns-in-Some-clause-state c =
     let due : expired c.self.inside.table c.self.inside.time ≡ Some c.in-Some.update = sym c.expire.ensures.answer ∙ c.in-Some.is in
-    expired-state (the_view c.self.inside) c.self.inside.table c.expire.new.self c.offer.new.self c.in-Some.update refl c.self.invariant.suspect c.self.invariant.table due
+    expired-state (the_view c.self.inside) c.self.inside.table c.expire.new.self c.offer.new.self.queue c.in-Some.update refl c.self.invariant.suspect c.self.invariant.table due
     (ap (λ (m : Members). m.rows) c.expire.ensures.rows ∙ ap (λ o. hear_option c.self.inside.table.rows o c.self.inside.time) due)
-    c.offer.ensures.queue
+    (ap (λ (b : Gossip). b.queue) c.offer.ensures.queue)
     ∙ ap (λ (s : State). apply_all (perform s Expire) s) c.self.view_is

@@ -1,0 +1,189 @@
+//! The buckets: for each count of sends the places of the updates that were sent so often, linked
+//! one to the next in the order in which the updates began to wait. Each function of this file
+//! counts what it looks at: updates, heads of buckets and links.
+
+ghost use Rattle.std.specs.Prelude.{◌≡◌, ℕ, ◌+◌, ◌<◌, ◌≤◌, List, [], ◌++◌, length, map, take, slice_index_or, All};
+ghost use Rattle.swim_gossip.specs.Queue.{picked, raise_all, AreApart};
+ghost use Rattle.swim_gossip.specs.Buckets.{at, below, spots, runs, raised_at, AreChains, IsChain, AreWithin};
+
+use crate::buffer::{BUCKETS_MAX, WAITING_MAX, Waiting};
+use crate::visits::Visits;
+use arrayvec::ArrayVec;
+use swim_wire::{UPDATES_MAX, Update};
+
+/// The end of each bucket, and the head of an empty one: no place.
+const END: u16 = WAITING_MAX as u16;
+
+/// Links the places of each bucket below `limit`, from the last place on, and gives how many they
+/// are. What is linked later stands before, so that each bucket is in the order of beginning.
+fn link_all(
+    queue: &[Waiting],
+    limit: u32,
+    heads: &mut [u16],
+    links: &mut [u16],
+    visits: &mut Visits,
+) -> usize
+    requires few { length queue.now ≤ 257 }
+    requires limit { limit ≤ 144 }
+    requires heads { length heads.old ≡ 145 }
+    requires links { length links.old ≡ 257 }
+    requires none { (c : ℕ) → slice_index_or heads.old c 257 ≡ 257 }
+    requires begun { visits.old ≡ 0 }
+    ensures count { result ≡ below limit queue.now }
+    ensures chains { AreChains limit queue.now heads.new links.new }
+    ensures visits { visits.new ≤ 514 }
+{
+    // Each update and its bucket's head. A loop that counts them one by one takes twice the time.
+    visits.look_at(2 * queue.len());
+    let mut linked = 0;
+    for i in 0..queue.len() {
+        let place = queue.len() - 1 - i;
+        let count = queue[place].count;
+        if count < limit {
+            links[place] = heads[count as usize];
+            heads[count as usize] = place as u16;
+            linked += 1;
+        }
+    }
+    linked
+}
+
+/// Takes the places of a bucket, as long as there is room.
+fn take_bucket(
+    queue: &[Waiting],
+    heads: &[u16],
+    links: &[u16],
+    count: u32,
+    room: usize,
+    places: &mut ArrayVec<u16, UPDATES_MAX>,
+    visits: &mut Visits,
+)
+    requires few { length queue.now ≤ 257 }
+    requires heads { length heads.now ≡ 145 }
+    requires links { length links.now ≡ 257 }
+    requires chain { IsChain links.now (slice_index_or heads.now count 257) (spots count 0 queue.now) }
+    requires count { count ≤ 144 }
+    requires room { room ≤ 30 }
+    requires before { length places.old.items ≤ room }
+    requires begun { visits.old ≤ 1000 }
+    ensures places { places.new.items ≡ take room (places.old.items ++ spots count 0 queue.now) }
+    ensures room { length places.new.items ≤ room }
+    ensures visits { visits.new + length places.old.items ≤ visits.old + 1 + length places.new.items }
+{
+    visits.look();
+    let mut place = heads[count as usize];
+    while (place as usize) < queue.len() && places.len() < room {
+        visits.look();
+        places.push(place);
+        place = links[place as usize];
+    }
+}
+
+/// Takes the places of those whose turn it is, bucket after bucket, as long as there is room.
+fn take_buckets(
+    queue: &[Waiting],
+    heads: &[u16],
+    links: &[u16],
+    limit: u32,
+    room: usize,
+    visits: &mut Visits,
+) -> ArrayVec<u16, UPDATES_MAX>
+    requires few { length queue.now ≤ 257 }
+    requires heads { length heads.now ≡ 145 }
+    requires links { length links.now ≡ 257 }
+    requires chains { AreChains limit queue.now heads.now links.now }
+    requires limit { limit ≤ 144 }
+    requires room { room ≤ 30 }
+    requires begun { visits.old ≤ 600 }
+    ensures places { result.items ≡ take room (runs limit queue.now) }
+    ensures room { length result.items ≤ room }
+    ensures visits { visits.new ≤ visits.old + 174 }
+{
+    let mut places = ArrayVec::new();
+    let mut count = 0;
+    while count < limit && places.len() < room {
+        take_bucket(queue, heads, links, count, room, &mut places, visits);
+        count += 1;
+    }
+    places
+}
+
+/// Puts the updates at these places into an empty list.
+fn updates_at(
+    queue: &[Waiting],
+    places: &[u16],
+    updates: &mut ArrayVec<Update, UPDATES_MAX>,
+    visits: &mut Visits,
+)
+    requires places { All (λ x. x < length queue.now) places.now }
+    requires few { length places.now ≤ 30 }
+    requires empty { updates.old.items ≡ [] }
+    requires begun { visits.old ≤ 1000 }
+    ensures updates { updates.new.items ≡ map (λ x. (at queue.now x).update) places.now }
+    ensures visits { visits.new ≤ visits.old + 30 }
+{
+    visits.look_at(places.len());
+    for i in 0..places.len() {
+        updates.push(queue[places[i] as usize].update);
+    }
+}
+
+/// Counts one more send of what stands at these places.
+fn count_sends(queue: &mut [Waiting], places: &[u16], visits: &mut Visits)
+    requires places { All (λ x. x < length queue.old) places.now }
+    requires counts { AreWithin 144 queue.old }
+    requires few { length places.now ≤ 30 }
+    requires begun { visits.old ≤ 1000 }
+    ensures queue { queue.new ≡ raised_at places.now queue.old }
+    ensures visits { visits.new ≤ visits.old + 30 }
+{
+    visits.look_at(places.len());
+    for place in places {
+        queue[*place as usize].count += 1;
+    }
+}
+
+/// The places of the updates that the next datagram carries.
+fn next_places(
+    queue: &[Waiting],
+    limit: u32,
+    room: usize,
+    visits: &mut Visits,
+) -> ArrayVec<u16, UPDATES_MAX>
+    requires few { length queue.now ≤ 257 }
+    requires limit { limit ≤ 144 }
+    requires room { room ≤ 30 }
+    requires begun { visits.old ≡ 0 }
+    ensures places { result.items ≡ take room (runs limit queue.now) }
+    ensures room { length result.items ≤ room }
+    ensures visits { visits.new ≤ 688 }
+{
+    let mut heads = [END; BUCKETS_MAX as usize + 1];
+    let mut links = [END; WAITING_MAX];
+    let linked = link_all(queue, limit, &mut heads, &mut links, visits);
+    take_buckets(queue, &heads, &links, limit, room.min(linked), visits)
+}
+
+/// Puts the updates that the next datagram carries into an empty list, and counts the send of each.
+pub(crate) fn pick_from(
+    queue: &mut [Waiting],
+    limit: u32,
+    room: usize,
+    updates: &mut ArrayVec<Update, UPDATES_MAX>,
+    visits: &mut Visits,
+)
+    requires room { room ≤ 30 }
+    requires apart { AreApart queue.old }
+    requires few { length queue.old ≤ 257 }
+    requires counts { AreWithin 144 queue.old }
+    requires limit { limit ≤ 144 }
+    requires empty { updates.old.items ≡ [] }
+    requires begun { visits.old ≡ 0 }
+    ensures picked { updates.new.items ≡ picked limit room queue.old }
+    ensures counted { queue.new ≡ map (raise_all (picked limit room queue.old)) queue.old }
+    ensures visits { visits.new ≤ 748 }
+{
+    let places = next_places(queue, limit, room, visits);
+    updates_at(queue, &places, updates, visits);
+    count_sends(queue, &places, visits);
+}
