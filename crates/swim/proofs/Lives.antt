@@ -9,7 +9,7 @@ use Rattle.swim_node.specs.declared.entry.Entry.{Entry}
 use Rattle.swim_node.specs.Lives.{Era, Life, IsLived, ceiling_of, Then, Crashed, Refused, Reached, Here, Next, AreLives}
 use Rattle.swim_node.proofs.Lives.{held-reached}
 use Rattle.swim.specs.Life.{PlayDisk, disk_state, IsMine, AreMine, IsOfOne, IsOnto, Spares, AreOnOneDisk}
-use Rattle.swim.specs.Story.{Leads}
+use Rattle.swim.specs.Machinery.Story.{Leads}
 
 -- ---- the calls of one caller
 

@@ -30,7 +30,7 @@ use Rattle.swim.specs.declared.story.Opening.TheVariants.{Begun, Refused}
 use Rattle.swim.specs.declared.story.Refusal.TheVariants as refusal
 use Rattle.swim.specs.Life.{PlayDisk, disk_state, Adds, IsDeclined}
 use Rattle.swim.specs.Play.{Playing, Asked, Becomes, IfClosed, IfDisk, IsMade, made, IsCrashed, IsOpening, IsRefused, ComesAfterLives, Opens, Starts, CanOpen, opened, ended, ended_with, asked_of, event_of, Does}
-use Rattle.swim.specs.Story.{IsAnswered}
+use Rattle.swim.specs.Machinery.Story.{IsAnswered}
 
 some-of : {A : Type 0} (o : Option A) → is_some o ≡ true → (x : A) × (o ≡ Some x)
 some-of None h = absurd (cc)

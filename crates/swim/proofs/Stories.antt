@@ -12,7 +12,7 @@ use Rattle.swim.specs.declared.story.Run.{Run}
 use Rattle.swim.specs.declared.story.Stage.{Stage}
 use Rattle.swim.specs.declared.story.Stage.TheVariants.{Bare, Idle, Open}
 use Rattle.swim.specs.Life.{PlayDisk, disk_state, IsOfOne, Spares, AreOnOneDisk}
-use Rattle.swim.specs.Story.{Leads, IsStory}
+use Rattle.swim.specs.Machinery.Story.{Leads, IsStory}
 use Rattle.swim.specs.Play.{Playing, Asked, Scene, IsRun, Shows, Plays, kept_by, ended, ended_with}
 use Rattle.swim.proofs.Lives.{leads-held, leads-none, leads-spared, leads-crashed, leads-ended, on_one_disk}
 

@@ -1,4 +1,4 @@
 pub mod Life
 pub mod Play
-pub mod Story
 pub mod Text
+pub mod Machinery

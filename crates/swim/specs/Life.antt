@@ -17,6 +17,7 @@ use Rattle.swim_node.specs.Lives.{Era, Life, IsLiving, Reached, ceiling_of, AreL
 abbrev pub PlayDisk : Type 0
 PlayDisk = FaultDisk MemDisk
 
+-- what contracts see of a player's disk, as the disk model has it
 abbrev pub disk_state : PlayDisk → State
 disk_state disk = fault.state_of memory.state_of disk
 
@@ -24,6 +25,7 @@ disk_state disk = fault.state_of memory.state_of disk
 abbrev pub IsMine : Entry → Type 0
 IsMine e = e.tag.caller ≡ 0
 
+-- every call of this era is of the player's one caller
 abbrev pub AreMine : Era → Type 0
 AreMine era = All IsMine era.entries
 
@@ -32,7 +34,8 @@ pub record IsOfOne (life : Life PlayDisk) : Type 0 where
   pub ended : All AreMine life.eras
   pub last : All IsMine life.entries
 
--- what holds of a life at all times beside what its node keeps: it goes on, all its calls are of one caller, and its eras have its limit
+-- what holds of a life at all times beside what its node keeps: it goes
+-- on, all its calls are of one caller, and its eras have its limit
 pub record IsOngoing (owner : Owner) (life : Life PlayDisk) : Type 0 where
   pub living : IsLiving disk_state owner life
   pub mine : IsOfOne life
@@ -40,7 +43,9 @@ pub record IsOngoing (owner : Owner) (life : Life PlayDisk) : Type 0 where
 
 -- no moment of a refused opening leaves less than was held before it
 abbrev pub Spares : Owner → PlayDisk → PlayDisk → Type 0
-Spares owner old new = (b : ℕ) → Held owner (disk_state old) b → Through (Covers owner b) (disk_state old) (disk_state new)
+Spares owner old new = (b : ℕ)
+    → Held owner (disk_state old) b
+    → Through (Covers owner b) (disk_state old) (disk_state new)
 
 -- one entry of this event came
 pub record Adds (old new : Life PlayDisk) (event : Event) : Type 0 where

@@ -1,5 +1,8 @@
--- What a script asks for: which disks there are, which members are opened, which events they get, and how they end.
-use Rattle.std.specs.Prelude.{◌≡◌, ◌⊎◌, ℕ, ◌+◌, ◌-◌, ◌*◌, ◌^◌, ◌<◌, ◌≤◌, Bool, true, false, List, [], ◌∷◌, ◌++◌, length, map, All, Option, Some, None, Result, OnOk, OnErr, IfErr}
+-- What a script asks for: which disks there are, which members
+-- are opened, which events they get, and how they end.
+use Rattle.std.specs.Prelude.{◌≡◌, ◌⊎◌, ℕ, ◌+◌, ◌-◌, ◌*◌, ◌^◌, ◌<◌, ◌≤◌, Bool, true, false, List}
+use Rattle.std.specs.Prelude.{[], ◌∷◌, ◌++◌, length, map, All, Option, Some, None, Result, OnOk}
+use Rattle.std.specs.Prelude.{OnErr, IfErr}
 use Rattle.swim_disk.specs.Disk.{IsSettled, Rests}
 use Rattle.swim_disk.specs.Choice.{left_by}
 use Rattle.swim_disk.specs.MemDisk.{disk_of}
@@ -14,13 +17,16 @@ use Rattle.swim_state.specs.declared.fault.RecoverFault.TheVariants as recover
 use Rattle.swim_member.specs.declared.event.Event.{Event}
 use Rattle.swim_member.specs.declared.settings.Settings.{Settings}
 use Rattle.swim_member.specs.Checks.{AreSound, fault_of}
+use Rattle.swim_node.specs.declared.opening.TheConstants.{LIMIT_MAX}
 use Rattle.swim_node.specs.declared.entry.Entry.{Entry}
 use Rattle.swim_node.specs.declared.fault.OpenFault.TheVariants as node
 use Rattle.swim_node.specs.Lives.{Era, Life, AreRising}
 use Rattle.swim_node.specs.Node.{owner_of}
 use Rattle.swim_script.specs.Patches.{IsPatched}
 use Rattle.swim_script.specs.declared.command.Command.{Command}
-use Rattle.swim_script.specs.declared.command.Command.TheVariants.{Group, Me, Set, Start, Init, Open, Happen, Plan, Kill, Crash, Overwrite, Slots, Rebase}
+use Rattle.swim_script.specs.declared.command.Command.TheVariants.{Group, Me, Set, Start, Init}
+use Rattle.swim_script.specs.declared.command.Command.TheVariants.{Open, Happen, Plan, Kill, Crash}
+use Rattle.swim_script.specs.declared.command.Command.TheVariants.{Overwrite, Slots, Rebase}
 use Rattle.swim_script.specs.declared.command.Failure.{Failure}
 use Rattle.swim_script.specs.declared.command.Failure.TheVariants as failure
 use Rattle.swim_script.specs.declared.command.Setting.{Setting}
@@ -32,8 +38,10 @@ use Rattle.swim.specs.declared.story.Refusal.{Refusal}
 use Rattle.swim.specs.declared.story.Refusal.TheVariants as refusal
 use Rattle.swim.specs.declared.story.Run.{Run}
 use Rattle.swim.specs.Life.{PlayDisk, disk_state, AreOnOneDisk}
+use Rattle.swim_wire.specs.declared.update.TheConstants.{NUMBER_MAX}
 
--- a life, as a script asks for it: how and on which disk it is opened, with which number it begins, the events of its eras that a rebase ended and of its last one, and its disk now
+-- a life, as a script asks for it: how and on which disk it is opened, with which number it
+-- begins, the events of its eras that a rebase ended and of its last one, and its disk now
 pub record Asked : Type 0 where
   pub settings : Settings
   pub limit : ℕ
@@ -43,7 +51,9 @@ pub record Asked : Type 0 where
   pub events : List Event
   pub left : PlayDisk
 
--- the setup of the next opening, the disk that there is, whether a line made or overwrote the disk or named an owner since the last opening, the lives before that, those that ended since, and the open one
+-- the setup of the next opening, the disk that there is, whether a line
+-- made or overwrote the disk or named an owner since the last opening,
+-- the lives before that, those that ended since, and the open one
 pub record Playing : Type 0 where
   pub setup : Setup
   pub disk : Option PlayDisk
@@ -57,10 +67,20 @@ pub record Playing : Type 0 where
 -- group 7, 10.0.0.1:7000, and eras of 4,096 entries
 abbrev pub first_setup : Setup
 first_setup = record {
-  settings = record { group = 7; me = 0x0a000001 * 65536 + 7000; lambda = 2; period = 4; direct = 2; suspect = 8; forget = 40; helpers = 2 };
+  settings = record {
+    group = 7;
+    me = 0x0a000001 * 65536 + 7000;
+    lambda = 2;
+    period = 4;
+    direct = 2;
+    suspect = 8;
+    forget = 40;
+    helpers = 2;
+  };
   limit = 4096;
 }
 
+-- the setup after a line `set`, which changes one setting, the limit included
 abbrev pub with_setting : Setup → Setting → ℕ → Setup
 with_setting s setting.Lambda n = record s { settings = record s.settings { lambda = n } }
 with_setting s setting.Period n = record s { settings = record s.settings { period = n } }
@@ -78,7 +98,7 @@ named settings p = record p { setup = record p.setup { settings = settings }; ap
 pub record CanOpen (s : Setup) : Type 0 where
   pub sound : AreSound s.settings
   pub least : 1 ≤ s.limit
-  pub most : s.limit ≤ 65536
+  pub most : s.limit ≤ LIMIT_MAX
 
 -- ---- the disk
 
@@ -92,12 +112,13 @@ HasFloor owner b disk = (c : List ℕ) → (disk_state disk).images c → IsSoun
 
 -- when making a state file on a new disk is refused
 abbrev pub IsUnmade : ℕ → PlayDisk → InitFault → Type 0
-IsUnmade ceiling disk init.Range = (2 ^ 62 < ceiling) × ((disk_state disk).content ≡ [])
+IsUnmade ceiling disk init.Range = (NUMBER_MAX < ceiling) × ((disk_state disk).content ≡ [])
 IsUnmade ceiling disk init.NotEmpty = ⊥
 IsUnmade ceiling disk init.Device = 0 < (disk_state disk).failures
 
 -- a new disk, and what came of making a state file with this ceiling there
-pub record IsMade (owner : Owner) (ceiling : ℕ) (disk : PlayDisk) (answer : Result (Unit {0}) InitFault) : Type 0 where
+pub record IsMade (owner : Owner) (ceiling : ℕ) (disk : PlayDisk)
+    (answer : Result (Unit {0}) InitFault) : Type 0 where
   pub ok : OnOk answer (HasFloor owner ceiling disk)
   pub err : IfErr answer (λ fault. IsUnmade ceiling disk fault)
 
@@ -105,7 +126,8 @@ pub record IsMade (owner : Owner) (ceiling : ℕ) (disk : PlayDisk) (answer : Re
 abbrev pub made : PlayDisk → Playing → Playing
 made disk p = record p { disk = Some disk; apart = true }
 
--- what a crash with this choice leaves of a disk: one of its images, and a later crash leaves the same
+-- what a crash with this choice leaves of a disk: one
+-- of its images, and a later crash leaves the same
 pub record IsCrashed (choice : Choice) (old new : PlayDisk) : Type 0 where
   pub chosen : (disk_state new).content ≡ left_by choice (disk_of (inner_of old))
   pub image : (disk_state old).images (disk_state new).content
@@ -118,22 +140,33 @@ abbrev pub and_run : {A : Type 0} → List (List A) → List A → List (List A)
 and_run runs [] = runs
 and_run runs (life ∷ lives) = runs ++ (life ∷ lives) ∷ []
 
+-- a list that is dropped if a line parted the runs
 abbrev pub unless : {A : Type 0} → Bool → List A → List A
 unless true xs = []
 unless false xs = xs
 
+-- the ended runs: if a line parted the runs, the lives before it are one more
 abbrev pub runs_before : {A : Type 0} → Bool → List (List A) → List A → List (List A)
 runs_before true runs lives = and_run runs lives
 runs_before false runs lives = runs
 
--- a life is opened with this number on the old disk, which has become the new one; it begins a run where the disk or the owner is another one
+-- a life is opened with this number on the old disk, which has become the
+-- new one; it begins a run where the disk or the owner is another one
 abbrev pub opened : PlayDisk → ℕ → PlayDisk → Playing → Playing
 opened old first new p = record p {
   disk = Some new;
   apart = false;
   runs = runs_before p.apart p.runs p.lives;
   lives = unless p.apart p.lives;
-  life = Some (record { settings = p.setup.settings; limit = p.setup.limit; opened = old; first = first; eras = []; events = []; left = new });
+  life = Some (record {
+    settings = p.setup.settings;
+    limit = p.setup.limit;
+    opened = old;
+    first = first;
+    eras = [];
+    events = [];
+    left = new;
+  });
 }
 
 -- a life begins with this number, the next one of a disk that shows no fault
@@ -144,15 +177,21 @@ pub record Begins (old : PlayDisk) (first : ℕ) (p q : Playing) : Type 0 where
   pub disk : PlayDisk
   pub is : q ≡ opened old first disk p
 
--- when an opening is refused, and what that leaves of the disk; where memory is wanting the script ends
+-- when an opening is refused, and what that leaves of
+-- the disk; where memory is wanting the script ends
 abbrev pub IsRefused : Setup → PlayDisk → Refusal → PlayDisk → Type 0
 IsRefused s old (refusal.Settings fault) new = (fault_of s.settings ≡ Some fault) × (new ≡ old)
-IsRefused s old (refusal.Open node.Limit) new = ((s.limit ≡ 0) ⊎ (65536 < s.limit)) × (new ≡ old)
+IsRefused s old (refusal.Open node.Limit) new =
+    ((s.limit ≡ 0) ⊎ (LIMIT_MAX < s.limit)) × (new ≡ old)
 IsRefused s old (refusal.Open node.NoMemory) new = ⊥
-IsRefused s old (refusal.Open (node.Refused recover.Device)) new = (disk_state old).failures < (disk_state new).failures
-IsRefused s old (refusal.Open (node.Refused fault)) new = (shown (owner_of s.settings) (disk_state old).content ≡ Some fault) × Rests (disk_state old) (disk_state new)
+IsRefused s old (refusal.Open (node.Refused recover.Device)) new =
+    (disk_state old).failures < (disk_state new).failures
+IsRefused s old (refusal.Open (node.Refused fault)) new =
+    (shown (owner_of s.settings) (disk_state old).content ≡ Some fault)
+    × Rests (disk_state old) (disk_state new)
 
--- what may refuse an opening after lives of this owner on this disk: the setup, a failed call, or that no number is left
+-- what may refuse an opening after lives of this owner on this
+-- disk: the setup, a failed call, or that no number is left
 abbrev pub ComesAfterLives : Refusal → Type 0
 ComesAfterLives (refusal.Settings fault) = Unit {0}
 ComesAfterLives (refusal.Open node.Limit) = Unit {0}
@@ -173,10 +212,12 @@ abbrev pub IsOpening : PlayDisk → Opening → Playing → Playing → Type 0
 IsOpening disk (Begun first) p q = Begins disk first p q
 IsOpening disk (Refused refusal) p q = Refuses disk refusal p q
 
+-- a life is opened on this disk, or refused
 abbrev pub Opens : PlayDisk → Playing → Playing → Type 0
 Opens disk p q = (opening : Opening) × IsOpening disk opening p q
 
--- there is a new disk with a state file below this number, and a life begins with it, or is refused; where there is no state file nothing is opened
+-- there is a new disk with a state file below this number, and a life begins
+-- with it, or is refused; where there is no state file nothing is opened
 pub record Starts (first : ℕ) (p q : Playing) : Type 0 where
   pub disk : PlayDisk
   pub answer : Result (Unit {0}) InitFault
@@ -188,7 +229,10 @@ pub record Starts (first : ℕ) (p q : Playing) : Type 0 where
 pub record Takes (event : Event) (life : Asked) (p q : Playing) : Type 0 where
   pub room : length life.events < life.limit
   pub disk : PlayDisk
-  pub is : q ≡ record p { disk = Some disk; life = Some (record life { events = life.events ++ event ∷ []; left = disk }) }
+  pub is : q ≡ record p {
+    disk = Some disk;
+    life = Some (record life { events = life.events ++ event ∷ []; left = disk });
+  }
 
 -- an event comes; without an open member nothing happens, and a full era takes no more
 abbrev pub Happens : Event → Option Asked → Playing → Playing → Type 0
@@ -205,6 +249,7 @@ abbrev pub ended_with : Option Asked → Playing → Playing
 ended_with None p = p
 ended_with (Some life) p = record p { lives = p.lives ++ life ∷ []; life = None }
 
+-- the open life has ended
 abbrev pub ended : Playing → Playing
 ended p = ended_with p.life p
 
@@ -226,13 +271,19 @@ Does p (Group group) q = q ≡ named (record p.setup.settings { group = group })
 Does p (Me me) q = q ≡ named (record p.setup.settings { me = me }) p
 Does p (Set setting n) q = q ≡ record p { setup = with_setting p.setup setting n }
 Does p (Start first) q = IfClosed p.life p q (Starts first.value p q)
-Does p (Init ceiling) q = IfClosed p.life p q ((answer : Result (Unit {0}) InitFault) × Becomes (λ disk. IsMade (owner_of p.setup.settings) ceiling disk answer) (record p { apart = true }) q)
+Does p (Init ceiling) q =
+    IfClosed p.life p q ((answer : Result (Unit {0}) InitFault)
+    × Becomes (λ disk. IsMade (owner_of p.setup.settings) ceiling disk answer)
+    (record p { apart = true }) q)
 Does p Open q = IfClosed p.life p q (IfDisk p.disk p q (λ disk. Opens disk p q))
 Does p (Happen event) q = Happens event p.life p q
 Does p (Plan failure) q = q ≡ p
 Does p Kill q = q ≡ ended p
 Does p (Crash choice) q = IfDisk p.disk p q (λ disk. Becomes (IsCrashed choice disk) (ended p) q)
-Does p (Overwrite patch) q = IfClosed p.life p q (IfDisk p.disk p q (λ disk. Becomes (λ new. IsPatched patch.at patch.bytes.items (inner_of disk) (inner_of new)) (record p { apart = true }) q))
+Does p (Overwrite patch) q =
+    IfClosed p.life p q (IfDisk p.disk p q (λ disk.
+    Becomes (λ new. IsPatched patch.at patch.bytes.items (inner_of disk) (inner_of new))
+    (record p { apart = true }) q))
 Does p Slots q = q ≡ p
 Does p Rebase q = q ≡ record p { life = rebased p.life }
 
@@ -253,7 +304,8 @@ abbrev pub kept_by : Option PlayDisk → Option ℕ → Option ℕ
 kept_by None planned = planned
 kept_by (Some disk) planned = None
 
--- what a line makes of the plan of the link: the sends of an event may come to it, and no other line but these changes it
+-- what a line makes of the plan of the link: the sends of an
+-- event may come to it, and no other line but these changes it
 abbrev pub IsPlanned : Scene → Command → Option ℕ → Type 0
 IsPlanned p (Plan failure) planned = planned ≡ lost_by failure p.loses
 IsPlanned p (Crash choice) planned = planned ≡ kept_by p.playing.disk p.loses
@@ -270,26 +322,49 @@ abbrev pub Plays : Scene → List Command → Scene → Type 0
 Plays p [] q = q ≡ p
 Plays p (command ∷ commands) q = (r : Scene) × Shows p command r × Plays r commands q
 
+-- what there is before the first line: no disk, no life, and a link that loses nothing
 abbrev pub beginning : Scene
-beginning = record { playing = record { setup = first_setup; disk = None; apart = false; runs = []; lives = []; life = None }; loses = None }
+beginning = record {
+  playing = record {
+    setup = first_setup;
+    disk = None;
+    apart = false;
+    runs = [];
+    lives = [];
+    life = None;
+  };
+  loses = None;
+}
 
 -- all lives, an open one among them; those of one disk and owner are together
 abbrev pub all_of : Playing → List (List Asked)
 all_of p = and_run (ended p).runs (ended p).lives
 
+-- the event of one call
 abbrev pub event_of : Entry → Event
 event_of e = e.event
 
+-- the events of an era, in order
 abbrev pub events_of : Era → List Event
 events_of era = map event_of era.entries
 
 -- what was asked for where this life was lived
 abbrev pub asked_of : Life PlayDisk → Asked
-asked_of life = record { settings = life.settings; limit = life.limit; opened = life.opened; first = life.first; eras = map events_of life.eras; events = map event_of life.entries; left = life.left }
+asked_of life = record {
+  settings = life.settings;
+  limit = life.limit;
+  opened = life.opened;
+  first = life.first;
+  eras = map events_of life.eras;
+  events = map event_of life.entries;
+  left = life.left;
+}
 
+-- the lives of a run, as the script asks for them
 abbrev pub run_of : Run → List Asked
 run_of run = map asked_of run.lives.items
 
+-- the lives of a run are lives of one owner on one disk
 abbrev pub IsRun : Run → Type 0
 IsRun run = AreOnOneDisk run.lives.items
 
@@ -297,7 +372,8 @@ IsRun run = AreOnOneDisk run.lives.items
 abbrev pub IsRising : Run → Type 0
 IsRising run = AreRising run.lives.items
 
--- these runs were played by these lines: their lives are those that the lines ask for, those of each run are lives of one owner on one disk, and so own numbers rise over them
+-- these runs were played by these lines: their lives are those that the lines ask for,
+-- those of each run are lives of one owner on one disk, and so own numbers rise over them
 pub record ArePlayed (commands : List Command) (runs : List Run) : Type 0 where
   pub end : Scene
   pub plays : Plays beginning commands end

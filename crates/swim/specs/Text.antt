@@ -12,18 +12,22 @@ use Rattle.swim_words.specs.Names.{phase_word}
 use Rattle.swim.specs.declared.story.Refusal.{Refusal}
 use Rattle.swim.specs.declared.story.Refusal.TheVariants.{Settings, Open}
 
+-- the word of a transcript for what became of a save
 abbrev pub save_word : Save → List ℕ
 save_word Kept = codes "none"
 save_word Done = codes "done"
 save_word Failed = codes "failed"
 
+-- the word of a transcript for what became of a datagram
 abbrev pub outcome_word : Outcome → List ℕ
 outcome_word Taken = codes "taken"
 outcome_word Lost = codes "lost"
 
 -- the first line of an event, without its end
 abbrev pub event_text : Status → Save → List ℕ
-event_text status save = codes "event " ++ decimal status.length ++ codes " save " ++ save_word save ++ codes " number " ++ decimal status.number ++ codes " phase " ++ phase_word status.phase
+event_text status save =
+    codes "event " ++ decimal status.length ++ codes " save " ++ save_word save ++ codes " number "
+    ++ decimal status.number ++ codes " phase " ++ phase_word status.phase
 
 -- the line of a refused opening, without its end
 abbrev pub refusal_text : Refusal → List ℕ

@@ -7,6 +7,7 @@ ghost use Rattle.swim_state.specs.Held.{Held};
 ghost use Rattle.swim_state.specs.Recovery.{fault_of};
 ghost use Rattle.swim_state.specs.declared.fault.RecoverFault.{RecoverFault as Recoveries};
 ghost use Rattle.swim_state.specs.declared.fault.RecoverFault.TheVariants.{Device, Exhausted};
+ghost use Rattle.swim_node.specs.declared.opening.TheConstants.{LIMIT_MAX};
 ghost use Rattle.swim_node.specs.Lives.{IsLived};
 ghost use Rattle.swim_node.specs.Node.{owner_of, rebased};
 ghost use Rattle.swim_node.specs.Sending.{HasTexts};
@@ -121,11 +122,17 @@ impl Living {
         ensures setup { IfOk result (λ l. (l.settings ≡ setup.settings) × (l.limit ≡ setup.limit)) }
         ensures opened { IfOk result (λ l. l.opened ≡ disk) }
         ensures first { IfOk result (λ l. l.first ≡ floor (disk_state disk).content + 1) }
-        ensures whole { IfOk result (λ l. fault_of (owner_of setup.settings) (disk_state disk).content ≡ None) }
+        ensures whole { IfOk result (λ l.
+            fault_of (owner_of setup.settings) (disk_state disk).content ≡ None) }
         ensures empty { IfOk result (λ l. (l.eras ≡ []) × (l.entries ≡ [])) }
-        ensures limit { IfOk result (λ l. (1 ≤ setup.limit) × (setup.limit ≤ 65536)) }
-        ensures cause { IfErr result (λ refused. refused.1 ≢ faults.NoMemory → IsRefused setup disk (refusals.Open refused.1) refused.0) }
-        ensures lived { (b : ℕ) → Held (owner_of setup.settings) (disk_state disk) b → IfErr result (λ refused. (fault : Recoveries) → refused.1 ≡ faults.Refused fault → (fault ≡ Device) ⊎ (fault ≡ Exhausted)) }
+        ensures limit { IfOk result (λ l. (1 ≤ setup.limit) × (setup.limit ≤ LIMIT_MAX)) }
+        ensures cause { IfErr result (λ refused. refused.1 ≢ faults.NoMemory
+            → IsRefused setup disk (refusals.Open refused.1) refused.0) }
+        ensures lived { (b : ℕ)
+            → Held (owner_of setup.settings) (disk_state disk) b
+            → IfErr result (λ refused. (fault : Recoveries)
+            → refused.1 ≡ faults.Refused fault
+            → (fault ≡ Device) ⊎ (fault ≡ Exhausted)) }
         ensures spared { IfErr result (λ refused. Spares (owner_of setup.settings) disk refused.0) }
     {
         let opened = Snapshot::of(&disk);
@@ -154,7 +161,8 @@ impl Living {
 
     /// The last entry of this era, if it has any.
     pub(crate) fn last(&self) -> Option<&Entry>
-        ensures some { IfSome result (λ e. (before : List Entries) × (self.now.entries ≡ before ++ e.now ∷ [])) }
+        ensures some { IfSome result (λ e. (before : List Entries)
+            × (self.now.entries ≡ before ++ e.now ∷ [])) }
         ensures texts { IfSome result (λ e. HasTexts e.now) }
         ensures none { result ≡ None → self.now.entries ≡ [] }
     {
@@ -180,8 +188,13 @@ impl Living {
 
     /// Begins an era.
     pub(crate) fn rebase(&mut self) -> Result<(), AllocError>
-        ensures opened { (self.new.settings ≡ self.old.settings) × (self.new.opened ≡ self.old.opened) }
-        ensures ok { OnOk result (self.new ≡ record self.old { eras = self.old.eras ++ era_now self.old ∷ []; base = rebased self.old.base self.old.entries; entries = [] }) }
+        ensures opened { (self.new.settings ≡ self.old.settings)
+            × (self.new.opened ≡ self.old.opened) }
+        ensures ok { OnOk result (self.new ≡ record self.old {
+          eras = self.old.eras ++ era_now self.old ∷ [];
+          base = rebased self.old.base self.old.entries;
+          entries = [];
+        }) }
     {
         self.eras.reserve(1)?;
         self.eras.push_reserved(self.node.end_era());

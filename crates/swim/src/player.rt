@@ -259,7 +259,8 @@ impl Player {
 
     /// What the script did.
     fn finish(self) -> Result<Transcript, AllocError>
-        ensures asked { IfOk result (λ transcript. map run_of transcript.lives.items ≡ all_of self.playing) }
+        ensures asked { IfOk result (λ transcript. map run_of transcript.lives.items
+            ≡ all_of self.playing) }
         ensures lived { IfOk result (λ transcript. All IsRun transcript.lives.items) }
         ensures rising { IfOk result (λ transcript. All IsRising transcript.lives.items) }
     {
@@ -295,7 +296,9 @@ fn run(alloc: Global, commands: Vec<Command>) -> Result<Transcript, AllocError>
 /// them an opening is refused only by its settings or limit, a failed call of the disk, or for want of a number. Err: the
 /// first fault of the first faulty line, and nothing has run; or 5 NoMemory with line 0, where memory ran out.
 pub fn play(alloc: Global, script: &[u8]) -> Result<Transcript, ScriptFault>
-    ensures played { IfOk result (λ transcript. (commands : List Commands) × IsScript script.now commands × ArePlayed commands transcript.lives.items) }
+    ensures played { IfOk result (λ transcript. (commands : List Commands)
+        × IsScript script.now commands
+        × ArePlayed commands transcript.lives.items) }
     ensures err { IfErr result (λ fault. IsFirstFault script.now fault) }
 {
     let commands = read_script(alloc, script)?;

@@ -8,7 +8,7 @@ ghost use Rattle.swim_node.specs.Sending.{HasTexts};
 ghost use Rattle.swim_member.specs.declared.event.Event.{Event as Events};
 ghost use Rattle.swim.specs.Life.{PlayDisk as PlayDisks, disk_state, AreOnOneDisk};
 ghost use Rattle.swim.specs.Play.{Becomes, IfDisk, IsCrashed, IsOpening, IsRefused, IsRun, IsRising, all_of, and_run, asked_of, beginning, ended, made, named, rebased, run_of, with_setting};
-ghost use Rattle.swim.specs.Story.{IsAnswered, events_in};
+ghost use Rattle.swim.specs.Machinery.Story.{IsAnswered, events_in};
 
 use crate::life::{Life, Living, PlayDisk};
 use crate::setup::Setup;
@@ -86,7 +86,7 @@ impl Model for Story {
     ghost use Rattle.std.specs.Prelude.{map};
     ghost use Rattle.swim_node.specs.Node.{owner_of};
     ghost use Rattle.swim.specs.Play.{Playing, run_of, asked_of};
-    ghost use Rattle.swim.specs.Story.{IsStory, disk_in, life_in};
+    ghost use Rattle.swim.specs.Machinery.Story.{IsStory, disk_in, life_in};
 
     ghost Value = { Playing };
 
@@ -99,15 +99,19 @@ impl Model for Story {
       life = life_in s.stage;
     } };
 
-    ghost invariant = { λ s. IsStory (owner_of s.setup.settings) s.apart s.runs.items s.lives.items s.stage };
+    ghost invariant = { λ s.
+        IsStory (owner_of s.setup.settings) s.apart s.runs.items s.lives.items s.stage };
 }
 
 /// Puts these lives into a run of their own, if there are any. It takes no memory.
 fn close_run(runs: &mut Vec<Run>, lives: &mut Vec<Life>)
     requires room { length runs.old.items < vec_capacity runs.old }
-    ensures runs { map run_of runs.new.items ≡ and_run (map run_of runs.old.items) (map asked_of lives.old.items) }
+    ensures runs { map run_of runs.new.items
+        ≡ and_run (map run_of runs.old.items) (map asked_of lives.old.items) }
     ensures lives { lives.new.items ≡ [] }
-    ensures kept { All IsRun runs.old.items → AreOnOneDisk lives.old.items → All IsRun runs.new.items }
+    ensures kept { All IsRun runs.old.items
+        → AreOnOneDisk lives.old.items
+        → All IsRun runs.new.items }
 {
     if lives.is_empty() {
         return;
@@ -199,7 +203,9 @@ impl Story {
 
     /// What the disk reads, if there is one.
     pub(crate) fn image(&self) -> Option<&[u8]>
-        ensures some { IfSome result (λ image. (disk : PlayDisks) × (self.now.disk ≡ Some disk) × (image.now ≡ (disk_state disk).content)) }
+        ensures some { IfSome result (λ image. (disk : PlayDisks)
+            × (self.now.disk ≡ Some disk)
+            × (image.now ≡ (disk_state disk).content)) }
         ensures none { result ≡ None → self.now.disk ≡ None }
     {
         match &self.stage {
@@ -211,7 +217,8 @@ impl Story {
 
     /// The last entry of the open member's era, if it has any.
     pub(crate) fn last(&self) -> Option<&Entry>
-        ensures some { IfSome result (λ e. (before : List Events) × (events_in self.now.life ≡ before ++ e.now.event ∷ [])) }
+        ensures some { IfSome result (λ e. (before : List Events)
+            × (events_in self.now.life ≡ before ++ e.now.event ∷ [])) }
         ensures texts { IfSome result (λ e. HasTexts e.now) }
         ensures none { result ≡ None → events_in self.now.life ≡ [] }
     {
@@ -234,7 +241,8 @@ impl Story {
     pub(crate) fn open(&mut self, alloc: Global) -> Result<Opening, AllocError>
         requires closed { is_some self.old.life ≡ false }
         requires disk { is_some self.old.disk ≡ true }
-        ensures { IfOk result (λ opening. IfDisk self.old.disk self.old self.new (λ disk. IsOpening disk opening self.old self.new)) }
+        ensures { IfOk result (λ opening. IfDisk self.old.disk self.old self.new
+            (λ disk. IsOpening disk opening self.old self.new)) }
     {
         if let Err(fault) = self.setup.settings.check() {
             return Ok(Opening::Refused(Refusal::Settings(fault)));
@@ -303,7 +311,8 @@ impl Story {
     pub(crate) fn crash(&mut self, alloc: Global, choice: Choice)
         requires closed { is_some self.old.life ≡ false }
         requires disk { is_some self.old.disk ≡ true }
-        ensures { IfDisk self.old.disk self.old self.new (λ disk. Becomes (IsCrashed choice disk) self.old self.new) }
+        ensures { IfDisk self.old.disk self.old self.new
+            (λ disk. Becomes (IsCrashed choice disk) self.old self.new) }
     {
         match &mut self.stage {
             Stage::Idle(disk) => crash_disk(alloc, disk, choice),

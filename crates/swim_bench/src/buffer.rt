@@ -38,9 +38,7 @@ fn pick(buffer: &mut Buffer) -> usize
     ensures { result ≤ 30 }
 {
     let limit = buffer.most();
-    buffer
-        .pick(limit, UPDATES_MAX, &mut Visits::new())
-        .len()
+    buffer.pick(limit, UPDATES_MAX, &mut Visits::new()).len()
 }
 
 /// Writes what is picked next, the number of each in eight bytes and the address in eight more.

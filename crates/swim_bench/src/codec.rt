@@ -1,6 +1,7 @@
 //! Turns of the codec.
 
 ghost use Rattle.std.specs.Prelude.{◌≡◌, ◌≤◌, ◌<◌, length, take, IsOk, IsErr};
+ghost use Rattle.swim_wire.specs.declared.datagram.TheConstants.{DATAGRAM_MAX};
 ghost use Rattle.swim_wire.specs.Decoding.{reading};
 ghost use Rattle.swim_wire.specs.Spelling.{HasText, Spells};
 
@@ -9,7 +10,7 @@ use swim_wire::{Datagram, decode, encode};
 /// Writes the datagram's text over the first bytes, and answers its length.
 pub(crate) fn write(datagram: &Datagram, out: &mut [u8]) -> usize
     requires text { HasText datagram.now }
-    requires room { 512 ≤ length out.old }
+    requires room { DATAGRAM_MAX ≤ length out.old }
     ensures text { Spells (take result out.new) datagram.now }
 {
     let bytes = encode(datagram);
@@ -37,7 +38,7 @@ pub extern "C" fn swim_bench_decode(text: &[u8], turns: u32) -> u64
 /// It is the text that was read.
 #[unsafe(no_mangle)]
 pub extern "C" fn swim_bench_encode(text: &[u8], turns: u32, out: &mut [u8]) -> usize
-    requires { 512 ≤ length out.old }
+    requires { DATAGRAM_MAX ≤ length out.old }
     ensures same { 0 < result → take result out.new ≡ text.now }
 {
     match decode(text) {
@@ -53,7 +54,7 @@ pub extern "C" fn swim_bench_encode(text: &[u8], turns: u32, out: &mut [u8]) -> 
 
 fn encode_turns(datagram: &Datagram, turns: u32, out: &mut [u8]) -> usize
     requires text { HasText datagram.now }
-    requires room { 512 ≤ length out.old }
+    requires room { DATAGRAM_MAX ≤ length out.old }
     ensures { 0 < result → Spells (take result out.new) datagram.now }
 {
     let mut written = 0;

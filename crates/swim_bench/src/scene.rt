@@ -70,7 +70,7 @@ pub(crate) fn member_after(texts: &[u8], period: u64) -> Option<Member> {
 
 /// Makes the updates of a full ping newer than all earlier ones, about others than in the turn before.
 pub(crate) fn make_newer(text: &mut [u8], turn: u32)
-    requires { 512 ≤ length text.old }
+    requires { DATAGRAM_MAX ≤ length text.old }
     ensures { length text.new ≡ length text.old }
 {
     for i in 0..30u32 {

@@ -1,8 +1,10 @@
 //! Turns of a member.
 
 ghost use Rattle.std.specs.Prelude.{◌≡◌, ◌≤◌, ◌<◌, ℕ, length, take, All};
+ghost use Rattle.swim_wire.specs.declared.datagram.TheConstants.{DATAGRAM_MAX};
 ghost use Rattle.swim_wire.specs.Spelling.{HasText, Spells};
 ghost use Rattle.swim_bench.specs.Texts.{BeginsWithText};
+ghost use Rattle.swim_member.specs.declared.answer.TheConstants.{OUTS_MAX};
 
 use crate::codec::write;
 use crate::scene::{make_newer, member_after, received, word};
@@ -11,7 +13,7 @@ use swim_member::{Event, Member, Out};
 /// Writes the datagrams over the first bytes, one after the other, and answers how many there are.
 fn write_all(outs: &[Out], out: &mut [u8]) -> usize
     requires texts { All (λ o. HasText o.datagram) outs.now }
-    requires room { 512 ≤ length out.old }
+    requires room { DATAGRAM_MAX ≤ length out.old }
     ensures count { result ≡ length outs.now }
     ensures text { 0 < result → BeginsWithText out.new }
     ensures kept { result ≡ 0 → out.new ≡ out.old }
@@ -24,8 +26,8 @@ fn write_all(outs: &[Out], out: &mut [u8]) -> usize
 
 /// One step, in which no number is granted above the own one, and what it sends.
 fn turn_of(member: &mut Member, event: &Event, out: &mut [u8]) -> usize
-    requires { 512 ≤ length out.old }
-    ensures few { result ≤ 10 }
+    requires { DATAGRAM_MAX ≤ length out.old }
+    ensures few { result ≤ OUTS_MAX }
     ensures text { 0 < result → BeginsWithText out.new }
     ensures kept { result ≡ 0 → out.new ≡ out.old }
 {
@@ -38,7 +40,7 @@ fn turn_of(member: &mut Member, event: &Event, out: &mut [u8]) -> usize
 /// stands in `out`.
 #[unsafe(no_mangle)]
 pub extern "C" fn swim_bench_pings(before: &[u8], text: &[u8], turns: u32, out: &mut [u8]) -> u64
-    requires { 512 ≤ length out.old }
+    requires { DATAGRAM_MAX ≤ length out.old }
     ensures text { 0 < result → BeginsWithText out.new }
 {
     let Some(mut member) = member_after(before, 1000) else {
@@ -60,8 +62,8 @@ pub extern "C" fn swim_bench_newer_pings(
     turns: u32,
     out: &mut [u8],
 ) -> u64
-    requires ping { 512 ≤ length text.old }
-    requires room { 512 ≤ length out.old }
+    requires ping { DATAGRAM_MAX ≤ length text.old }
+    requires room { DATAGRAM_MAX ≤ length out.old }
     ensures text { 0 < result → BeginsWithText out.new }
 {
     let Some(mut member) = member_after(before, 1000) else {
@@ -78,7 +80,7 @@ pub extern "C" fn swim_bench_newer_pings(
 /// The same with ticks, of which one in so many begins a probe.
 #[unsafe(no_mangle)]
 pub extern "C" fn swim_bench_ticks(before: &[u8], period: u64, turns: u32, out: &mut [u8]) -> u64
-    requires { 512 ≤ length out.old }
+    requires { DATAGRAM_MAX ≤ length out.old }
     ensures text { 0 < result → BeginsWithText out.new }
 {
     let Some(mut member) = member_after(before, period) else {

@@ -6,7 +6,7 @@ use Rattle.std.proofs.lemmas.List.Elements.{All-cons}
 use Rattle.std.proofs.lemmas.Bool.{cases_eq}
 use Rattle.std.proofs.lemmas.List.{take_at, take_more, length-set, get_or-set_same, get_or-set_other, ext_get_or, get_or-replicate, length-replicate, get_or_append_left, get_or-append_right}
 use Rattle.swim_disk.specs.Disk.{Torn, padded, overlaid}
-use Rattle.swim_disk.specs.Torn.{overlaid_torn, length-front}
+use Rattle.swim_disk.specs.Machinery.Torn.{overlaid_torn, length-front}
 use Rattle.swim_disk.specs.Replay.{Disk, fresh, step, replay, Leaves, Reaches, end_of, fill_all}
 use Rattle.swim_disk.proofs.Recorded.{replay_more}
 use Rattle.swim_disk.specs.Past.{start_of, calls_of}

@@ -3,7 +3,7 @@ use Rattle.std.proofs.Common.{◌≡◌, ◌⊎◌, inl, inr, ⊎_elim, ℕ, ◌
 use Rattle.std.proofs.lemmas.List.{get_or_append_left, get_or-append_right}
 use Rattle.swim_disk.specs.Disk.{State, Torn, padded, overlaid, Rests, Writes}
 use Rattle.swim_disk.specs.Part.{Has, KeepsPart}
-use Rattle.swim_disk.specs.Torn.{length-front}
+use Rattle.swim_disk.specs.Machinery.Torn.{length-front}
 
 -- a write elsewhere
 torn_has : (at : ℕ) (bytes : List ℕ) (p n : ℕ) (old new : List ℕ) → Torn p n old new → (p + n ≤ at) ⊎ (at + length bytes ≤ p) → Has at bytes old → Has at bytes new

@@ -3,9 +3,9 @@ use Rattle.std.proofs.Common.{◌≡◌, ◌⊎◌, inl, inr, ⊎_elim, ℕ, ◌
 use Rattle.std.proofs.lemmas.Bool.{cases_lt}
 use Rattle.std.proofs.lemmas.List.{ext_get_or, get_or-take, get_or-drop, get_or-replicate, get_or_past, get_or_append_left, get_or-append_right, length-take, length-replicate, take_all, take-replicate, drop-replicate, drop_all, length-take-le}
 use Rattle.swim_disk.specs.Disk.{padded, overlaid}
-use Rattle.swim_disk.specs.Torn.{length-front}
+use Rattle.swim_disk.specs.Machinery.Torn.{length-front}
 use Rattle.swim_disk.specs.Choice.{left_by}
-use Rattle.swim_disk.specs.Patch.{Patched, written_beside}
+use Rattle.swim_disk.specs.Machinery.Patch.{Patched, written_beside}
 use Rattle.swim_disk.specs.Replay.{Disk, fresh, replay, written, all_synced, fill_all}
 use Rattle.swim_disk.specs.declared.mem.Choice.{Choice}
 use Rattle.swim_disk.specs.declared.past.Call.{Call}

@@ -7,7 +7,5 @@ pub mod MemDisk
 pub mod Memory
 pub mod Part
 pub mod Past
-pub mod Patch
-pub mod Reached
 pub mod Replay
-pub mod Torn
+pub mod Machinery

@@ -13,4 +13,5 @@ AlwaysHas at bytes disk = (c : List ℕ) → disk.images c → Has at bytes c
 
 -- whatever n bytes always were at `at`, they still are
 abbrev pub KeepsPart : ℕ → ℕ → State → State → Type 0
-KeepsPart at n old new = (bytes : List ℕ) → length bytes ≡ n → AlwaysHas at bytes old → AlwaysHas at bytes new
+KeepsPart at n old new =
+    (bytes : List ℕ) → length bytes ≡ n → AlwaysHas at bytes old → AlwaysHas at bytes new

@@ -1,9 +1,10 @@
 //! The calls of a disk again, beside some bytes that stand.
 
 ghost use Rattle.std.specs.Prelude.{◌≡◌, ◌+◌, ◌-◌, ◌≤◌, ◌⊎◌, ℕ, List, length, OnOk};
+ghost use Rattle.swim_disk.specs.declared.mem.TheConstants.{MOST_BYTES};
 ghost use Rattle.swim_disk.specs.MemDisk.{disk_of, state_of};
 ghost use Rattle.swim_disk.specs.Part.{KeepsPart};
-ghost use Rattle.swim_disk.specs.Patch.{Patches, written_beside};
+ghost use Rattle.swim_disk.specs.Machinery.Patch.{Patches, written_beside};
 ghost use Rattle.swim_disk.specs.Replay.{replay, step, written};
 
 use crate::past::Call;
@@ -33,7 +34,7 @@ fn write_beside(
     at: u64,
     count: u64,
 ) -> Result<(), DiskFault>
-    requires { at + count ≤ 65536 }
+    requires { at + count ≤ MOST_BYTES }
     ensures kept { KeepsPart at count (state_of disk.old) (state_of disk.new) }
     ensures name { (state_of disk.new).name ≡ (state_of disk.old).name }
     ensures done { OnOk result
@@ -48,7 +49,7 @@ fn write_beside(
 
 /// This call, but for what it writes to the `count` bytes from `at` on.
 fn repeat_call(disk: &mut MemDisk, call: &Call, at: u64, count: u64) -> Result<(), DiskFault>
-    requires { at + count ≤ 65536 }
+    requires { at + count ≤ MOST_BYTES }
     ensures kept { KeepsPart at count (state_of disk.old) (state_of disk.new) }
     ensures name { (state_of disk.new).name ≡ (state_of disk.old).name }
     ensures patches { OnOk result
@@ -67,7 +68,7 @@ pub(crate) fn repeat_beside(
     at: u64,
     count: u64,
 ) -> Result<(), DiskFault>
-    requires { at + count ≤ 65536 }
+    requires { at + count ≤ MOST_BYTES }
     ensures kept { KeepsPart at count (state_of disk.old) (state_of disk.new) }
     ensures name { (state_of disk.new).name ≡ (state_of disk.old).name }
     ensures patches { OnOk result

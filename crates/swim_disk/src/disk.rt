@@ -1,3 +1,5 @@
+//! The trait that every disk meets, and why a call of one fails.
+
 ghost use Rattle.std.specs.Prelude.{◌≡◌, ◌+◌, ◌≤◌, length, take, drop, IfOk, OnOk};
 ghost use Rattle.swim_disk.specs.Disk.{State, Rests, Writes, Syncs, Counts};
 

@@ -1,3 +1,5 @@
+//! A disk that fails by a plan, over another one.
+
 ghost use Rattle.std.specs.Prelude.{◌≡◌, ◌+◌, IfOk, IfErr};
 
 use crate::count::Count;

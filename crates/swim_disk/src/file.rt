@@ -1,3 +1,5 @@
+//! A file of the operating system, as a disk.
+
 use crate::count::Count;
 use crate::{Disk, DiskFault};
 use std::fs::{File, Files, OpenOptions};

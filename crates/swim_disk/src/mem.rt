@@ -1,4 +1,7 @@
+//! A disk in memory, which a crash cuts as the caller chooses.
+
 ghost use Rattle.std.specs.Prelude.{◌≡◌, ◌⊎◌, ◌++◌, ◌∷◌, [], ◌+◌, ◌≤◌, ℕ, List, All, length, replicate, IfOk, IsSome, OnErr, OnOk};
+ghost use Rattle.swim_disk.specs.declared.mem.TheConstants.{MOST_BYTES};
 ghost use Rattle.swim_disk.specs.Disk.{overlaid};
 ghost use Rattle.swim_disk.specs.Past.{start_of, calls_of};
 ghost use Rattle.swim_disk.specs.Replay.{replay, fresh, Leaves, end_of, fill_all};
@@ -35,8 +38,9 @@ pub struct MemDisk {
     past: Option<Past>,
     failures: Count,
     asked: Count,
-    ghost size: { length bytes.items ≤ 65536 },
-    ghost content: { bytes.items ≡ (replay (fresh (start_of past bytes.items)) (calls_of past)).content },
+    ghost size: { length bytes.items ≤ MOST_BYTES },
+    ghost content: { bytes.items
+        ≡ (replay (fresh (start_of past bytes.items)) (calls_of past)).content },
 }
 
 impl MemDisk {
@@ -46,7 +50,7 @@ impl MemDisk {
 
     /// A disk with these bytes, all of them synced. The number is its name.
     pub fn new(alloc: Global, number: u64, bytes: Vec<u8>) -> MemDisk
-        requires { length bytes.items ≤ 65536 }
+        requires { length bytes.items ≤ MOST_BYTES }
         ensures name { (state_of result).name ≡ number }
         ensures content { (state_of result).content ≡ bytes.items }
         ensures failures { (state_of result).failures ≡ 0 }
@@ -73,7 +77,7 @@ impl MemDisk {
     /// The disk that this one would be if these bytes had stood at this offset from the beginning, and
     /// no call had written over them. A crash leaves them too. Its failures are counted anew. Err: there was no memory.
     pub fn overwritten(&self, at: u64, bytes: &[u8]) -> Result<MemDisk, DiskFault>
-        requires { at + length bytes.now ≤ 65536 }
+        requires { at + length bytes.now ≤ MOST_BYTES }
         ensures name { IfOk result (λ d. (state_of d).name ≡ (state_of self.now).name) }
         ensures stands { IfOk result (λ d. AlwaysHas at bytes.now (state_of d)) }
 
@@ -81,7 +85,8 @@ impl MemDisk {
         ensures content { IfOk result
             (λ d. (state_of d).content ≡ overlaid (state_of self.now).content at bytes.now) }
         ensures left { IfOk result (λ d. (choice : Choices)
-            → left_by choice (disk_of d) ≡ overlaid (left_by choice (disk_of self.now)) at bytes.now) }
+            → left_by choice (disk_of d)
+            ≡ overlaid (left_by choice (disk_of self.now)) at bytes.now) }
     {
         let Ok(first) = overlay(self.alloc, self.first(), at, bytes) else {
             return Err(DiskFault::NoMemory);
@@ -93,7 +98,7 @@ impl MemDisk {
 
     /// The bytes that it was made with.
     fn first(&self) -> &[u8]
-        ensures size { length result.now ≤ 65536 }
+        ensures size { length result.now ≤ MOST_BYTES }
         ensures bytes { result.now ≡ start_of self.now.past self.now.bytes.items }
     {
         match &self.past {
@@ -145,10 +150,10 @@ impl MemDisk {
 
 /// The content with these bytes at this offset.
 fn overlay(alloc: Global, old: &[u8], at: u64, bytes: &[u8]) -> Result<Vec<u8>, AllocError>
-    requires room { at + length bytes.now ≤ 65536 }
-    requires size { length old.now ≤ 65536 }
+    requires room { at + length bytes.now ≤ MOST_BYTES }
+    requires size { length old.now ≤ MOST_BYTES }
     ensures bytes { IfOk result (λ v. v.items ≡ overlaid old.now at bytes.now) }
-    ensures size { IfOk result (λ v. length v.items ≤ 65536) }
+    ensures size { IfOk result (λ v. length v.items ≤ MOST_BYTES) }
 {
     let at = at as usize;
     let mut next = Vec::new(alloc);
@@ -185,10 +190,10 @@ fn written(
     at: u64,
     bytes: &[u8],
 ) -> Result<Vec<u8>, AllocError>
-    requires room { at + length bytes.now ≤ 65536 }
-    requires size { length old.now ≤ 65536 }
+    requires room { at + length bytes.now ≤ MOST_BYTES }
+    requires size { length old.now ≤ MOST_BYTES }
     ensures bytes { IfOk result (λ v. v.items ≡ overlaid old.now at bytes.now) }
-    ensures size { IfOk result (λ v. length v.items ≤ 65536) }
+    ensures size { IfOk result (λ v. length v.items ≤ MOST_BYTES) }
     ensures start { OnOk result ((c : List ℕ) → start_of past.new c ≡ start_of past.old old.now) }
     ensures calls { OnOk result
         ((kept : _) × (kept.items ≡ bytes.now)
@@ -235,11 +240,11 @@ fn fill_unsynced(bytes: &mut [u8], calls: &[Call], byte: u8)
 /// What a crash leaves of these bytes.
 fn left(mut bytes: Vec<u8>, past: Past, choice: Choice) -> Vec<u8>
     requires now { bytes.items ≡ (replay (fresh past.start.items) past.calls.items).content }
-    requires size { length bytes.items ≤ 65536 }
+    requires size { length bytes.items ≤ MOST_BYTES }
     ensures image { Leaves (replay (fresh past.start.items) past.calls.items) result.items }
     ensures chosen { result.items ≡ left_by choice
         (replay (fresh past.start.items) past.calls.items) }
-    ensures size { length result.items ≤ 65536 }
+    ensures size { length result.items ≤ MOST_BYTES }
 {
     match choice {
         Choice::Keep => bytes,
@@ -310,9 +315,9 @@ impl Disk for MemDisk {
         ensures writes { Writes at bytes.now result (state_of self.old) (state_of self.new) }
 
         // Past the room it fails, and within the room only for want of memory.
-        ensures room { at + length bytes.now ≤ 65536
+        ensures room { at + length bytes.now ≤ MOST_BYTES
             → IfErr result (λ fault. fault ≡ DiskFault.NoMemory) }
-        ensures full { 65536 < at + length bytes.now → result ≡ Err DiskFault.NoRoom }
+        ensures full { MOST_BYTES < at + length bytes.now → result ≡ Err DiskFault.NoRoom }
 
         // What a crash may be chosen to leave.
         ensures done { OnOk result

@@ -1,3 +1,5 @@
+//! The record of the calls that changed a disk in memory.
+
 ghost use Rattle.std.specs.Prelude.{◌≡◌, ◌++◌, ◌∷◌, [], IfOk, OnErr, OnOk};
 ghost use Rattle.swim_disk.specs.Replay.{fresh, replay};
 ghost use Rattle.swim_disk.specs.declared.past.Call.TheVariants.{Write, Sync};

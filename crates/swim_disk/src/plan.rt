@@ -1,3 +1,5 @@
+//! Which calls of a disk are to fail, as it is set from outside.
+
 use std::alloc::{AllocError, Global};
 use std::sync::Arc;
 use std::sync::atomic::{AtomicU8, AtomicU64, Ordering};

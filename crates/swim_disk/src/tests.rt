@@ -1,3 +1,5 @@
+//! What crashes leave, what failing disks answer, and how a sync is held.
+
 use crate::{Choice, Disk, DiskFault, FaultDisk, FileDisk, MOST_BYTES, MemDisk, Plan};
 use std::alloc::Global;
 use std::process::Abort;

@@ -73,3 +73,10 @@ place-absent x queue i d l e h =
       | inl m ↦ absurd (h (place x queue) m (omega arith) (about-place x queue d m))
       | inr m ↦ omega arith
     ]
+
+-- no more are left than there were
+pub without-fewer : (x : ℕ) (queue : List Waiting) → length (without x queue) ≤ length queue
+without-fewer x [] = omega arith
+without-fewer x (w ∷ queue) =
+    let fewer : length (without x queue) ≤ length queue = without-fewer x queue in
+    elim (cases_Bool (w.update.who == x)) [ inl t ↦ rw t (omega arith) | inr n ↦ rw n (omega arith) ]

@@ -143,13 +143,16 @@ fn count_sends(queue: &mut [Waiting], places: &[u16], visits: &mut Visits)
     }
 }
 
-/// The places of the updates that the next datagram carries.
+/// The places of the updates that the next datagram carries. What the links were before does not
+/// matter.
 fn next_places(
     queue: &[Waiting],
     limit: u32,
     room: usize,
+    links: &mut [u16],
     visits: &mut Visits,
 ) -> ArrayVec<u16, UPDATES_MAX>
+    requires links { length links.old ≡ 257 }
     requires few { length queue.now ≤ 257 }
     requires limit { limit ≤ 144 }
     requires room { room ≤ 30 }
@@ -159,9 +162,8 @@ fn next_places(
     ensures visits { visits.new ≤ 688 }
 {
     let mut heads = [END; BUCKETS_MAX as usize + 1];
-    let mut links = [END; WAITING_MAX];
-    let linked = link_all(queue, limit, &mut heads, &mut links, visits);
-    take_buckets(queue, &heads, &links, limit, room.min(linked), visits)
+    let linked = link_all(queue, limit, &mut heads, links, visits);
+    take_buckets(queue, &heads, links, limit, room.min(linked), visits)
 }
 
 /// Puts the updates that the next datagram carries into an empty list, and counts the send of each.
@@ -169,10 +171,12 @@ pub(crate) fn pick_from(
     queue: &mut [Waiting],
     limit: u32,
     room: usize,
+    links: &mut [u16],
     updates: &mut ArrayVec<Update, UPDATES_MAX>,
     visits: &mut Visits,
 )
     requires room { room ≤ 30 }
+    requires links { length links.old ≡ 257 }
     requires apart { AreApart queue.old }
     requires few { length queue.old ≤ 257 }
     requires counts { AreWithin 144 queue.old }
@@ -183,7 +187,7 @@ pub(crate) fn pick_from(
     ensures counted { queue.new ≡ map (raise_all (picked limit room queue.old)) queue.old }
     ensures visits { visits.new ≤ 748 }
 {
-    let places = next_places(queue, limit, room, visits);
+    let places = next_places(queue, limit, room, links, visits);
     updates_at(queue, &places, updates, visits);
     count_sends(queue, &places, visits);
 }

@@ -41,6 +41,8 @@ pub const BUCKETS_MAX: u32 = 144;
 pub struct Buffer {
     queue: ArrayVec<Waiting, WAITING_MAX>,
     most: u32,
+    /// For each place the next one of its bucket. Each pick links anew.
+    links: [u16; WAITING_MAX],
 }
 
 impl Model for Buffer {
@@ -111,10 +113,12 @@ fn pick_in(
     queue: &mut ArrayVec<Waiting, WAITING_MAX>,
     limit: u32,
     room: usize,
+    links: &mut [u16],
     updates: &mut ArrayVec<Update, UPDATES_MAX>,
     visits: &mut Visits,
 )
     requires room { room ≤ 30 }
+    requires links { length links.old ≡ 257 }
     requires apart { AreApart queue.old.items }
     requires counts { AreWithin 144 queue.old.items }
     requires limit { limit ≤ 144 }
@@ -124,7 +128,7 @@ fn pick_in(
     ensures counted { queue.new.items ≡ map (raise_all (picked limit room queue.old.items)) queue.old.items }
     ensures visits { visits.new ≤ 748 }
 {
-    pick_from(queue, limit, room, updates, visits);
+    pick_from(queue, limit, room, links, updates, visits);
 }
 
 impl Buffer {
@@ -136,6 +140,7 @@ impl Buffer {
         Buffer {
             queue: ArrayVec::new(),
             most,
+            links: [0; WAITING_MAX],
         }
     }
 
@@ -198,7 +203,14 @@ impl Buffer {
         ensures visits { visits.new ≤ 1000 }
     {
         let mut updates = ArrayVec::new();
-        pick_in(&mut self.queue, limit, room, &mut updates, visits);
+        pick_in(
+            &mut self.queue,
+            limit,
+            room,
+            &mut self.links,
+            &mut updates,
+            visits,
+        );
         updates
     }
 }

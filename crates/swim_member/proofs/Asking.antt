@@ -9,7 +9,7 @@ use Rattle.swim_member.specs.declared.state.Probe.{Probe}
 use Rattle.swim_member.specs.declared.answer.Out.{Out}
 use Rattle.swim_member.specs.State.{State, Happening}
 use Rattle.swim_member.specs.Events.{Ask, perform, ask, ask_one, helpers_about, each_from, is_at, is_eligible_name, name, outs, send, datagram, carried}
-use Rattle.swim_member.specs.Steps.{apply, apply_all, after, outs_by, after_asks, outs_of_asks, open_probe, asking, is_helper}
+use Rattle.swim_member.specs.Machinery.Steps.{apply, apply_all, after, outs_by, after_asks, outs_of_asks, open_probe, asking, is_helper}
 
 rest-some : (xs : List ℕ) (k y : ℕ) (ys : List ℕ) → drop k xs ≡ y ∷ ys → (slice_get xs k ≡ Some y) × (drop (suc k) xs ≡ ys)
 rest-some [] zero y ys e = absurd (cc)

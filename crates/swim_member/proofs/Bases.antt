@@ -15,7 +15,7 @@ use Rattle.swim_member.specs.declared.state.Relay.{Relay}
 use Rattle.swim_member.specs.State.{State}
 use Rattle.swim_member.specs.Readings.{queue, count_in, without_relay}
 use Rattle.swim_member.specs.Events.{state_of}
-use Rattle.swim_member.specs.Steps.{is_live}
+use Rattle.swim_member.specs.Machinery.Steps.{is_live}
 use Rattle.swim_member.proofs.Logs.{filter-twice, filter-append, without-filter}
 
 -- Rows

@@ -11,7 +11,7 @@ use Rattle.swim_gossip.specs.Queue.{is_about_any, raise_all, without}
 use Rattle.swim_wire.specs.declared.datagram.Datagram.{Datagram}
 use Rattle.swim_member.specs.declared.state.Relay.{Relay}
 use Rattle.swim_member.specs.declared.event.Event.{Event}
-use Rattle.swim_member.specs.Steps.{is_live, queue_after, apply, apply_all, news_from, step_news}
+use Rattle.swim_member.specs.Machinery.Steps.{is_live, queue_after, apply, apply_all, news_from, step_news}
 use Rattle.swim_member.specs.State.{State, Happening, Heard, Forgot, Began, Sent, Numbered, Became, Ticked, Took, Probed, Relayed, Unrelayed, Joined, Paged, Noted}
 use Rattle.swim_member.specs.Readings.{time, told, begun, sent, queue, state, apart, gossips, is_relay, without_relay, open_relays}
 use Rattle.swim_member.specs.Events.{Move, perform, news, moves, Step, log_after, log_of, news_of, state_of, answer, answer_in}

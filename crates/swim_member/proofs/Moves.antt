@@ -2,7 +2,7 @@
 use Rattle.std.proofs.Common.{◌≡◌, ℕ, ◌+◌, ◌-◌, refl, sym, ◌∙◌, ap, List, [], ◌∷◌, ◌++◌, append_assoc, append-nil, replicate, zero, suc, ◌<◌, arith}
 use Rattle.swim_member.specs.State.{State, Happening, Heard, Forgot, Began, Sent, Numbered, Became, Ticked, Took, Probed, Relayed, Unrelayed, Joined, Paged, Noted}
 use Rattle.swim_member.specs.Events.{Move, perform, each_from, outs, notes}
-use Rattle.swim_member.specs.Steps.{apply, apply_all, news_from, after, notes_by, outs_by}
+use Rattle.swim_member.specs.Machinery.Steps.{apply, apply_all, news_from, after, notes_by, outs_by}
 
 pub after-append : (s : State) (fs gs : List Move) → after s (fs ++ gs) ≡ after (after s fs) gs
 after-append s [] gs = refl

@@ -10,7 +10,7 @@ use Rattle.swim_member.specs.declared.answer.Out.{Out}
 use Rattle.swim_member.specs.declared.state.Relay.{Relay}
 use Rattle.swim_member.specs.Events.{name}
 use Rattle.swim_member.specs.Readings.{is_relay, without_relay}
-use Rattle.swim_member.specs.Steps.{relay_place}
+use Rattle.swim_member.specs.Machinery.Steps.{relay_place}
 
 abbrev pub is_eligible_row : Option Row → Bool
 is_eligible_row None = false

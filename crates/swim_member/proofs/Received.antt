@@ -11,13 +11,14 @@ use Rattle.swim_member.specs.declared.note.Note.{Note}
 use Rattle.swim_member.specs.declared.note.Note.TheVariants as note
 use Rattle.swim_member.specs.declared.answer.Out.{Out}
 use Rattle.swim_member.specs.State.{State, Began, Became, Numbered, Noted}
-use Rattle.swim_member.specs.Events.{Move, Hear, Settle, Reply, perform, own_with, hear_own, heard_with, confirms, wanted_by, leap, number_max, outs, notes, datagram_moves}
-use Rattle.swim_member.specs.Steps.{apply_all, after, notes_by, outs_by}
+use Rattle.swim_member.specs.Events.{Move, Hear, Settle, Reply, perform, own_with, hear_own, heard_with, confirms, wanted_by, outs, notes, datagram_moves}
+use Rattle.swim_member.specs.Machinery.Steps.{apply_all, after, notes_by, outs_by}
 use Rattle.swim_member.proofs.Moves.{after-append, notes_by-append, outs_by-append}
+use Rattle.swim_wire.specs.declared.update.TheConstants.{LEAP, NUMBER_MAX}
 
 -- hearing sends nothing
 outs-own : (old : ℕ) (u : Update) → outs (hear_own old u) ≡ []
-outs-own old u = pick (not (is_kind Suspect u.kind) || nat_lt u.number old) (nat_lt leap (u.number - old)) (u.number == number_max)
+outs-own old u = pick (not (is_kind Suspect u.kind) || nat_lt u.number old) (nat_lt LEAP (u.number - old)) (u.number == NUMBER_MAX)
   where
     pick : (a b c : Bool) → outs (cond a [] (cond b (Noted note.Leap ∷ []) (cond c (Noted note.NoNumberLeft ∷ []) []))) ≡ []
     pick true b c = refl

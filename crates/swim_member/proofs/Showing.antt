@@ -17,7 +17,7 @@ use Rattle.swim_member.specs.declared.state.Relay.{Relay}
 use Rattle.swim_member.specs.declared.state.Joining.{Joining}
 use Rattle.swim_member.specs.declared.note.Note.TheVariants as note
 use Rattle.swim_member.specs.State.{State, Happening, Began, Numbered, Became, Probed, Joined, Paged, Noted}
-use Rattle.swim_member.specs.Events.{Move, Hear, Settle, Reply, Advance, Expire, Forget, Blame, Probe_next, Ask, Depart, Bye, Join_peer, Show, Take, perform, page, send, own_with, hear_own, heard_with, confirms, wanted_by, leap, number_max, on_ping, on_ping_req, on_ack, on_other_ack, on_relayed_ack, on_page, join_to, relayed, reply, when_running, is_for, is_answered, is_eligible_name, last_name, expire_first, forget_first, blame, suspected, suspect_of, probe_row, chosen, ask, ask_one, helpers_about, bye, eligible, is_at, each_from, answer_in, datagram_moves, moves, moves_in, accepted_moves, tick_moves, last_time, refused, wanted, wanted_in, most_asked, number_after}
+use Rattle.swim_member.specs.Events.{Move, Hear, Settle, Reply, Advance, Expire, Forget, Blame, Probe_next, Ask, Depart, Bye, Join_peer, Show, Take, perform, page, send, own_with, hear_own, heard_with, confirms, wanted_by, on_ping, on_ping_req, on_ack, on_other_ack, on_relayed_ack, on_page, join_to, relayed, reply, when_running, is_for, is_answered, is_eligible_name, last_name, expire_first, forget_first, blame, suspected, suspect_of, probe_row, chosen, ask, ask_one, helpers_about, bye, eligible, is_at, each_from, answer_in, datagram_moves, moves, moves_in, accepted_moves, tick_moves, refused, wanted, wanted_in, most_asked, number_after}
 use Rattle.swim_member.specs.declared.answer.Answer.{Answer}
 use Rattle.swim_wire.specs.Decoding.{reading}
 use Rattle.swim_wire.specs.declared.fault.WireFault.{WireFault}
@@ -26,8 +26,10 @@ use Rattle.swim_member.specs.declared.event.Event.TheVariants as event
 use Rattle.swim_member.specs.declared.note.Note.{Note}
 use Rattle.swim_member.specs.declared.settings.Settings.{Settings}
 use Rattle.std.proofs.lemmas.Bool.{false≢true}
-use Rattle.swim_member.specs.Steps.{apply_all, after, news_from, outs_by, notes_by, answer_by}
+use Rattle.swim_member.specs.Machinery.Steps.{apply_all, after, news_from, outs_by, notes_by, answer_by}
 use Rattle.swim_member.proofs.Moves.{outs-news, notes-news, after-append, settings-after}
+use Rattle.swim_member.specs.declared.tick.TheConstants.{LAST_TIME}
+use Rattle.swim_wire.specs.declared.update.TheConstants.{LEAP, NUMBER_MAX}
 
 -- none of it shows a page, or else none of it takes a number
 abbrev Lacks : Bool → List Happening → Type 0
@@ -59,7 +61,7 @@ either w true x y p q = p
 either w false x y p q = q
 
 own-no : (w : Bool) → (old : ℕ) (u : Update) → Lacks w (hear_own old u)
-own-no w old u = at (not (is_kind Suspect u.kind) || nat_lt u.number old) (nat_lt leap (u.number - old)) (u.number == number_max)
+own-no w old u = at (not (is_kind Suspect u.kind) || nat_lt u.number old) (nat_lt LEAP (u.number - old)) (u.number == NUMBER_MAX)
   where
     at : (a b c : Bool) → Lacks w (cond a [] (cond b (Noted note.Leap ∷ []) (cond c (Noted note.NoNumberLeft ∷ []) [])))
     at true b c = tt
@@ -307,7 +309,7 @@ number-step s (event.Tick word) granted = by_phase s.phase
     by_time false = number-ticked s 256 256 word
 
     by_phase : (ph : Phase) → (after s (moves_in ph s (event.Tick word) granted)).number ≡ s.number
-    by_phase Running = by_time (s.time == last_time)
+    by_phase Running = by_time (s.time == LAST_TIME)
     by_phase Left = refl
     by_phase Expelled = refl
 number-step s event.ReceiveFailed granted = by_phase s.phase

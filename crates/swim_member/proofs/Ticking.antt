@@ -7,7 +7,7 @@ use Rattle.swim_wire.specs.declared.update.UpdateKind.TheVariants.{Alive, Suspec
 use Rattle.swim_member.specs.declared.state.Probe.{Probe}
 use Rattle.swim_member.specs.State.{State}
 use Rattle.swim_member.specs.Events.{Move, Advance, Expire, Forget, Blame, Probe_next, Ask, Bye, perform, outs, notes, expire_first, forget_first, blame, suspected, suspect_of, probe_row, chosen, ask, ask_one, helpers_about, is_eligible_name, bye, eligible, is_at, heard_with, each_from, tick_moves}
-use Rattle.swim_member.specs.Steps.{apply_all, after, notes_by, outs_by}
+use Rattle.swim_member.specs.Machinery.Steps.{apply_all, after, notes_by, outs_by}
 use Rattle.swim_member.proofs.Moves.{after-append, notes_by-append, outs_by-append, settings-apply_all, settings-after}
 use Rattle.swim_member.proofs.Received.{outs-heard_with}
 use Rattle.std.proofs.Common.{nat_le, not, ◌&&◌}

@@ -1,14 +1,25 @@
 -- What a member does at each event.
-use Rattle.std.specs.Prelude.{ℕ, ◌+◌, ◌-◌, ◌*◌, ◌%◌, ◌^◌, ◌==◌, ◌&&◌, ◌||◌, nat_lt, nat_le, max, Bool, true, false, not, List, [], ◌∷◌, ◌++◌, map, take, length, if◌then◌else◌, Option, Some, None, Result, Ok, Err, replicate, slice_get, zero, suc}
+use Rattle.std.specs.Prelude.{ℕ, ◌+◌, ◌-◌, ◌*◌, ◌%◌, ◌^◌, ◌==◌, ◌&&◌, ◌||◌, nat_lt, nat_le, max}
+use Rattle.std.specs.Prelude.{Bool, true, false, not, List, [], ◌∷◌, ◌++◌, map, take, length}
+use Rattle.std.specs.Prelude.{if◌then◌else◌, Option, Some, None, Result, Ok, Err, replicate}
+use Rattle.std.specs.Prelude.{slice_get, zero, suc}
 use Rattle.std.specs.List.{filter, find, list_any}
+use Rattle.swim_wire.specs.declared.datagram.TheConstants.{UPDATES_MAX}
+use Rattle.swim_wire.specs.declared.update.TheConstants.{LEAP, NUMBER_MAX}
 use Rattle.swim_wire.specs.declared.update.Update.{Update}
 use Rattle.swim_wire.specs.declared.update.UpdateKind.{UpdateKind}
 use Rattle.swim_wire.specs.declared.update.UpdateKind.TheVariants.{Alive, Suspect, Confirm}
+use Rattle.swim_rules.specs.declared.table.TheConstants.{ROWS_MAX}
 use Rattle.swim_rules.specs.declared.table.Row.{Row}
 use Rattle.swim_rules.specs.declared.table.Heard.TheVariants as heard
 use Rattle.swim_rules.specs.declared.table.Heard.{Heard as Hearing}
-use Rattle.swim_rules.specs.Rows.{answer_to, is_eligible, is_kind, is_of_kind, is_due, confirmed, row_of, put_row}
+use Rattle.swim_rules.specs.Rows.{answer_to, is_eligible, is_kind, is_of_kind, is_due, confirmed}
+use Rattle.swim_rules.specs.Rows.{row_of, put_row}
 use Rattle.swim_gossip.specs.Queue.{picked}
+use Rattle.swim_member.specs.declared.member.TheConstants.{RELAYS_MAX}
+use Rattle.swim_member.specs.declared.tick.TheConstants.{LAST_TIME}
+use Rattle.swim_member.specs.declared.settings.TheConstants.{HELPERS_MAX}
+use Rattle.swim_member.specs.declared.leave.TheConstants.{BYES_MAX}
 use Rattle.swim_member.specs.declared.state.Phase.{Phase}
 use Rattle.swim_member.specs.declared.state.Phase.TheVariants.{Running, Left, Expelled}
 use Rattle.swim_member.specs.declared.note.Note.{Note}
@@ -26,28 +37,28 @@ use Rattle.swim_member.specs.declared.state.Probe.{Probe}
 use Rattle.swim_member.specs.declared.state.Relay.{Relay}
 use Rattle.swim_member.specs.declared.state.Joining.{Joining}
 use Rattle.swim_member.specs.declared.state.Counts.{Counts}
-use Rattle.swim_member.specs.State.{State, Happening, Heard, Forgot, Began, Sent, Numbered, Became, Ticked, Took, Probed, Relayed, Unrelayed, Joined, Paged, Noted}
+use Rattle.swim_member.specs.State.{State, Happening, Heard, Forgot, Began, Sent, Numbered, Became}
+use Rattle.swim_member.specs.State.{Ticked, Took, Probed, Relayed, Unrelayed, Joined, Paged, Noted}
 use Rattle.swim_member.specs.Readings.{state}
 use Rattle.swim_wire.specs.Decoding.{reading}
 
--- NUMBER_MAX, LEAP and the last moment
-abbrev pub number_max : ℕ
-number_max = 2 ^ 62
-
-abbrev pub leap : ℕ
-leap = 1048576
-
-abbrev pub last_time : ℕ
-last_time = 2 ^ 62
-
 -- the number of binary digits of n, below 2 ^ 9
 abbrev pub bits : ℕ → ℕ
-bits n = if nat_lt n 2 then 1 else (if nat_lt n 4 then 2 else (if nat_lt n 8 then 3 else (if nat_lt n 16 then 4 else (if nat_lt n 32 then 5 else (if nat_lt n 64 then 6 else (if nat_lt n 128 then 7 else (if nat_lt n 256 then 8 else 9)))))))
+bits n =
+    if nat_lt n 2 then 1
+    else (if nat_lt n 4 then 2
+    else (if nat_lt n 8 then 3
+    else (if nat_lt n 16 then 4
+    else (if nat_lt n 32 then 5
+    else (if nat_lt n 64 then 6
+    else (if nat_lt n 128 then 7
+    else (if nat_lt n 256 then 8 else 9)))))))
 
 -- the rows that are Alive or Suspect, in the order of the members
 abbrev pub eligible : State → List Row
 eligible s = filter is_eligible s.rows
 
+-- the member that a row is about
 abbrev pub name : Row → ℕ
 name row = row.update.who
 
@@ -57,8 +68,9 @@ limit s = s.settings.lambda * bits (1 + length (eligible s))
 
 -- what a ping, a ping-req or an ack carries now
 abbrev pub carried : State → List Update
-carried s = picked (limit s) 30 s.queue
+carried s = picked (limit s) UPDATES_MAX s.queue
 
+-- the kind of the own update, by the phase
 abbrev pub own_kind : Phase → UpdateKind
 own_kind Running = Alive
 own_kind Left = Confirm
@@ -68,9 +80,11 @@ own_kind Expelled = Confirm
 abbrev pub own_with : State → UpdateKind → ℕ → Update
 own_with s kind n = record { kind = kind; who = s.settings.me; number = n }
 
+-- the own update, which a page has in its order
 abbrev pub own : State → Update
 own s = own_with s (own_kind s.phase) s.number
 
+-- the update of a row
 abbrev pub update_in : Row → Update
 update_in r = r.update
 
@@ -78,17 +92,26 @@ update_in r = r.update
 abbrev pub updates_with : List Row → Update → List Update
 updates_with rows own = map update_in (put_row rows (record { update = own; since = 0 }))
 
+-- the update comes after a page's cursor
 abbrev pub is_update_after : ℕ → Update → Bool
 is_update_after cursor u = nat_lt cursor u.who
 
 -- the next of these after a cursor, at most 30
 abbrev pub page_after : State → ℕ → List Update
-page_after s cursor = take 30 (filter (is_update_after cursor) (updates_with s.rows (own s)))
+page_after s cursor =
+    take UPDATES_MAX (filter (is_update_after cursor) (updates_with s.rows (own s)))
 
 -- a datagram of this member
 abbrev pub datagram : State → Kind → ℕ → ℕ → List Update → Datagram
 datagram s kind seq subject updates =
-    record { kind = kind; group = s.settings.group; seq = seq; sender = s.settings.me; subject = subject; updates = record { items = updates } }
+    record {
+      kind = kind;
+      group = s.settings.group;
+      seq = seq;
+      sender = s.settings.me;
+      subject = subject;
+      updates = record { items = updates };
+    }
 
 -- it goes out with what waits
 abbrev pub send : State → ℕ → Kind → ℕ → ℕ → Happening
@@ -96,6 +119,7 @@ send s to kind seq subject = Sent to (datagram s kind seq subject (carried s))
 
 -- Hearing
 
+-- what hearing an update about another member does, by the answer of the table
 abbrev pub heard_with : Hearing → Update → List Happening
 heard_with heard.Accepted u = Began u ∷ Heard u ∷ []
 heard_with heard.Kept u = Heard u ∷ []
@@ -110,15 +134,19 @@ hear_other s u = heard_with (answer_to s.rows u) u
 abbrev pub hear_own : ℕ → Update → List Happening
 hear_own old u =
     if not (is_kind Suspect u.kind) || nat_lt u.number old then []
-    else (if nat_lt leap (u.number - old) then Noted note.Leap ∷ []
-    else (if u.number == number_max then Noted note.NoNumberLeft ∷ [] else []))
+    else (if nat_lt LEAP (u.number - old) then Noted note.Leap ∷ []
+    else (if u.number == NUMBER_MAX then Noted note.NoNumberLeft ∷ [] else []))
 
 -- The own number
 
 -- the number that an update asks for, or 0
 abbrev pub asked : ℕ → ℕ → Update → ℕ
 asked me old u =
-    if u.who == me && is_kind Suspect u.kind && nat_le old u.number && nat_le (u.number - old) leap && nat_lt u.number number_max
+    if u.who == me
+    && is_kind Suspect u.kind
+    && nat_le old u.number
+    && nat_le (u.number - old) LEAP
+    && nat_lt u.number NUMBER_MAX
     then u.number + 1
     else 0
 
@@ -133,8 +161,11 @@ confirms me updates = list_any (λ u. u.who == me && is_kind Confirm u.kind) upd
 
 -- the number that the updates of a datagram want, or 0
 abbrev pub wanted_by : State → List Update → ℕ
-wanted_by s updates = if confirms s.settings.me updates then 0 else most_asked s.settings.me s.number updates
+wanted_by s updates =
+    if confirms s.settings.me updates then 0 else most_asked s.settings.me s.number updates
 
+-- after the updates of a datagram: expelled by a Confirm about oneself, or
+-- else a suspicion is refuted if the granted ceiling allows the wanted number
 abbrev pub settle : State → List Update → ℕ → List Happening
 settle s updates granted =
     if confirms s.settings.me updates
@@ -150,24 +181,32 @@ settle s updates granted =
 abbrev pub is_eligible_name : State → ℕ → Bool
 is_eligible_name s x = list_any (λ r. name r == x) (eligible s)
 
+-- a ping is answered with an ack, if it was meant for this member
 abbrev pub on_ping : State → Datagram → List Happening
 on_ping s p =
-    if p.subject == s.settings.me then send s p.sender Ack p.seq s.settings.me ∷ [] else Noted note.Misdirected ∷ []
+    if p.subject == s.settings.me
+    then send s p.sender Ack p.seq s.settings.me ∷ []
+    else Noted note.Misdirected ∷ []
 
+-- the relay that a ping-req asks for, by the sequence of its ping
 abbrev pub relay_for : State → Datagram → Relay
-relay_for s p = record { target = p.subject; seq = s.seq; asker = p.sender; asked = p.seq; made = s.time }
+relay_for s p =
+    record { target = p.subject; seq = s.seq; asker = p.sender; asked = p.seq; made = s.time }
 
 -- the target is pinged for the one that asked
 abbrev pub relayed : State → Datagram → List Happening
 relayed s p = send s p.subject Ping s.seq p.subject ∷ Relayed (relay_for s p) ∷ Took ∷ []
 
+-- a ping-req about oneself is answered with an ack; one about another
+-- member is relayed, if that member is eligible and there is room
 abbrev pub on_ping_req : State → Datagram → List Happening
 on_ping_req s p =
     if p.subject == s.settings.me then send s p.sender Ack p.seq s.settings.me ∷ []
     else (if not (is_eligible_name s p.subject) then Noted note.UnknownTarget ∷ []
-    else (if length s.relays == 16 then Noted note.RelaysFull ∷ []
+    else (if length s.relays == RELAYS_MAX then Noted note.RelaysFull ∷ []
     else relayed s p))
 
+-- an ack answers what was asked of this target with this sequence
 abbrev pub is_for : Datagram → ℕ → ℕ → Bool
 is_for p seq target = p.seq == seq && p.subject == target
 
@@ -175,13 +214,16 @@ is_for p seq target = p.seq == seq && p.subject == target
 abbrev pub is_answered : Datagram → Relay → Bool
 is_answered p r = is_for p r.seq r.target && p.subject == p.sender
 
+-- an ack for a relay is passed on to the member that asked; one that nothing asked for is noted
 abbrev pub on_relayed_ack : State → Datagram → Option Relay → List Happening
 on_relayed_ack s p (Some r) = send s r.asker Ack r.asked r.target ∷ Unrelayed r ∷ []
 on_relayed_ack s p None = Noted note.Unasked ∷ []
 
+-- an ack that is not for the open probe may be for a relay
 abbrev pub on_other_ack : State → Datagram → List Happening
 on_other_ack s p = on_relayed_ack s p (find (is_answered p) s.relays)
 
+-- an ack answers the open probe, a relay or nothing
 abbrev pub on_ack : State → Datagram → Option Probe → List Happening
 on_ack s p (Some q) =
     if is_for p q.seq q.target
@@ -189,6 +231,7 @@ on_ack s p (Some q) =
     else on_other_ack s p
 on_ack s p None = on_other_ack s p
 
+-- a join is answered with a page of the members after its cursor
 abbrev pub on_join : State → Datagram → List Happening
 on_join s p = Sent p.sender (datagram s Page p.seq p.subject (page_after s p.subject)) ∷ []
 
@@ -207,13 +250,18 @@ join_to s peer cursor =
     Joined (Some (record { peer = peer; seq = s.seq; cursor = cursor }))
     ∷ Sent peer (datagram s Join s.seq cursor (own s ∷ [])) ∷ Took ∷ []
 
+-- a page that was asked for: after a full one the
+-- next is asked for, after any other the join is over
 abbrev pub on_page : State → Datagram → Option Joining → List Happening
 on_page s p (Some j) =
     if p.sender == j.peer && p.seq == j.seq && p.subject == j.cursor
-    then (if length p.updates.items == 30 && nat_lt j.cursor (last_name p.updates.items) then join_to s j.peer (last_name p.updates.items) else Joined None ∷ [])
+    then (if length p.updates.items == UPDATES_MAX && nat_lt j.cursor (last_name p.updates.items)
+    then join_to s j.peer (last_name p.updates.items)
+    else Joined None ∷ [])
     else Noted note.Unasked ∷ []
 on_page s p None = Noted note.Unasked ∷ []
 
+-- what a datagram is answered with, by its kind
 abbrev pub reply : State → Kind → Datagram → List Happening
 reply s Ping p = on_ping s p
 reply s PingReq p = on_ping_req s p
@@ -247,6 +295,7 @@ suspected s None = []
 suspected s (Some r) =
     if is_kind Alive r.update.kind then hear_other s (suspect_of r) else []
 
+-- the target of a probe that nobody answered is suspected
 abbrev pub blame : State → Option Probe → List Happening
 blame s None = []
 blame s (Some q) = if q.answered then [] else suspected s (row_of s.rows q.target)
@@ -264,21 +313,27 @@ probe_row s (Some r) = probe_of s (name r)
 
 -- the eligible row that a word chooses
 abbrev pub chosen : State → ℕ → Option Row
-chosen s word = if length (eligible s) == 0 then None else slice_get (eligible s) (word % length (eligible s))
+chosen s word =
+    if length (eligible s) == 0 then None else slice_get (eligible s) (word % length (eligible s))
 
 -- the members to ask about x: those after it and then those before it
 abbrev pub helpers_about : State → ℕ → List ℕ
 helpers_about s x =
-    take s.settings.helpers (map name (filter (λ r. nat_lt x (name r)) (eligible s) ++ filter (λ r. nat_lt (name r) x) (eligible s)))
+    take s.settings.helpers (map name (filter (λ r. nat_lt x (name r)) (eligible s)
+    ++ filter (λ r. nat_lt (name r) x) (eligible s)))
 
+-- a ping-req about the target of the probe to one helper
 abbrev pub ask_one : State → Probe → Option ℕ → List Happening
 ask_one s q None = []
 ask_one s q (Some helper) = send s helper PingReq q.seq q.target ∷ []
 
+-- the k-th helper is asked about the target, if the probe is still open
 abbrev pub ask : State → Option Probe → ℕ → List Happening
 ask s None k = []
 ask s (Some q) k =
-    if not q.answered && is_eligible_name s q.target then ask_one s q (slice_get (helpers_about s q.target) k) else []
+    if not q.answered && is_eligible_name s q.target
+    then ask_one s q (slice_get (helpers_about s q.target) k)
+    else []
 
 -- the k-th ping of a leave
 abbrev pub bye : State → Option Row → List Happening
@@ -304,6 +359,7 @@ pub data Move : Type 0 where
   Show : ℕ → Move
   Take : Note → Move
 
+-- what only a running member does
 abbrev pub when_running : Phase → List Happening → List Happening
 when_running Running happened = happened
 when_running Left happened = []
@@ -322,7 +378,8 @@ perform s (Probe_next word) = if is_at s 0 then probe_row s (chosen s word) else
 perform s (Ask k) = if is_at s s.settings.direct then ask s s.probe k else []
 perform s Depart = Began (own_with s Confirm s.number) ∷ Became Left ∷ []
 perform s (Bye k) = if nat_le k s.settings.helpers then bye s (slice_get (eligible s) k) else []
-perform s (Join_peer peer) = if peer == s.settings.me then Noted note.Misdirected ∷ [] else join_to s peer 0
+perform s (Join_peer peer) =
+    if peer == s.settings.me then Noted note.Misdirected ∷ [] else join_to s peer 0
 perform s (Show cursor) = Paged (page_after s cursor) ∷ []
 perform s (Take n) = Noted n ∷ []
 
@@ -341,8 +398,10 @@ refused settings from (Ok p) =
 
 -- what is done at a datagram that is read
 abbrev pub datagram_moves : Datagram → ℕ → List Move
-datagram_moves p granted = map (λ u. Hear u) p.updates.items ++ Settle p.updates.items granted ∷ Reply p ∷ []
+datagram_moves p granted =
+    map (λ u. Hear u) p.updates.items ++ Settle p.updates.items granted ∷ Reply p ∷ []
 
+-- the moves of a datagram: a refused one is only noted, one that is no datagram does nothing
 abbrev pub accepted_moves : Option Note → Result Datagram WireFault → ℕ → List Move
 accepted_moves (Some n) read granted = Take n ∷ []
 accepted_moves None (Err fault) granted = []
@@ -350,13 +409,18 @@ accepted_moves None (Ok p) granted = datagram_moves p granted
 
 -- what is done at a tick that counts
 abbrev pub tick_moves : ℕ → List Move
-tick_moves word = Advance ∷ replicate 256 Expire ++ replicate 256 Forget ++ Blame ∷ Probe_next word ∷ each_from 0 8 (λ k. Ask k)
+tick_moves word =
+    Advance ∷ replicate ROWS_MAX Expire ++ replicate ROWS_MAX Forget ++ Blame ∷ Probe_next word
+    ∷ each_from 0 HELPERS_MAX (λ k. Ask k)
 
+-- the moves of the event Datagram
 abbrev pub moves_of_datagram : State → ℕ → List ℕ → ℕ → List Move
-moves_of_datagram s from bytes granted = accepted_moves (refused s.settings from (reading bytes)) (reading bytes) granted
+moves_of_datagram s from bytes granted =
+    accepted_moves (refused s.settings from (reading bytes)) (reading bytes) granted
 
+-- the moves of the event Tick; after the last tick it is only noted
 abbrev pub moves_of_tick : State → ℕ → List Move
-moves_of_tick s word = if s.time == last_time then Take note.TimeOver ∷ [] else tick_moves word
+moves_of_tick s word = if s.time == LAST_TIME then Take note.TimeOver ∷ [] else tick_moves word
 
 -- what is done at an event while running
 abbrev pub running_moves : State → Event → ℕ → List Move
@@ -365,18 +429,21 @@ running_moves s (event.Datagram from bytes) granted = moves_of_datagram s from b
 running_moves s event.ReceiveFailed granted = Take note.ReceiveFailed ∷ []
 running_moves s (event.SendFailed count) granted = Take (note.SendFailed count) ∷ []
 running_moves s (event.Join peer) granted = Join_peer peer ∷ []
-running_moves s event.Leave granted = Depart ∷ each_from 0 9 (λ k. Bye k)
+running_moves s event.Leave granted = Depart ∷ each_from 0 BYES_MAX (λ k. Bye k)
 running_moves s (event.Members cursor) granted = Show cursor ∷ []
 
+-- the moves of a member that takes no part: it shows its members, and notes everything else
 abbrev pub stopped_moves : Event → List Move
 stopped_moves (event.Members cursor) = Show cursor ∷ []
 stopped_moves _ = Take note.Stopped ∷ []
 
+-- the moves of an event, by the phase
 abbrev pub moves_in : Phase → State → Event → ℕ → List Move
 moves_in Running s event granted = running_moves s event granted
 moves_in Left s event granted = stopped_moves event
 moves_in Expelled s event granted = stopped_moves event
 
+-- the moves of an event, one after another
 abbrev pub moves : State → Event → ℕ → List Move
 moves s event granted = moves_in s.phase s event granted
 
@@ -385,7 +452,8 @@ moves s event granted = moves_in s.phase s event granted
 -- what happens by these moves after what happened before, the newest first
 abbrev pub news : State → List Happening → List Move → List Happening
 news base log [] = []
-news base log (m ∷ moves) = news base (perform (state base log) m ++ log) moves ++ perform (state base log) m
+news base log (m ∷ moves) =
+    news base (perform (state base log) m ++ log) moves ++ perform (state base log) m
 
 -- an event with the ceiling that was granted for it
 pub record Step : Type 0 where
@@ -396,6 +464,7 @@ pub record Step : Type 0 where
 abbrev pub news_of : State → List Happening → Event → ℕ → List Happening
 news_of base log event granted = news base log (moves (state base log) event granted)
 
+-- the log after these steps, from a log before them
 abbrev pub log_after : State → List Happening → List Step → List Happening
 log_after base log [] = log
 log_after base log (e ∷ steps) = log_after base (news_of base log e.event e.granted ++ log) steps
@@ -414,6 +483,7 @@ outs [] = []
 outs (Sent to p ∷ log) = outs log ++ record { to = to; datagram = p } ∷ []
 outs (_ ∷ log) = outs log
 
+-- the notes among these happenings, the first one first
 abbrev pub notes : List Happening → List Note
 notes [] = []
 notes (Noted n ∷ log) = notes log ++ n ∷ []
@@ -425,8 +495,13 @@ page [] = []
 page (Paged updates ∷ log) = updates
 page (_ ∷ log) = page log
 
+-- the answer of a step, read off what happened in it
 abbrev pub answer_in : List Happening → Answer
-answer_in happened = record { outs = record { items = outs happened }; notes = record { items = notes happened }; page = record { items = page happened } }
+answer_in happened = record {
+  outs = record { items = outs happened };
+  notes = record { items = notes happened };
+  page = record { items = page happened };
+}
 
 -- what a member answers to an event after a history
 abbrev pub answer : State → List Step → Event → ℕ → Answer
@@ -434,19 +509,27 @@ answer base steps event granted = answer_in (news_of base (log_of base steps) ev
 
 -- the number that an event wants, or none
 abbrev pub wanted_in : Option Note → Phase → State → Result Datagram WireFault → Option ℕ
-wanted_in None Running s (Ok p) = if wanted_by s p.updates.items == 0 then None else Some (wanted_by s p.updates.items)
+wanted_in None Running s (Ok p) =
+    if wanted_by s p.updates.items == 0 then None else Some (wanted_by s p.updates.items)
 wanted_in _ _ s read = None
 
+-- the number that an event wants: only a datagram can want one
 abbrev pub wanted : State → Event → Option ℕ
-wanted s (event.Datagram from bytes) = wanted_in (refused s.settings from (reading bytes.items)) s.phase s (reading bytes.items)
+wanted s (event.Datagram from bytes) =
+    wanted_in (refused s.settings from (reading bytes.items)) s.phase s (reading bytes.items)
 wanted s _ = None
 
+-- how many rows are of this kind
 abbrev pub rows_of_kind : UpdateKind → State → ℕ
 rows_of_kind kind s = length (filter (is_of_kind kind) s.rows)
 
 -- how many rows are Alive, Suspect and Confirm
 abbrev pub counts : State → Counts
-counts s = record { alive = rows_of_kind Alive s; suspect = rows_of_kind Suspect s; confirmed = rows_of_kind Confirm s }
+counts s = record {
+  alive = rows_of_kind Alive s;
+  suspect = rows_of_kind Suspect s;
+  confirmed = rows_of_kind Confirm s;
+}
 
 -- the own number after an event that wants a number or none
 abbrev pub number_after : Option ℕ → ℕ → ℕ → ℕ
@@ -461,7 +544,8 @@ fresh settings first = record {
   phase = Running;
   time = 0;
   rows = [];
-  queue = record { update = record { kind = Alive; who = settings.me; number = first }; count = 0 } ∷ [];
+  queue = record { update = record { kind = Alive; who = settings.me; number = first }; count = 0 }
+      ∷ [];
   seq = 1;
   probe = None;
   relays = [];

@@ -2,7 +2,6 @@ pub mod Checks
 pub mod State
 pub mod Readings
 pub mod Events
-pub mod Steps
-pub mod Kept
 pub mod Fit
 pub mod Texts
+pub mod Machinery

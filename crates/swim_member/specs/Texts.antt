@@ -7,6 +7,7 @@ use Rattle.swim_member.specs.declared.note.Note.TheVariants as note
 use Rattle.swim_member.specs.declared.settings.SettingsFault.{SettingsFault}
 use Rattle.swim_member.specs.declared.settings.SettingsFault.TheVariants as setting
 
+-- the number and the name of each fault of the settings, and its text
 abbrev pub setting_number : SettingsFault → ℕ
 setting_number setting.Lambda = 1
 setting_number setting.Period = 2
@@ -26,6 +27,7 @@ setting_name setting.Helpers = codes "Helpers"
 abbrev pub setting_text : SettingsFault → List ℕ
 setting_text fault = numbered (setting_number fault) (setting_name fault)
 
+-- the number and the name of each note, as PROTOCOL.md has them
 abbrev pub note_number : Note → ℕ
 note_number (note.BadDatagram fault) = 1
 note_number note.OtherGroup = 2
@@ -70,5 +72,6 @@ note_rest (note.BadDatagram fault) = codes " " ++ fault_text fault
 note_rest (note.SendFailed count) = codes " " ++ decimal count
 note_rest _ = []
 
+-- the text of a note: number and name, and what it is about
 abbrev pub note_text : Note → List ℕ
 note_text said = numbered (note_number said) (note_name said) ++ note_rest said

@@ -6,7 +6,7 @@ ghost use Rattle.swim_member.specs.Fit.{is_fit};
 ghost use Rattle.std.specs.Option.{option_to_list};
 ghost use Rattle.swim_member.specs.Readings.{is_relay, without_relay};
 ghost use Rattle.swim_member.specs.Events.{on_ack, on_other_ack, is_for, is_answered, outs, notes};
-ghost use Rattle.swim_member.specs.Steps.{apply_all, relay_place};
+ghost use Rattle.swim_member.specs.Machinery.Steps.{apply_all, relay_place};
 
 use crate::answer::{OUTS_MAX, Out};
 use crate::member::{Member, RELAYS_MAX};

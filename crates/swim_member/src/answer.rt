@@ -4,7 +4,7 @@ ghost use Rattle.std.specs.Prelude.{◌≡◌, ℕ, ◌<◌, [], ◌∷◌, ◌+
 ghost use Rattle.std.specs.List.{list_all};
 ghost use Rattle.std.specs.Option.{option_to_list};
 ghost use Rattle.swim_member.specs.Fit.{is_fit};
-ghost use Rattle.swim_member.specs.Steps.{no_answer};
+ghost use Rattle.swim_member.specs.Machinery.Steps.{no_answer};
 
 use crate::note::Note;
 use arrayvec::ArrayVec;
@@ -28,7 +28,17 @@ pub struct Out {
 /// What fills the unused places of a list.
 impl Default for Out {
     fn default() -> Out
-        ensures { result ≡ record { to = 1; datagram = record { kind = Kind.Ping; group = 0; seq = 0; sender = 1; subject = 0; updates = record { items = [] } } } }
+        ensures { result ≡ record {
+          to = 1;
+          datagram = record {
+            kind = Kind.Ping;
+            group = 0;
+            seq = 0;
+            sender = 1;
+            subject = 0;
+            updates = record { items = [] };
+          };
+        } }
     {
         Out {
             to: Endpoint::default(),
@@ -70,7 +80,11 @@ impl Answer {
     /// Takes a note, and says no more.
     pub(crate) fn take_note(&mut self, note: Note)
         requires { self.old ≡ no_answer }
-        ensures { self.new ≡ record { outs = record { items = [] }; notes = record { items = note ∷ [] }; page = record { items = [] } } }
+        ensures { self.new ≡ record {
+          outs = record { items = [] };
+          notes = record { items = note ∷ [] };
+          page = record { items = [] };
+        } }
     {
         self.notes.push(note);
     }
@@ -78,7 +92,7 @@ impl Answer {
 
 /// Adds a note, if there is one.
 pub(crate) fn note_down(notes: &mut ArrayVec<Note, NOTES_MAX>, note: Option<Note>)
-    requires { length notes.old.items < 32 }
+    requires { length notes.old.items < NOTES_MAX }
     ensures { notes.new.items ≡ notes.old.items ++ option_to_list note }
 {
     if let Some(note) = note {
@@ -88,9 +102,12 @@ pub(crate) fn note_down(notes: &mut ArrayVec<Note, NOTES_MAX>, note: Option<Note
 
 /// Adds a datagram, if there is one.
 pub(crate) fn send_out(outs: &mut ArrayVec<Out, OUTS_MAX>, out: Option<Out>)
-    requires { length outs.old.items < 10 }
+    requires { length outs.old.items < OUTS_MAX }
     ensures items { outs.new.items ≡ outs.old.items ++ option_to_list out }
-    ensures fit { (me n : ℕ) → list_all (is_fit me n) outs.old.items ≡ true → list_all (is_fit me n) (option_to_list out) ≡ true → list_all (is_fit me n) outs.new.items ≡ true }
+    ensures fit { (me n : ℕ)
+        → list_all (is_fit me n) outs.old.items ≡ true
+        → list_all (is_fit me n) (option_to_list out) ≡ true
+        → list_all (is_fit me n) outs.new.items ≡ true }
 {
     if let Some(out) = out {
         outs.push(out);

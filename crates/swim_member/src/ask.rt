@@ -5,7 +5,7 @@ ghost use Rattle.std.specs.List.{filter, list_all};
 ghost use Rattle.swim_member.specs.Fit.{is_fit};
 ghost use Rattle.swim_rules.specs.Rows.{is_eligible};
 ghost use Rattle.swim_member.specs.Events.{name, Ask, each_from};
-ghost use Rattle.swim_member.specs.Steps.{after, outs_by, is_helper, after_asks, outs_of_asks, asking};
+ghost use Rattle.swim_member.specs.Machinery.Steps.{after, outs_by, is_helper, after_asks, outs_of_asks, asking};
 
 use crate::answer::{OUTS_MAX, Out};
 use crate::member::Member;
@@ -37,9 +37,10 @@ fn add_helpers(
     later: bool,
     most: usize,
 )
-    requires most { most ≤ 8 }
+    requires most { most ≤ HELPERS_MAX }
     requires room { length helpers.old.items ≤ most }
-    ensures items { helpers.new.items ≡ take most (helpers.old.items ++ map name (filter (is_helper target later) rows.now)) }
+    ensures items { helpers.new.items
+        ≡ take most (helpers.old.items ++ map name (filter (is_helper target later) rows.now)) }
     ensures room { length helpers.new.items ≤ most }
 {
     for row in rows {
@@ -52,8 +53,10 @@ fn add_helpers(
 /// The members to ask about a target, at most `most`: the eligible ones after it, and then those
 /// before it.
 fn helpers_about(rows: &[Row], target: Endpoint, most: usize) -> ArrayVec<Endpoint, HELPERS_MAX>
-    requires { most ≤ 8 }
-    ensures helpers { result.items ≡ take most (map name (filter (λ r. nat_lt target (name r)) (filter is_eligible rows.now) ++ filter (λ r. nat_lt (name r) target) (filter is_eligible rows.now))) }
+    requires { most ≤ HELPERS_MAX }
+    ensures helpers { result.items
+        ≡ take most (map name (filter (λ r. nat_lt target (name r)) (filter is_eligible rows.now)
+        ++ filter (λ r. nat_lt (name r) target) (filter is_eligible rows.now))) }
     ensures room { length result.items ≤ most }
 {
     let mut helpers = ArrayVec::new();
@@ -65,10 +68,12 @@ fn helpers_about(rows: &[Row], target: Endpoint, most: usize) -> ArrayVec<Endpoi
 impl Member {
     /// Asks each of these members to ping the target of a probe.
     fn ask_each(&mut self, probe: &Probe, helpers: &[Endpoint], outs: &mut ArrayVec<Out, OUTS_MAX>)
-        requires { length outs.old.items + length helpers.now ≤ 10 }
+        requires { length outs.old.items + length helpers.now ≤ OUTS_MAX }
         ensures state { self.new ≡ after_asks self.old probe.now helpers.now }
-        ensures outs { outs.new.items ≡ outs.old.items ++ outs_of_asks self.old probe.now helpers.now }
-        ensures fit { list_all (is_fit self.old.settings.me self.old.number) outs.old.items ≡ true → list_all (is_fit self.new.settings.me self.new.number) outs.new.items ≡ true }
+        ensures outs { outs.new.items
+            ≡ outs.old.items ++ outs_of_asks self.old probe.now helpers.now }
+        ensures fit { list_all (is_fit self.old.settings.me self.old.number) outs.old.items ≡ true
+            → list_all (is_fit self.new.settings.me self.new.number) outs.new.items ≡ true }
         ensures few { length outs.new.items ≡ length outs.old.items + length helpers.now }
     {
         for helper in helpers {
@@ -93,9 +98,11 @@ impl Member {
     /// Where the moment has come, asks other members to ping a target that did not answer.
     pub(crate) fn ask_all(&mut self, outs: &mut ArrayVec<Out, OUTS_MAX>)
         requires { length outs.old.items ≤ 2 }
-        ensures state { self.new ≡ after self.old (each_from 0 8 (λ k. Ask k)) }
-        ensures outs { outs.new.items ≡ outs.old.items ++ outs_by self.old (each_from 0 8 (λ k. Ask k)) }
-        ensures fit { list_all (is_fit self.old.settings.me self.old.number) outs.old.items ≡ true → list_all (is_fit self.new.settings.me self.new.number) outs.new.items ≡ true }
+        ensures state { self.new ≡ after self.old (each_from 0 HELPERS_MAX (λ k. Ask k)) }
+        ensures outs { outs.new.items
+            ≡ outs.old.items ++ outs_by self.old (each_from 0 HELPERS_MAX (λ k. Ask k)) }
+        ensures fit { list_all (is_fit self.old.settings.me self.old.number) outs.old.items ≡ true
+            → list_all (is_fit self.new.settings.me self.new.number) outs.new.items ≡ true }
         ensures few { length outs.new.items ≤ length outs.old.items + self.old.settings.helpers }
     {
         match self.asking() {

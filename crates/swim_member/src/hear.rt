@@ -3,7 +3,8 @@
 ghost use Rattle.std.specs.Prelude.{◌≡◌, ◌≢◌, ℕ, ◌+◌, ◌≤◌, ◌^◌, map, length, ◌++◌, All};
 ghost use Rattle.std.specs.Option.{option_to_list};
 ghost use Rattle.swim_member.specs.Events.{Hear, perform, hear_other, hear_own, notes};
-ghost use Rattle.swim_member.specs.Steps.{apply_all, after, notes_by};
+ghost use Rattle.swim_member.specs.Machinery.Steps.{apply_all, after, notes_by};
+ghost use Rattle.swim_wire.specs.declared.datagram.TheConstants.{UPDATES_MAX};
 
 use crate::answer::NOTES_MAX;
 use crate::member::Member;
@@ -17,7 +18,7 @@ impl Member {
     /// Hears an update about another member.
     pub(crate) fn hear_other(&mut self, update: &Update) -> Option<Note>
         requires other { update.now.who ≢ self.old.settings.me }
-        requires number { update.now.number ≤ 2 ^ 62 }
+        requires number { update.now.number ≤ NUMBER_MAX }
         ensures state { self.new ≡ apply_all (hear_other self.old update.now) self.old }
         ensures note { option_to_list result ≡ notes (hear_other self.old update.now) }
     {
@@ -50,7 +51,7 @@ impl Member {
 
     /// Hears an update of a datagram.
     fn hear(&mut self, update: &Update) -> Option<Note>
-        requires { update.now.number ≤ 2 ^ 62 }
+        requires { update.now.number ≤ NUMBER_MAX }
         ensures state { self.new ≡ apply_all (perform self.old (Hear update.now)) self.old }
         ensures note { option_to_list result ≡ notes (perform self.old (Hear update.now)) }
     {
@@ -63,10 +64,11 @@ impl Member {
 
     /// Hears the updates of a datagram, in order.
     pub(crate) fn hear_all(&mut self, updates: &[Update], noted: &mut ArrayVec<Note, NOTES_MAX>)
-        requires room { length noted.old.items + length updates.now ≤ 30 }
-        requires numbers { All (λ u. u.number ≤ 2 ^ 62) updates.now }
+        requires room { length noted.old.items + length updates.now ≤ UPDATES_MAX }
+        requires numbers { All (λ u. u.number ≤ NUMBER_MAX) updates.now }
         ensures state { self.new ≡ after self.old (map (λ u. Hear u) updates.now) }
-        ensures notes { noted.new.items ≡ noted.old.items ++ notes_by self.old (map (λ u. Hear u) updates.now) }
+        ensures notes { noted.new.items
+            ≡ noted.old.items ++ notes_by self.old (map (λ u. Hear u) updates.now) }
         ensures fit { length noted.new.items ≤ length noted.old.items + length updates.now }
     {
         for update in updates {

@@ -5,7 +5,7 @@ ghost use Rattle.std.specs.List.{list_all};
 ghost use Rattle.swim_member.specs.Fit.{may_say, is_fit};
 ghost use Rattle.std.specs.Option.{option_to_list};
 ghost use Rattle.swim_member.specs.Events.{Join_peer, perform, join_to, own, own_kind, on_join, outs, notes};
-ghost use Rattle.swim_member.specs.Steps.{apply_all, after, answer_by, no_answer};
+ghost use Rattle.swim_member.specs.Machinery.Steps.{apply_all, after, answer_by, no_answer};
 
 use crate::answer::{Answer, OUTS_MAX, Out, note_down};
 use crate::member::Member;
@@ -77,7 +77,8 @@ impl Member {
         requires { answer.old ≡ no_answer }
         ensures state { self.new ≡ after self.old (Join_peer peer ∷ []) }
         ensures answer { answer.new ≡ answer_by self.old (Join_peer peer ∷ []) }
-        ensures fit { list_all (is_fit self.new.settings.me self.new.number) answer.new.outs.items ≡ true }
+        ensures fit { list_all (is_fit self.new.settings.me self.new.number) answer.new.outs.items
+            ≡ true }
         ensures few { length answer.new.outs.items ≤ 1 }
     {
         let noted = self.join(peer, &mut answer.outs);

@@ -5,7 +5,7 @@ ghost use Rattle.std.specs.List.{list_all};
 ghost use Rattle.swim_member.specs.Fit.{is_fit};
 ghost use Rattle.std.specs.Option.{option_to_list};
 ghost use Rattle.swim_member.specs.Events.{Depart, Bye, each_from, perform, outs};
-ghost use Rattle.swim_member.specs.Steps.{apply_all, after, outs_by, answer_by, no_answer};
+ghost use Rattle.swim_member.specs.Machinery.Steps.{apply_all, after, outs_by, answer_by, no_answer};
 
 use crate::answer::{Answer, OUTS_MAX, Out, send_out};
 use crate::member::Member;
@@ -32,7 +32,8 @@ impl Member {
     pub(crate) fn bye(&mut self, number: usize) -> Option<Out>
         ensures state { self.new ≡ apply_all (perform self.old (Bye number)) self.old }
         ensures out { option_to_list result ≡ outs (perform self.old (Bye number)) }
-        ensures fit { list_all (is_fit self.new.settings.me self.new.number) (option_to_list result) ≡ true }
+        ensures fit { list_all (is_fit self.new.settings.me self.new.number) (option_to_list result)
+            ≡ true }
         ensures few { self.old.settings.helpers < number → result ≡ None }
     {
         if self.settings.helpers < number {
@@ -50,8 +51,8 @@ impl Member {
     /// Pings the first eligible members, one more than `helpers`, with the own Confirm.
     fn say_bye(&mut self, outs: &mut ArrayVec<Out, OUTS_MAX>)
         requires { outs.old.items ≡ [] }
-        ensures state { self.new ≡ after self.old (each_from 0 9 (λ k. Bye k)) }
-        ensures outs { outs.new.items ≡ outs_by self.old (each_from 0 9 (λ k. Bye k)) }
+        ensures state { self.new ≡ after self.old (each_from 0 BYES_MAX (λ k. Bye k)) }
+        ensures outs { outs.new.items ≡ outs_by self.old (each_from 0 BYES_MAX (λ k. Bye k)) }
         ensures fit { list_all (is_fit self.new.settings.me self.new.number) outs.new.items ≡ true }
         ensures few { length outs.new.items ≤ self.old.settings.helpers + 1 }
     {
@@ -64,9 +65,11 @@ impl Member {
     /// Leaves the group.
     pub(crate) fn leave(&mut self, answer: &mut Answer)
         requires { answer.old ≡ no_answer }
-        ensures state { self.new ≡ after self.old (Depart ∷ each_from 0 9 (λ k. Bye k)) }
-        ensures answer { answer.new ≡ answer_by self.old (Depart ∷ each_from 0 9 (λ k. Bye k)) }
-        ensures fit { list_all (is_fit self.new.settings.me self.new.number) answer.new.outs.items ≡ true }
+        ensures state { self.new ≡ after self.old (Depart ∷ each_from 0 BYES_MAX (λ k. Bye k)) }
+        ensures answer { answer.new
+            ≡ answer_by self.old (Depart ∷ each_from 0 BYES_MAX (λ k. Bye k)) }
+        ensures fit { list_all (is_fit self.new.settings.me self.new.number) answer.new.outs.items
+            ≡ true }
         ensures few { length answer.new.outs.items ≤ self.old.settings.helpers + 2 }
     {
         self.depart();

@@ -6,7 +6,7 @@ ghost use Rattle.swim_member.specs.Fit.{may_say, is_fit};
 ghost use Rattle.std.specs.Option.{option_to_list};
 ghost use Rattle.swim_rules.specs.Rows.{AreInOrder, LacksRow};
 ghost use Rattle.swim_member.specs.Events.{updates_with, page_after, is_update_after, last_name, on_page, outs, notes};
-ghost use Rattle.swim_member.specs.Steps.{apply_all, earlier};
+ghost use Rattle.swim_member.specs.Machinery.Steps.{apply_all, earlier};
 
 use crate::answer::{OUTS_MAX, Out};
 use crate::member::Member;
@@ -62,7 +62,8 @@ fn cursor_of(update: &Update) -> Cursor
 fn page_of(table: &Table, own: &Update, cursor: Cursor) -> ArrayVec<Update, UPDATES_MAX>
     requires order { AreInOrder table.now.rows }
     requires other { LacksRow own.now.who table.now.rows }
-    ensures { result.items ≡ take 30 (filter (is_update_after cursor) (updates_with table.now.rows own.now)) }
+    ensures { result.items
+        ≡ take UPDATES_MAX (filter (is_update_after cursor) (updates_with table.now.rows own.now)) }
 {
     let mut page = ArrayVec::new();
     let mut last = cursor;

@@ -5,7 +5,7 @@ ghost use Rattle.std.specs.List.{list_all};
 ghost use Rattle.swim_member.specs.Fit.{is_fit};
 ghost use Rattle.std.specs.Option.{option_to_list};
 ghost use Rattle.swim_member.specs.Events.{on_ping, outs, notes};
-ghost use Rattle.swim_member.specs.Steps.{apply_all};
+ghost use Rattle.swim_member.specs.Machinery.Steps.{apply_all};
 
 use crate::answer::{OUTS_MAX, Out};
 use crate::member::Member;

@@ -2,11 +2,12 @@
 
 ghost use Rattle.std.specs.Prelude.{◌≡◌, ◌≢◌, ◌<◌, ◌≤◌, ◌==◌, [], length, true};
 ghost use Rattle.std.specs.List.{filter, list_any, list_all};
+ghost use Rattle.swim_member.specs.declared.member.TheConstants.{RELAYS_MAX};
 ghost use Rattle.swim_member.specs.Fit.{is_fit};
 ghost use Rattle.std.specs.Option.{option_to_list};
 ghost use Rattle.swim_rules.specs.Rows.{is_eligible};
 ghost use Rattle.swim_member.specs.Events.{name, on_ping_req, is_eligible_name, relayed, outs, notes};
-ghost use Rattle.swim_member.specs.Steps.{apply_all};
+ghost use Rattle.swim_member.specs.Machinery.Steps.{apply_all};
 
 use crate::answer::{OUTS_MAX, Out};
 use crate::member::Member;
@@ -42,7 +43,7 @@ impl Member {
         sent: &mut ArrayVec<Out, OUTS_MAX>,
     ) -> Option<Note>
         requires subject { target ≡ request.now.subject }
-        requires room { length self.old.relays < 16 }
+        requires room { length self.old.relays < RELAYS_MAX }
         requires empty { sent.old.items ≡ [] }
         ensures state { self.new ≡ apply_all (relayed self.old request.now) self.old }
         ensures sent { sent.new.items ≡ outs (relayed self.old request.now) }

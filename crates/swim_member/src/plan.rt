@@ -1,6 +1,7 @@
 //! Plans: which own number an event wants.
 
 ghost use Rattle.std.specs.Prelude.{◌≡◌, ◌≤◌, ◌^◌, ◌==◌, Some, None, IfSome, if◌then◌else◌};
+ghost use Rattle.swim_wire.specs.declared.update.TheConstants.{NUMBER_MAX};
 ghost use Rattle.swim_wire.specs.Decoding.{reading};
 ghost use Rattle.swim_member.specs.Events.{wanted, wanted_in, wanted_by, refused};
 
@@ -13,8 +14,11 @@ use swim_wire::{Endpoint, Update, decode};
 impl Member {
     /// The number that updates want, or none.
     fn wanted_by(&self, updates: &[Update]) -> Option<u64>
-        ensures value { result ≡ (if wanted_by self.now updates.now == 0 then None else Some (wanted_by self.now updates.now)) }
-        ensures bound { IfSome result (λ n. n ≤ 2 ^ 62) }
+        ensures value { result
+            ≡ (if wanted_by self.now updates.now == 0
+            then None
+            else Some (wanted_by self.now updates.now)) }
+        ensures bound { IfSome result (λ n. n ≤ NUMBER_MAX) }
     {
         if has_confirm(updates, self.settings.me) {
             return None;
@@ -25,8 +29,10 @@ impl Member {
 
     /// The number that a received datagram wants, or none.
     fn wanted_in(&self, from: Endpoint, bytes: &[u8]) -> Option<u64>
-        ensures value { result ≡ wanted_in (refused self.now.settings from (reading bytes.now)) self.now.phase self.now (reading bytes.now) }
-        ensures bound { IfSome result (λ n. n ≤ 2 ^ 62) }
+        ensures value { result ≡ wanted_in
+            (refused self.now.settings from (reading bytes.now))
+            self.now.phase self.now (reading bytes.now) }
+        ensures bound { IfSome result (λ n. n ≤ NUMBER_MAX) }
     {
         if self.phase != Phase::Running {
             return None;
@@ -46,7 +52,7 @@ impl Member {
     /// step decides whether the member gets it.
     pub fn plan(&self, event: &Event) -> Option<u64>
         ensures value { result ≡ wanted self.now event.now }
-        ensures bound { IfSome result (λ n. n ≤ 2 ^ 62) }
+        ensures bound { IfSome result (λ n. n ≤ NUMBER_MAX) }
     {
         match event {
             Event::Datagram { from, bytes } => self.wanted_in(*from, bytes),

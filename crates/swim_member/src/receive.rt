@@ -4,9 +4,10 @@ ghost use Rattle.std.specs.Prelude.{◌≡◌, ◌≤◌, ◌+◌, ◌^◌, [], 
 ghost use Rattle.std.specs.List.{list_all};
 ghost use Rattle.swim_member.specs.Fit.{is_fit};
 ghost use Rattle.std.specs.Option.{option_to_list};
+ghost use Rattle.swim_wire.specs.declared.update.TheConstants.{NUMBER_MAX};
 ghost use Rattle.swim_wire.specs.Codes.{MayHaveZero};
 ghost use Rattle.swim_member.specs.Events.{Reply, perform, datagram_moves, moves_of_datagram, refused, outs, notes};
-ghost use Rattle.swim_member.specs.Steps.{apply_all, after, notes_by, outs_by, answer_by, no_answer};
+ghost use Rattle.swim_member.specs.Machinery.Steps.{apply_all, after, notes_by, outs_by, answer_by, no_answer};
 ghost use Rattle.swim_wire.specs.Decoding.{reading};
 
 use crate::answer::{Answer, OUTS_MAX, Out, note_down};
@@ -43,13 +44,16 @@ impl Member {
     /// its kind asks for.
     fn receive(&mut self, datagram: &Datagram, granted: u64, answer: &mut Answer)
         requires subject { datagram.now.subject ≡ 0 → MayHaveZero datagram.now.kind }
-        requires numbers { All (λ u. u.number ≤ 2 ^ 62) datagram.now.updates.items }
+        requires numbers { All (λ u. u.number ≤ NUMBER_MAX) datagram.now.updates.items }
         requires nothing { answer.old ≡ no_answer }
         ensures state { self.new ≡ after self.old (datagram_moves datagram.now granted) }
-        ensures outs { answer.new.outs.items ≡ outs_by self.old (datagram_moves datagram.now granted) }
-        ensures notes { answer.new.notes.items ≡ notes_by self.old (datagram_moves datagram.now granted) }
+        ensures outs { answer.new.outs.items
+            ≡ outs_by self.old (datagram_moves datagram.now granted) }
+        ensures notes { answer.new.notes.items
+            ≡ notes_by self.old (datagram_moves datagram.now granted) }
         ensures page { answer.new.page.items ≡ [] }
-        ensures fit { list_all (is_fit self.new.settings.me self.new.number) answer.new.outs.items ≡ true }
+        ensures fit { list_all (is_fit self.new.settings.me self.new.number) answer.new.outs.items
+            ≡ true }
         ensures few { length answer.new.outs.items ≤ 1 }
     {
         self.hear_all(&datagram.updates, &mut answer.notes);
@@ -82,9 +86,12 @@ impl Member {
         answer: &mut Answer,
     )
         requires { answer.old ≡ no_answer }
-        ensures state { self.new ≡ after self.old (moves_of_datagram self.old from bytes.now granted) }
-        ensures answer { answer.new ≡ answer_by self.old (moves_of_datagram self.old from bytes.now granted) }
-        ensures fit { list_all (is_fit self.new.settings.me self.new.number) answer.new.outs.items ≡ true }
+        ensures state { self.new
+            ≡ after self.old (moves_of_datagram self.old from bytes.now granted) }
+        ensures answer { answer.new
+            ≡ answer_by self.old (moves_of_datagram self.old from bytes.now granted) }
+        ensures fit { list_all (is_fit self.new.settings.me self.new.number) answer.new.outs.items
+            ≡ true }
         ensures few { length answer.new.outs.items ≤ self.old.settings.helpers + 2 }
     {
         match decode(bytes) {

@@ -4,7 +4,7 @@ ghost use Rattle.std.specs.Prelude.{◌≡◌, ℕ, ◌+◌, ◌≤◌, ◌^◌}
 ghost use Rattle.std.specs.Option.{option_to_list};
 ghost use Rattle.swim_gossip.specs.Queue.{offered};
 ghost use Rattle.swim_member.specs.Events.{Settle, perform, notes, asked, most_asked, confirms, own_with};
-ghost use Rattle.swim_member.specs.Steps.{apply_all};
+ghost use Rattle.swim_member.specs.Machinery.Steps.{apply_all};
 
 use crate::member::Member;
 use crate::note::Note;
@@ -15,7 +15,7 @@ use swim_wire::{Endpoint, LEAP, NUMBER_MAX, Update, UpdateKind};
 /// The number that an update asks for, or 0.
 fn asked_by(update: &Update, me: Endpoint, old: u64) -> u64
     ensures value { result ≡ asked me old update.now }
-    ensures bound { result ≤ 2 ^ 62 }
+    ensures bound { result ≤ NUMBER_MAX }
 {
     if update.who == me
         && update.kind == UpdateKind::Suspect
@@ -32,7 +32,7 @@ fn asked_by(update: &Update, me: Endpoint, old: u64) -> u64
 /// The greatest number that is asked for, or 0.
 pub(crate) fn most_asked_by(updates: &[Update], me: Endpoint, old: u64) -> u64
     ensures value { result ≡ most_asked me old updates.now }
-    ensures bound { result ≤ 2 ^ 62 }
+    ensures bound { result ≤ NUMBER_MAX }
 {
     let mut most = 0;
     for update in updates {
@@ -56,8 +56,11 @@ pub(crate) fn has_confirm(updates: &[Update], me: Endpoint) -> bool
 impl Member {
     /// Takes a number for its own, and lets the own update begin to wait.
     pub(crate) fn speak(&mut self, kind: UpdateKind, number: u64)
-        requires { number ≤ 2 ^ 62 }
-        ensures { self.new ≡ record self.old { number = number; queue = offered self.old.queue (own_with self.old kind number) } }
+        requires { number ≤ NUMBER_MAX }
+        ensures { self.new ≡ record self.old {
+          number = number;
+          queue = offered self.old.queue (own_with self.old kind number);
+        } }
     {
         self.number = number;
         let own = Update {
@@ -70,8 +73,10 @@ impl Member {
 
     /// Settles the own number after the updates of a datagram.
     pub(crate) fn settle(&mut self, updates: &[Update], granted: u64) -> Option<Note>
-        ensures state { self.new ≡ apply_all (perform self.old (Settle updates.now granted)) self.old }
-        ensures note { option_to_list result ≡ notes (perform self.old (Settle updates.now granted)) }
+        ensures state { self.new
+            ≡ apply_all (perform self.old (Settle updates.now granted)) self.old }
+        ensures note { option_to_list result
+            ≡ notes (perform self.old (Settle updates.now granted)) }
     {
         if has_confirm(updates, self.settings.me) {
             self.phase = Phase::Expelled;

@@ -8,7 +8,7 @@ ghost use Rattle.swim_gossip.specs.Queue.{raise_all};
 ghost use Rattle.swim_member.specs.State.{Took};
 ghost use Rattle.swim_member.specs.Readings.{gossips};
 ghost use Rattle.swim_member.specs.Events.{bits, limit, carried, datagram, send};
-ghost use Rattle.swim_member.specs.Steps.{apply};
+ghost use Rattle.swim_member.specs.Machinery.Steps.{apply};
 
 use crate::answer::Out;
 use crate::member::Member;
@@ -56,7 +56,8 @@ impl Member {
     fn carry(&mut self) -> ArrayVec<Update, UPDATES_MAX>
         ensures carried { result.items ≡ carried self.old }
         ensures said { list_all (may_say self.new.settings.me self.new.number) result.items ≡ true }
-        ensures state { self.new ≡ record self.old { queue = map (raise_all (carried self.old)) self.old.queue } }
+        ensures state { self.new
+            ≡ record self.old { queue = map (raise_all (carried self.old)) self.old.queue } }
     {
         let limit = self.limit();
         self.buffer.pick(limit, UPDATES_MAX, &mut Visits::new())
@@ -75,7 +76,8 @@ impl Member {
     /// A ping, a ping-req or an ack, with what waits.
     pub(crate) fn send(&mut self, to: Endpoint, kind: Kind, seq: u32, subject: Endpoint) -> Out
         requires { gossips kind ≡ true }
-        ensures out { result ≡ record { to = to; datagram = datagram self.old kind seq subject (carried self.old) } }
+        ensures out { result
+            ≡ record { to = to; datagram = datagram self.old kind seq subject (carried self.old) } }
         ensures state { self.new ≡ apply (send self.old to kind seq subject) self.old }
         ensures fit { is_fit self.new.settings.me self.new.number result ≡ true }
     {

@@ -6,7 +6,7 @@ ghost use Rattle.swim_wire.specs.Spelling.{HasText};
 ghost use Rattle.swim_member.specs.State.{State};
 ghost use Rattle.swim_member.specs.Events.{Step, state_of, answer, number_after, wanted, moves, running_moves, stopped_moves, Show};
 ghost use Rattle.swim_member.specs.Fit.{is_fit, AreAll, own_numbers_in};
-ghost use Rattle.swim_member.specs.Steps.{after, answer_by, no_answer};
+ghost use Rattle.swim_member.specs.Machinery.Steps.{after, answer_by, no_answer};
 
 use crate::answer::Answer;
 use crate::event::Event;
@@ -28,8 +28,10 @@ impl Member {
     fn act_running(&mut self, event: &Event, granted: u64, answer: &mut Answer)
         requires { answer.old ≡ no_answer }
         ensures state { self.new ≡ after self.old (running_moves self.old event.now granted) }
-        ensures answer { answer.new ≡ answer_by self.old (running_moves self.old event.now granted) }
-        ensures fit { list_all (is_fit self.new.settings.me self.new.number) answer.new.outs.items ≡ true }
+        ensures answer { answer.new
+            ≡ answer_by self.old (running_moves self.old event.now granted) }
+        ensures fit { list_all (is_fit self.new.settings.me self.new.number) answer.new.outs.items
+            ≡ true }
         ensures few { length answer.new.outs.items ≤ self.old.settings.helpers + 2 }
     {
         match event {
@@ -47,7 +49,8 @@ impl Member {
     fn act_stopped(&self, event: &Event, answer: &mut Answer)
         requires { answer.old ≡ no_answer }
         ensures answer { answer.new ≡ answer_by self.now (stopped_moves event.now) }
-        ensures fit { list_all (is_fit self.now.settings.me self.now.number) answer.new.outs.items ≡ true }
+        ensures fit { list_all (is_fit self.now.settings.me self.now.number) answer.new.outs.items
+            ≡ true }
         ensures few { length answer.new.outs.items ≤ self.now.settings.helpers + 2 }
     {
         match event {
@@ -61,7 +64,8 @@ impl Member {
         requires { answer.old ≡ no_answer }
         ensures state { self.new ≡ after self.old (moves self.old event.now granted) }
         ensures answer { answer.new ≡ answer_by self.old (moves self.old event.now granted) }
-        ensures fit { list_all (is_fit self.new.settings.me self.new.number) answer.new.outs.items ≡ true }
+        ensures fit { list_all (is_fit self.new.settings.me self.new.number) answer.new.outs.items
+            ≡ true }
         ensures few { length answer.new.outs.items ≤ self.old.settings.helpers + 2 }
     {
         if self.phase == Phase::Running {
@@ -77,14 +81,21 @@ impl Member {
     pub fn step(&mut self, event: &Event, granted: u64) -> Answer
         requires { self.old.number ≤ granted }
         // whatever history this member's state is that of, with this event it goes on
-        ensures state { (base : State) → (steps : List Step) → state_of base steps ≡ self.old → state_of base (steps ++ record { event = event.now; granted = granted } ∷ []) ≡ self.new }
-        ensures answer { (base : State) → (steps : List Step) → state_of base steps ≡ self.old → answer base steps event.now granted ≡ result }
+        ensures state { (base : State) → (steps : List Step)
+            → state_of base steps ≡ self.old
+            → state_of base (steps ++ record { event = event.now; granted = granted } ∷ [])
+            ≡ self.new }
+        ensures answer { (base : State) → (steps : List Step)
+            → state_of base steps ≡ self.old
+            → answer base steps event.now granted ≡ result }
         ensures few { length result.outs.items ≤ self.old.settings.helpers + 2 }
         // what is sent can be written
         ensures fit { All (λ out. HasText out.datagram) result.outs.items }
         // what is said of oneself is said with the own number as it then is
-        ensures own { AreAll self.new.number (own_numbers_in self.new.settings.me result.outs.items) }
-        ensures number { self.new.number ≡ number_after (wanted self.old event.now) granted self.old.number }
+        ensures own { AreAll self.new.number
+            (own_numbers_in self.new.settings.me result.outs.items) }
+        ensures number { self.new.number
+            ≡ number_after (wanted self.old event.now) granted self.old.number }
         ensures settings { self.new.settings ≡ self.old.settings }
         // a history may begin anew from the new state
         ensures base { state_of self.new [] ≡ self.new }

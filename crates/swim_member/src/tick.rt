@@ -6,7 +6,7 @@ ghost use Rattle.swim_member.specs.Fit.{is_fit};
 ghost use Rattle.std.specs.Option.{option_to_list};
 ghost use Rattle.swim_rules.specs.Rows.{row_of};
 ghost use Rattle.swim_member.specs.Events.{Advance, Expire, Forget, Blame, Probe_next, moves_of_tick, tick_moves, perform, outs, notes, suspect_of, suspected, chosen, probe_of};
-ghost use Rattle.swim_member.specs.Steps.{apply_all, after, answer_by, no_answer};
+ghost use Rattle.swim_member.specs.Machinery.Steps.{apply_all, after, answer_by, no_answer};
 
 use crate::answer::{Answer, Out, note_down, send_out};
 use crate::member::Member;
@@ -39,7 +39,7 @@ pub(crate) fn member_of(row: &Row) -> Endpoint
 impl Member {
     /// Time goes on, and relays that are too old end.
     pub(crate) fn advance(&mut self)
-        requires { self.old.time < 2 ^ 62 }
+        requires { self.old.time < LAST_TIME }
         ensures { self.new ≡ apply_all (perform self.old Advance) self.old }
     {
         self.time += 1;
@@ -81,7 +81,7 @@ impl Member {
 
     /// Turns each Suspect that is due into a Confirm, in the order of the members.
     pub(crate) fn expire_all(&mut self)
-        ensures { self.new ≡ after self.old (replicate 256 Expire) }
+        ensures { self.new ≡ after self.old (replicate ROWS_MAX Expire) }
     {
         for _ in 0..ROWS_MAX {
             if !self.expire_one() {
@@ -92,7 +92,7 @@ impl Member {
 
     /// Forgets each member whose Confirm is due, in the order of the members.
     pub(crate) fn forget_all(&mut self)
-        ensures { self.new ≡ after self.old (replicate 256 Forget) }
+        ensures { self.new ≡ after self.old (replicate ROWS_MAX Forget) }
     {
         for _ in 0..ROWS_MAX {
             if !self.forget_one() {
@@ -103,8 +103,10 @@ impl Member {
 
     /// Suspects a member whose row is Alive.
     fn suspect(&mut self, who: Endpoint) -> Option<Note>
-        ensures state { self.new ≡ apply_all (suspected self.old (row_of self.old.rows who)) self.old }
-        ensures note { option_to_list result ≡ notes (suspected self.old (row_of self.old.rows who)) }
+        ensures state { self.new
+            ≡ apply_all (suspected self.old (row_of self.old.rows who)) self.old }
+        ensures note { option_to_list result
+            ≡ notes (suspected self.old (row_of self.old.rows who)) }
     {
         match self.table.get(who) {
             None => None,
@@ -166,7 +168,8 @@ impl Member {
     pub(crate) fn probe_next(&mut self, word: u32) -> Option<Out>
         ensures state { self.new ≡ apply_all (perform self.old (Probe_next word)) self.old }
         ensures out { option_to_list result ≡ outs (perform self.old (Probe_next word)) }
-        ensures fit { list_all (is_fit self.new.settings.me self.new.number) (option_to_list result) ≡ true }
+        ensures fit { list_all (is_fit self.new.settings.me self.new.number) (option_to_list result)
+            ≡ true }
     {
         if self.time % self.settings.period != 0 {
             return None;
@@ -182,11 +185,12 @@ impl Member {
 
     /// A tick that counts: time goes on, rows change by it, and a probe ends, is asked about or begins.
     fn tick(&mut self, word: u32, answer: &mut Answer)
-        requires time { self.old.time < 2 ^ 62 }
+        requires time { self.old.time < LAST_TIME }
         requires nothing { answer.old ≡ no_answer }
         ensures state { self.new ≡ after self.old (tick_moves word) }
         ensures answer { answer.new ≡ answer_by self.old (tick_moves word) }
-        ensures fit { list_all (is_fit self.new.settings.me self.new.number) answer.new.outs.items ≡ true }
+        ensures fit { list_all (is_fit self.new.settings.me self.new.number) answer.new.outs.items
+            ≡ true }
         ensures few { length answer.new.outs.items ≤ self.old.settings.helpers + 2 }
     {
         self.advance();
@@ -202,7 +206,8 @@ impl Member {
         requires { answer.old ≡ no_answer }
         ensures state { self.new ≡ after self.old (moves_of_tick self.old word) }
         ensures answer { answer.new ≡ answer_by self.old (moves_of_tick self.old word) }
-        ensures fit { list_all (is_fit self.new.settings.me self.new.number) answer.new.outs.items ≡ true }
+        ensures fit { list_all (is_fit self.new.settings.me self.new.number) answer.new.outs.items
+            ≡ true }
         ensures few { length answer.new.outs.items ≤ self.old.settings.helpers + 2 }
     {
         if self.time == LAST_TIME {

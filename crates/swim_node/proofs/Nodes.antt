@@ -12,7 +12,7 @@ use Rattle.swim_node.specs.declared.entry.Entry.{Entry}
 use Rattle.swim_node.specs.declared.entry.Save.{Save}
 use Rattle.swim_node.specs.declared.entry.Save.TheVariants.{Failed}
 use Rattle.swim_node.specs.History.{Base, IsLegal, IsNext, AreNext, Saves, steps, granted_of, state_after, status_at, answer_in, taken_in, lost_in}
-use Rattle.swim_node.specs.Entering.{Steps}
+use Rattle.swim_node.specs.Machinery.Entering.{Steps}
 use Rattle.swim_node.specs.Sending.{HasTexts}
 use Rattle.swim_node.specs.Owns.{owns, owns_in, AreAtMost, AreAtLeast, greatest, greatest_with, more}
 use Rattle.swim_node.specs.Node.{IsNode, IsTurn}

@@ -14,7 +14,8 @@ use Rattle.swim_member.specs.declared.note.Note.{Note}
 use Rattle.swim_member.specs.declared.state.Phase.{Phase}
 use Rattle.swim_member.specs.declared.state.Phase.TheVariants.{Running, Left, Expelled}
 use Rattle.swim_member.specs.State.{State}
-use Rattle.swim_member.specs.Events.{asked, most_asked, confirms, wanted, wanted_in, wanted_by, refused, number_after, leap, number_max}
+use Rattle.swim_member.specs.Events.{asked, most_asked, confirms, wanted, wanted_in, wanted_by, refused, number_after}
+use Rattle.swim_wire.specs.declared.update.TheConstants.{LEAP, NUMBER_MAX}
 
 -- nothing, or above n
 abbrev IsAbove : ℕ → ℕ → Type 0
@@ -22,7 +23,7 @@ IsAbove n w = (w ≡ 0) ⊎ (n < w)
 
 asked-above : (me n : ℕ) (u : Update) → IsAbove n (asked me n u)
 asked-above me n u =
-    at (u.who == me && is_kind Suspect u.kind) (nat_le n u.number) (nat_le (u.number - n) leap) (nat_lt u.number number_max) refl
+    at (u.who == me && is_kind Suspect u.kind) (nat_le n u.number) (nat_le (u.number - n) LEAP) (nat_lt u.number NUMBER_MAX) refl
   where
     at : (a b c d : Bool) → nat_le n u.number ≡ b → IsAbove n (cond (a && b && c && d) (u.number + 1) 0)
     at a b c d e = elim (cases_Bool (a && b && c && d)) [ inl t ↦ rw t (inr (let low : n ≤ u.number = leb-true n u.number (e ∙ part a b c d t) in omega arith)) | inr f ↦ rw f (inl refl) ]

@@ -7,6 +7,7 @@ use Rattle.swim_node.specs.declared.fault.ApplyFault.TheVariants as applying
 use Rattle.swim_node.specs.declared.fault.OpenFault.{OpenFault}
 use Rattle.swim_node.specs.declared.fault.OpenFault.TheVariants as opening
 
+-- the number, the name and the text of each refusal of a call
 abbrev pub number_of_apply : ApplyFault → ℕ
 number_of_apply applying.NoMemory = 1
 number_of_apply applying.EraFull = 2
@@ -26,6 +27,7 @@ number_of_open (opening.Refused fault) = number_of_recover fault
 number_of_open opening.Limit = 7
 number_of_open opening.NoMemory = 8
 
+-- the name and the text of each refusal of an opening
 abbrev pub name_of_open : OpenFault → List ℕ
 name_of_open (opening.Refused fault) = name_of_recover fault
 name_of_open opening.Limit = codes "Limit"

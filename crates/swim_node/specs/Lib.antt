@@ -4,7 +4,6 @@ pub mod Link
 pub mod Saving
 pub mod Sending
 pub mod Owns
-pub mod Turns
-pub mod Entering
 pub mod Node
 pub mod Lives
+pub mod Machinery

@@ -14,7 +14,8 @@ pub record Era : Type 0 where
   pub base : Base
   pub entries : List Entry
 
--- a life: with which settings and era limit it was opened, on which disk and with which first number, its earlier eras in order, its last era, and the disk that it left
+-- a life: with which settings and era limit it was opened, on which disk and with which
+-- first number, its earlier eras in order, its last era, and the disk that it left
 pub record Life (D : Type 0) : Type 0 where
   pub settings : Settings
   pub limit : ℕ
@@ -25,10 +26,13 @@ pub record Life (D : Type 0) : Type 0 where
   pub entries : List Entry
   pub left : D
 
--- from this base each era is legal, and each next one begins with the state after the one before, up to the last base
+-- from this base each era is legal, and each next one begins
+-- with the state after the one before, up to the last base
 abbrev pub AreJoined : Base → List Era → Base → Type 0
 AreJoined start [] base = base ≡ start
-AreJoined start (era ∷ eras) base = (era.base ≡ start) × IsLegal era.base era.entries × AreJoined (rebased era.base era.entries) eras base
+AreJoined start (era ∷ eras) base = (era.base ≡ start)
+    × IsLegal era.base era.entries
+    × AreJoined (rebased era.base era.entries) eras base
 
 -- the own numbers in the datagrams of these eras, taken or lost
 abbrev pub numbers_in : List Era → List ℕ
@@ -60,7 +64,8 @@ life_of settings limit opened eras node = record {
   left = node.disk;
 }
 
--- what holds of a life while it goes on, beside what its node keeps: it was opened above all that was held, its eras are joined, and no number of an ended one is below its first
+-- what holds of a life while it goes on, beside what its node keeps: it was opened above
+-- all that was held, its eras are joined, and no number of an ended one is below its first
 pub record IsLiving {D : Type 0} (state : D → State) (owner : Owner) (life : Life D) : Type 0 where
   pub same_owner : owner ≡ owner_of life.settings
   pub joined : AreJoined (fresh_base life.settings life.first life.limit) life.eras life.base
@@ -69,13 +74,20 @@ pub record IsLiving {D : Type 0} (state : D → State) (owner : Owner) (life : L
 
 -- a call of a node that ends no era: its life goes on
 abbrev pub GoesOn : {D : Type 0} → (D → State) → NodeView D → NodeView D → Type 0
-GoesOn {D} state old new = (settings : Settings) → (limit : ℕ) → (opened : D) → (eras : List Era) → IsLiving state old.owner (life_of settings limit opened eras old) → IsLiving state new.owner (life_of settings limit opened eras new)
+GoesOn {D} state old new =
+    (settings : Settings) → (limit : ℕ) → (opened : D) → (eras : List Era)
+    → IsLiving state old.owner (life_of settings limit opened eras old)
+    → IsLiving state new.owner (life_of settings limit opened eras new)
 
 -- a call that ends an era: its life goes on, with one ended era more
 abbrev pub EndsEra : {D : Type 0} → (D → State) → NodeView D → NodeView D → Type 0
-EndsEra {D} state old new = (settings : Settings) → (limit : ℕ) → (opened : D) → (eras : List Era) → IsLiving state old.owner (life_of settings limit opened eras old) → IsLiving state new.owner (life_of settings limit opened (eras ++ era_of old ∷ []) new)
+EndsEra {D} state old new =
+    (settings : Settings) → (limit : ℕ) → (opened : D) → (eras : List Era)
+    → IsLiving state old.owner (life_of settings limit opened eras old)
+    → IsLiving state new.owner (life_of settings limit opened (eras ++ era_of old ∷ []) new)
 
--- what the node of a life told of it: `open` of its first number, `disk` at the end of each era of the numbers sent, and `disk` or `into_disk` of the disk that it left
+-- what the node of a life told of it: `open` of its first number, `disk` at the end
+-- of each era of the numbers sent, and `disk` or `into_disk` of the disk that it left
 pub record IsLived {D : Type 0} (state : D → State) (owner : Owner) (life : Life D) : Type 0 where
   pub same_owner : owner ≡ owner_of life.settings
   pub joined : AreJoined (fresh_base life.settings life.first life.limit) life.eras life.base
@@ -86,31 +98,50 @@ pub record IsLived {D : Type 0} (state : D → State) (owner : Owner) (life : Li
   pub covers : AreAtMost (ceiling_of life) (owns life.base life.entries)
   pub held : Held owner (state life.left) (ceiling_of life)
 
--- whichever life it is that goes on with this node, it is one that was lived, if it ends now and leaves the disk as it is
+-- whichever life it is that goes on with this node, it is one
+-- that was lived, if it ends now and leaves the disk as it is
 abbrev pub MayEnd : {D : Type 0} → (D → State) → NodeView D → Type 0
-MayEnd {D} state node = (settings : Settings) → (limit : ℕ) → (opened : D) → (eras : List Era) → IsLiving state node.owner (life_of settings limit opened eras node) → IsLived state node.owner (life_of settings limit opened eras node)
+MayEnd {D} state node =
+    (settings : Settings) → (limit : ℕ) → (opened : D) → (eras : List Era)
+    → IsLiving state node.owner (life_of settings limit opened eras node)
+    → IsLived state node.owner (life_of settings limit opened eras node)
 
--- what may become of a disk with a floor of at least b: it stays as it was when the process is killed, a crash leaves one of its images, or one of the images of a call that was cut short, or a recovery is refused
+-- what may become of a disk with a floor of at least b: it stays as it was
+-- when the process is killed, a crash leaves one of its images, or one of
+-- the images of a call that was cut short, or a recovery is refused
 pub data Then (D : Type 0) (state : D → State) (owner : Owner) (b : ℕ) : D → D → Type 0 where
   Killed : (d : D) → Then D state owner b d d
-  Crashed : (d e : D) → (state d).images (state e).content → IsSettled (state e) → Then D state owner b d e
-  Cut : (d f e : D) → Through (Covers owner b) (state d) (state f) → (state f).since (state d).clock (state e).content → IsSettled (state e) → Then D state owner b d e
+  Crashed : (d e : D)
+      → (state d).images (state e).content
+      → IsSettled (state e)
+      → Then D state owner b d e
+  Cut : (d f e : D)
+      → Through (Covers owner b) (state d) (state f)
+      → (state f).since (state d).clock (state e).content
+      → IsSettled (state e)
+      → Then D state owner b d e
   Refused : (d e : D) → Through (Covers owner b) (state d) (state e) → Then D state owner b d e
 
 -- all that became of it, one after another
 pub data Reached (D : Type 0) (state : D → State) (owner : Owner) (b : ℕ) : D → D → Type 0 where
   Here : (d : D) → Reached D state owner b d d
-  Next : (d e f : D) → Then D state owner b d e → Reached D state owner b e f → Reached D state owner b d f
+  Next : (d e f : D)
+      → Then D state owner b d e
+      → Reached D state owner b e f
+      → Reached D state owner b d f
 
--- the first of these lives, if there is one, was opened on what became of the disk that this one left
+-- the first of these lives, if there is one, was
+-- opened on what became of the disk that this one left
 abbrev pub IsFollowed : {D : Type 0} → (D → State) → Owner → Life D → List (Life D) → Type 0
 IsFollowed state owner life [] = Unit {0}
-IsFollowed {D} state owner life (next ∷ lives) = Reached D state owner (ceiling_of life) life.left next.opened
+IsFollowed {D} state owner life (next ∷ lives) =
+    Reached D state owner (ceiling_of life) life.left next.opened
 
 -- lives of one owner, each opened after the one before
 abbrev pub AreLives : {D : Type 0} → (D → State) → Owner → List (Life D) → Type 0
 AreLives state owner [] = Unit {0}
-AreLives state owner (life ∷ lives) = IsLived state owner life × IsFollowed state owner life lives × AreLives state owner lives
+AreLives state owner (life ∷ lives) =
+    IsLived state owner life × IsFollowed state owner life lives × AreLives state owner lives
 
 -- each of the first numbers is below each of the others
 abbrev pub AreBelow : List ℕ → List ℕ → Type 0

@@ -1,5 +1,6 @@
 -- A node, as its callers see it and as it keeps itself.
-use Rattle.std.specs.Prelude.{◌≡◌, ℕ, ◌+◌, ◌<◌, ◌≤◌, List, [], ◌∷◌, ◌++◌, length, All, Bool, Result, Ok, Err, Option}
+use Rattle.std.specs.Prelude.{◌≡◌, ℕ, ◌+◌, ◌<◌, ◌≤◌, List, [], ◌∷◌, ◌++◌, length, All, Bool, Result}
+use Rattle.std.specs.Prelude.{Ok, Err, Option}
 use Rattle.swim_disk.specs.Disk.{State as DiskState}
 use Rattle.swim_state.specs.declared.owner.Owner.{Owner}
 use Rattle.swim_member.specs.State.{State}
@@ -7,6 +8,7 @@ use Rattle.swim_member.specs.declared.event.Event.{Event}
 use Rattle.swim_member.specs.declared.settings.Settings.{Settings}
 use Rattle.swim_member.specs.Events.{wanted}
 use Rattle.swim_member.specs.Fit.{AreAll, own_numbers_in}
+use Rattle.swim_node.specs.declared.opening.TheConstants.{LIMIT_MAX}
 use Rattle.swim_node.specs.declared.base.Base.{Base as Start}
 use Rattle.swim_node.specs.declared.entering.Done.{Done}
 use Rattle.swim_node.specs.declared.entry.Entry.{Entry}
@@ -17,7 +19,8 @@ use Rattle.swim_node.specs.declared.entry.Save.TheVariants.{Kept, Failed}
 use Rattle.swim_node.specs.declared.fault.ApplyFault.{ApplyFault}
 use Rattle.swim_node.specs.declared.fault.ApplyFault.TheVariants.{NoMemory, EraFull, OutOfTurn}
 use Rattle.swim_node.specs.declared.fault.OpenFault.{OpenFault}
-use Rattle.swim_node.specs.History.{Base, IsLegal, state_after, granted_of, calls_by, taken_in, lost_in}
+use Rattle.swim_node.specs.History.{Base, IsLegal, state_after, granted_of, calls_by, taken_in}
+use Rattle.swim_node.specs.History.{lost_in}
 use Rattle.swim_node.specs.Saving.{Grants, Fails, broken_after}
 use Rattle.swim_node.specs.Sending.{HasTexts}
 use Rattle.swim_node.specs.Owns.{owns, greatest, AreAtMost, AreAtLeast}
@@ -31,6 +34,7 @@ pub record NodeView (D : Type 0) : Type 0 where
   pub first : ℕ  -- the number with which this life began
   pub broken : Bool  -- whether the last save that was tried failed
 
+-- a base, as the definitions take it
 abbrev pub base_of : Start → Base
 base_of b = record { state = b.state.value; granted = b.granted; past = b.past; limit = b.limit }
 
@@ -39,7 +43,8 @@ abbrev pub owner_of : Settings → Owner
 owner_of settings = record { group = settings.group; me = settings.me }
 
 -- how a node keeps itself
-pub record IsNode (base : Base) (entries : List Entry) (first : ℕ) (s : State) (ceiling : ℕ) (top : Option ℕ) : Type 0 where
+pub record IsNode (base : Base) (entries : List Entry) (first : ℕ) (s : State) (ceiling : ℕ)
+    (top : Option ℕ) : Type 0 where
   pub legal : IsLegal base entries
   pub member : state_after base entries ≡ s
   pub settings : s.settings ≡ base.state.settings
@@ -50,12 +55,13 @@ pub record IsNode (base : Base) (entries : List Entry) (first : ℕ) (s : State)
   pub begun : AreAtLeast first (owns base entries)
   pub most : greatest (owns base entries) ≡ top
   pub texts : All HasTexts entries
-  pub short : base.limit ≤ 65536
+  pub short : base.limit ≤ LIMIT_MAX
 
 -- the turn is the caller's next one
 abbrev pub IsTurn : List Entry → Tag → Type 0
 IsTurn entries tag = tag.turn ≡ length (calls_by tag.caller entries) + 1
 
+-- the era has as many entries as its limit allows
 abbrev pub IsFull : Base → List Entry → Type 0
 IsFull base entries = length entries ≡ base.limit
 
@@ -95,11 +101,18 @@ entered tag event done status = record {
   save = done.save;
   outs = done.outs;
   outcomes = done.outcomes;
-  reply = record { status = status; notes = done.notes; page = done.page; sent = taken_in done.outcomes.items; lost = lost_in done.outcomes.items };
+  reply = record {
+    status = status;
+    notes = done.notes;
+    page = done.page;
+    sent = taken_in done.outcomes.items;
+    lost = lost_in done.outcomes.items;
+  };
 }
 
 -- one entry came: this caller's, with this event and this reply
-pub record Added {D : Type 0} (keeps : Type 0) (state : D → DiskState) (old new : NodeView D) (tag : Tag) (event : Event) (reply : Reply) (e : Entry) : Type 0 where
+pub record Added {D : Type 0} (keeps : Type 0) (state : D → DiskState) (old new : NodeView D)
+    (tag : Tag) (event : Event) (reply : Reply) (e : Entry) : Type 0 where
   pub entries : new.entries ≡ old.entries ++ e ∷ []
   pub tag_is : e.tag ≡ tag
   pub event_is : e.event ≡ event
@@ -107,11 +120,20 @@ pub record Added {D : Type 0} (keeps : Type 0) (state : D → DiskState) (old ne
   pub texts : HasTexts e
   pub kept : e.save ≡ Kept → new.disk ≡ old.disk
   pub broken : new.broken ≡ broken_after e.save old.broken
-  pub grants : Grants keeps (wanted (state_after old.base old.entries) event) e.save old.broken (state old.disk) (state new.disk) (granted_of old.base old.entries) e.granted
+  pub grants : Grants keeps (wanted (state_after old.base old.entries) event) e.save old.broken
+      (state old.disk) (state new.disk) (granted_of old.base old.entries) e.granted
   pub fails : Fails keeps e.save old.broken (state old.disk) (state new.disk)
-  pub said : AreAll (state_after new.base new.entries).number (own_numbers_in new.base.state.settings.me e.outs.items)
-  pub unsaved : e.save ≡ Failed → AreAll (state_after old.base old.entries).number (own_numbers_in old.base.state.settings.me e.outs.items)
+  pub said : AreAll (state_after new.base new.entries).number
+      (own_numbers_in new.base.state.settings.me e.outs.items)
+  pub unsaved : e.save ≡ Failed
+      → AreAll (state_after old.base old.entries).number
+      (own_numbers_in old.base.state.settings.me e.outs.items)
 
 -- the state after an era as the base of the next
 abbrev pub rebased : Base → List Entry → Base
-rebased base entries = record { state = state_after base entries; granted = granted_of base entries; past = greatest (owns base entries); limit = base.limit }
+rebased base entries = record {
+  state = state_after base entries;
+  granted = granted_of base entries;
+  past = greatest (owns base entries);
+  limit = base.limit;
+}

@@ -14,6 +14,7 @@ owns_in me (e ∷ history) = own_numbers_in me e.outs.items ++ owns_in me histor
 abbrev pub owns : Base → List Entry → List ℕ
 owns base history = option_to_list base.past ++ owns_in base.state.settings.me history
 
+-- all numbers are at most, or at least, this one
 abbrev pub AreAtMost : ℕ → List ℕ → Type 0
 AreAtMost g [] = Unit {0}
 AreAtMost g (n ∷ ns) = (n ≤ g) × AreAtMost g ns
@@ -27,6 +28,7 @@ abbrev pub more : Option ℕ → ℕ → Option ℕ
 more None n = Some n
 more (Some m) n = Some (max n m)
 
+-- the greatest of these numbers and of the one before, if there is one
 abbrev pub greatest_with : Option ℕ → List ℕ → Option ℕ
 greatest_with most [] = most
 greatest_with most (n ∷ ns) = greatest_with (more most n) ns

@@ -19,7 +19,8 @@ taken_by (out ∷ outs) (Taken ∷ outcomes) = (out.to, spelling out.datagram) �
 taken_by (out ∷ outs) (Lost ∷ outcomes) = taken_by outs outcomes
 
 -- what became of the datagrams is what the link tells of them
-pub record Sends (tells : Type 0) (old new : List (ℕ × List ℕ)) (missed missing : ℕ) (outs : List Out) (outcomes : List Outcome) : Type 0 where
+pub record Sends (tells : Type 0) (old new : List (ℕ × List ℕ)) (missed missing : ℕ)
+    (outs : List Out) (outcomes : List Outcome) : Type 0 where
   pub each : length outcomes ≡ length outs
   pub took : tells → new ≡ old ++ taken_by outs outcomes
   pub failures : missing ≡ missed + lost_in outcomes
@@ -35,6 +36,7 @@ lost_of [] = 0
 lost_of (e ∷ entries) = lost_in e.outcomes.items + lost_of entries
 
 -- what the link took, and how often it failed, is what these entries mark
-pub record SendsAll (tells : Type 0) (old new : List (ℕ × List ℕ)) (missed missing : ℕ) (entries : List Entry) : Type 0 where
+pub record SendsAll (tells : Type 0) (old new : List (ℕ × List ℕ)) (missed missing : ℕ)
+    (entries : List Entry) : Type 0 where
   pub took : tells → new ≡ old ++ taken_of entries
   pub failures : missing ≡ missed + lost_of entries

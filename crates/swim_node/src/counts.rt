@@ -2,6 +2,7 @@
 
 ghost use Rattle.std.specs.Prelude.{◌≡◌, ◌≤◌, ◌==◌, length, map};
 ghost use Rattle.std.specs.List.{filter};
+ghost use Rattle.swim_member.specs.declared.answer.TheConstants.{OUTS_MAX};
 ghost use Rattle.swim_member.specs.Fit.{own_numbers_in};
 ghost use Rattle.swim_node.specs.History.{lost_in, taken_in};
 ghost use Rattle.swim_node.specs.Owns.{greatest_with, more};
@@ -11,7 +12,7 @@ use swim_member::Out;
 use swim_wire::{Endpoint, Update};
 
 pub(crate) fn count_taken(outcomes: &[Outcome]) -> usize
-    requires { length outcomes.now ≤ 10 }
+    requires { length outcomes.now ≤ OUTS_MAX }
     ensures { result ≡ taken_in outcomes.now }
 {
     let mut count = 0;
@@ -24,7 +25,7 @@ pub(crate) fn count_taken(outcomes: &[Outcome]) -> usize
 }
 
 pub(crate) fn count_lost(outcomes: &[Outcome]) -> usize
-    requires { length outcomes.now ≤ 10 }
+    requires { length outcomes.now ≤ OUTS_MAX }
     ensures { result ≡ lost_in outcomes.now }
 {
     let mut count = 0;
@@ -48,7 +49,8 @@ fn greater(most: Option<u64>, number: u64) -> Option<u64>
 
 /// The greatest number so far and of the updates about `me`.
 fn greatest_in(updates: &[Update], me: Endpoint, most: Option<u64>) -> Option<u64>
-    ensures { result ≡ greatest_with most (map (λ u. u.number) (filter (λ u. u.who == me) updates.now)) }
+    ensures { result
+        ≡ greatest_with most (map (λ u. u.number) (filter (λ u. u.who == me) updates.now)) }
 {
     let mut greatest = most;
     for update in updates {

@@ -5,7 +5,7 @@ ghost use Rattle.swim_wire.specs.Spelling.{HasText};
 ghost use Rattle.swim_member.specs.Events.{wanted};
 ghost use Rattle.swim_node.specs.Saving.{Saved};
 ghost use Rattle.swim_node.specs.Sending.{Sends};
-ghost use Rattle.swim_node.specs.Entering.{Steps};
+ghost use Rattle.swim_node.specs.Machinery.Entering.{Steps};
 
 use crate::saving::save;
 use crate::sending::send_all;
@@ -35,12 +35,18 @@ pub(crate) fn enter<D: Disk, L: Link>(
     event: &Event,
 ) -> Done
     requires low { member.old.number ≤ store.old.ceiling }
-    ensures saved { Saved D.keeps_model D.state (wanted member.old event.now) result.save store.old store.new }
+    ensures saved { Saved D.keeps_model D.state (wanted member.old event.now)
+        result.save store.old store.new }
     ensures granted { result.granted ≡ store.new.ceiling }
-    ensures steps { Steps member.old member.new event.now result.granted (record { outs = result.outs; notes = result.notes; page = result.page }) }
+    ensures steps { Steps member.old member.new event.now result.granted (record {
+      outs = result.outs;
+      notes = result.notes;
+      page = result.page;
+    }) }
     ensures texts { All (λ out. HasText out.datagram) result.outs.items }
     ensures name { L.name link.new ≡ L.name link.old }
-    ensures sends { Sends L.tells (L.took link.old) (L.took link.new) (L.failures link.old) (L.failures link.new) result.outs.items result.outcomes.items }
+    ensures sends { Sends L.tells (L.took link.old) (L.took link.new) (L.failures link.old)
+        (L.failures link.new) result.outs.items result.outcomes.items }
 {
     let wanted = member.plan(event);
     let save = save(store, wanted);

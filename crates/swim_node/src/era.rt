@@ -26,7 +26,8 @@ impl Model for Era {
 
     ghost view = { λ e. record { base = base_of e.base; entries = e.entries.items } };
 
-    ghost invariant = { λ e. IsLegal (base_of e.base) e.entries.items × All HasTexts e.entries.items };
+    ghost invariant = { λ e. IsLegal (base_of e.base) e.entries.items
+        × All HasTexts e.entries.items };
 }
 
 impl Era {

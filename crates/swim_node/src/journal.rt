@@ -1,6 +1,7 @@
 //! The entries of an era, and how many each caller has.
 
 ghost use Rattle.std.specs.Prelude.{◌≡◌, ◌+◌, ◌<◌, ◌≤◌, ◌++◌, ◌∷◌, [], length, OnOk};
+ghost use Rattle.swim_node.specs.declared.opening.TheConstants.{LIMIT_MAX};
 ghost use Rattle.swim_node.specs.History.{calls_by};
 
 use crate::Entry;
@@ -16,7 +17,7 @@ pub(crate) struct Journal {
 }
 
 impl Model for Journal {
-    ghost use Rattle.swim_node.specs.Turns.{JournalView, AreTurns};
+    ghost use Rattle.swim_node.specs.Machinery.Turns.{JournalView, AreTurns};
     ghost use Rattle.std.specs.Prelude.{vec_capacity};
 
     ghost Value = { JournalView };
@@ -48,7 +49,7 @@ impl Journal {
     /// Adds an entry in a place that was taken before.
     pub(crate) fn push(&mut self, entry: Entry)
         requires room { length self.old.entries < self.old.room }
-        requires few { length self.old.entries < 65536 }
+        requires few { length self.old.entries < LIMIT_MAX }
         requires caller { entry.tag.caller < 16 }
         ensures { self.new.entries ≡ self.old.entries ++ entry ∷ [] }
     {

@@ -28,6 +28,9 @@ pub trait Link {
     /// Sends the bytes of one datagram to an endpoint. A fault says that they did not go out, and nothing more.
     fn send(&mut self, to: Endpoint, bytes: &[u8]) -> Result<(), LinkFault>
         ensures name { name self.new ≡ name self.old }
-        ensures failures { MatchResult result (λ _. failures self.new ≡ failures self.old) (λ _. failures self.new ≡ failures self.old + 1) }
-        ensures took { tells → MatchResult result (λ _. took self.new ≡ took self.old ++ (to, bytes.now) ∷ []) (λ _. took self.new ≡ took self.old) };
+        ensures failures { MatchResult result (λ _. failures self.new ≡ failures self.old)
+            (λ _. failures self.new ≡ failures self.old + 1) }
+        ensures took { tells
+            → MatchResult result (λ _. took self.new ≡ took self.old ++ (to, bytes.now) ∷ [])
+            (λ _. took self.new ≡ took self.old) };
 }

@@ -54,7 +54,9 @@ impl MemoryLink {
     /// The k-th send from now on fails, and only that one. 0 counts as 1.
     pub fn lose(&mut self, k: u64)
         ensures plan { self.new.loses ≡ Some k }
-        ensures rest { (self.new.taken ≡ self.old.taken) × (self.new.failures ≡ self.old.failures) × (self.new.number ≡ self.old.number) }
+        ensures rest { (self.new.taken ≡ self.old.taken)
+            × (self.new.failures ≡ self.old.failures)
+            × (self.new.number ≡ self.old.number) }
     {
         self.loses = Some(k);
     }
@@ -63,7 +65,9 @@ impl MemoryLink {
     fn is_lost(&mut self) -> bool
         ensures due { result ≡ is_due self.old.loses }
         ensures plan { self.new.loses ≡ plan_after self.old.loses }
-        ensures rest { (self.new.taken ≡ self.old.taken) × (self.new.failures ≡ self.old.failures) × (self.new.number ≡ self.old.number) }
+        ensures rest { (self.new.taken ≡ self.old.taken)
+            × (self.new.failures ≡ self.old.failures)
+            × (self.new.number ≡ self.old.number) }
     {
         match self.loses {
             None => false,
@@ -81,7 +85,9 @@ impl MemoryLink {
     /// Counts a failure.
     fn failed(&mut self) -> LinkFault
         ensures failures { length self.new.failures.items ≡ length self.old.failures.items + 1 }
-        ensures rest { (self.new.taken ≡ self.old.taken) × (self.new.loses ≡ self.old.loses) × (self.new.number ≡ self.old.number) }
+        ensures rest { (self.new.taken ≡ self.old.taken)
+            × (self.new.loses ≡ self.old.loses)
+            × (self.new.number ≡ self.old.number) }
     {
         self.failures = self.failures.and(&0, &0);
         LinkFault
@@ -102,8 +108,13 @@ impl Link for MemoryLink {
 
     fn send(&mut self, to: Endpoint, bytes: &[u8]) -> Result<(), LinkFault>
         ensures name { self.new.number ≡ self.old.number }
-        ensures failures { MatchResult result (λ _. length self.new.failures.items ≡ length self.old.failures.items) (λ _. length self.new.failures.items ≡ length self.old.failures.items + 1) }
-        ensures took { MatchResult result (λ _. took_by self.new.taken.items ≡ took_by self.old.taken.items ++ (to, bytes.now) ∷ []) (λ _. took_by self.new.taken.items ≡ took_by self.old.taken.items) }
+        ensures failures { MatchResult result
+            (λ _. length self.new.failures.items ≡ length self.old.failures.items)
+            (λ _. length self.new.failures.items ≡ length self.old.failures.items + 1) }
+        ensures took { MatchResult result
+            (λ _. took_by self.new.taken.items
+            ≡ took_by self.old.taken.items ++ (to, bytes.now) ∷ [])
+            (λ _. took_by self.new.taken.items ≡ took_by self.old.taken.items) }
 
         // A datagram whose turn the plan names is not taken.
         ensures due { is_due self.old.loses ≡ true → IsErr result }

@@ -2,6 +2,7 @@
 
 ghost use Rattle.std.specs.Prelude.{◌≡◌, ◌≢◌, ◌+◌, ◌<◌, ◌≤◌, ◌++◌, ◌∷◌, [], List, length, IfErr, IfOk, OnOk, OnErr, All};
 ghost use Rattle.swim_state.specs.Held.{Held, HeldSince, Through, Covers};
+ghost use Rattle.swim_node.specs.declared.opening.TheConstants.{LIMIT_MAX};
 ghost use Rattle.swim_node.specs.History.{calls_by, status_at, status_of, IsLegal, granted_of};
 ghost use Rattle.swim_node.specs.Owns.{owns, AreAtMost, AreAtLeast};
 ghost use Rattle.swim_node.specs.Lives.{EndsEra, GoesOn, MayEnd};
@@ -38,9 +39,18 @@ impl<D: Disk> Model for Node<D> {
 
     ghost Value = { NodeView D };
 
-    ghost view = { λ n. record { base = base_of n.base; entries = n.journal.entries; disk = n.store.disk; owner = n.store.owner; first = n.first; broken = n.store.broken } };
+    ghost view = { λ n. record {
+      base = base_of n.base;
+      entries = n.journal.entries;
+      disk = n.store.disk;
+      owner = n.store.owner;
+      first = n.first;
+      broken = n.store.broken;
+    } };
 
-    ghost invariant = { λ n. IsNode (base_of n.base) n.journal.entries n.first n.member n.store.ceiling n.most × (D.keeps_model → Held n.store.owner (D.state n.store.disk) n.store.ceiling) };
+    ghost invariant = { λ n.
+        IsNode (base_of n.base) n.journal.entries n.first n.member n.store.ceiling n.most
+        × (D.keeps_model → Held n.store.owner (D.state n.store.disk) n.store.ceiling) };
 }
 
 /// The status of a member after so many entries of an era.
@@ -60,7 +70,8 @@ pub(crate) fn status_now(member: &Member, length: usize) -> Status
 
 /// The member as it stands now, as the base of an era.
 fn base_at(member: &Member, granted: u64, past: Option<u64>, limit: u32) -> Base
-    ensures base { base_of result ≡ record { state = member.now; granted = granted; past = past; limit = limit } }
+    ensures base { base_of result
+        ≡ record { state = member.now; granted = granted; past = past; limit = limit } }
     ensures reads { state_of member.now [] ≡ member.now }
 {
     Base {
@@ -99,7 +110,7 @@ impl<D: Disk> Node<D> {
         ensures entries { result.now ≡ self.now.entries }
         ensures legal { IsLegal self.now.base self.now.entries }
         ensures texts { All HasTexts self.now.entries }
-        ensures short { length self.now.entries ≤ 65536 }
+        ensures short { length self.now.entries ≤ LIMIT_MAX }
     {
         self.journal.entries()
     }
@@ -114,7 +125,9 @@ impl<D: Disk> Node<D> {
     /// The last entry of this era.
     pub fn last(&self) -> &Entry
         requires { 0 < length self.now.entries }
-        ensures last { (before : List Entry) → (e : Entry) → self.now.entries ≡ before ++ e ∷ [] → result.now ≡ e }
+        ensures last { (before : List Entry) → (e : Entry)
+            → self.now.entries ≡ before ++ e ∷ []
+            → result.now ≡ e }
         ensures texts { HasTexts result.now }
     {
         let entries = self.journal.entries();
@@ -132,7 +145,7 @@ impl<D: Disk> Node<D> {
     pub fn turns(&self, caller: u8) -> u32
         requires { caller < 16 }
         ensures value { result ≡ length (calls_by caller self.now.entries) }
-        ensures bound { result ≤ 65536 }
+        ensures bound { result ≤ LIMIT_MAX }
     {
         self.journal.turns(caller)
     }
@@ -141,8 +154,11 @@ impl<D: Disk> Node<D> {
     /// none of those is below the number with which this life began.
     pub fn disk(&self) -> &D
         ensures disk { result.now ≡ self.now.disk }
-        ensures held { D.keeps_model → Held self.now.owner (D.state self.now.disk) (granted_of self.now.base self.now.entries) }
-        ensures owns { AreAtMost (granted_of self.now.base self.now.entries) (owns self.now.base self.now.entries) }
+        ensures held { D.keeps_model
+            → Held self.now.owner (D.state self.now.disk)
+            (granted_of self.now.base self.now.entries) }
+        ensures owns { AreAtMost (granted_of self.now.base self.now.entries)
+            (owns self.now.base self.now.entries) }
         ensures begun { AreAtLeast self.now.first (owns self.now.base self.now.entries) }
         ensures first { self.now.first ≤ granted_of self.now.base self.now.entries }
         ensures lived { D.keeps_model → MayEnd D.state self.now }
@@ -153,7 +169,8 @@ impl<D: Disk> Node<D> {
     /// The disk, by value, with all that `disk` says of it.
     pub fn into_disk(self) -> D
         ensures disk { result ≡ self.disk }
-        ensures held { D.keeps_model → Held self.owner (D.state result) (granted_of self.base self.entries) }
+        ensures held { D.keeps_model
+            → Held self.owner (D.state result) (granted_of self.base self.entries) }
         ensures owns { AreAtMost (granted_of self.base self.entries) (owns self.base self.entries) }
         ensures begun { AreAtLeast self.first (owns self.base self.entries) }
         ensures first { self.first ≤ granted_of self.base self.entries }
@@ -226,7 +243,8 @@ impl<D: Disk> Node<D> {
     /// Whether a call may be entered: in turn, and while the era has room.
     fn judge(&self, tag: Tag) -> Result<(), ApplyFault>
         requires { tag.caller < 16 }
-        ensures ok { OnOk result (IsTurn self.now.entries tag × (length self.now.entries < self.now.base.limit)) }
+        ensures ok { OnOk result (IsTurn self.now.entries tag
+            × (length self.now.entries < self.now.base.limit)) }
         ensures refused { IfErr result (λ fault. Refused self.now.base self.now.entries tag fault) }
         ensures memory { result ≢ Err ApplyFault.NoMemory }
     {
@@ -258,7 +276,10 @@ impl<D: Disk> Node<D> {
         ensures link { L.name link.new ≡ L.name link.old }
 
         // One entry came, and what the link took of it is what it marks as taken.
-        ensures ok { IfOk result (λ reply. (e : Entry) × Added D.keeps_model D.state self.old self.new tag event reply e × Sends L.tells (L.took link.old) (L.took link.new) (L.failures link.old) (L.failures link.new) e.outs.items e.outcomes.items) }
+        ensures ok { IfOk result (λ reply. (e : Entry)
+            × Added D.keeps_model D.state self.old self.new tag event reply e
+            × Sends L.tells (L.took link.old) (L.took link.new) (L.failures link.old)
+            (L.failures link.new) e.outs.items e.outcomes.items) }
         ensures in_turn { OnOk result (IsTurn self.old.entries tag) }
         ensures room { OnOk result (length self.old.entries < self.old.base.limit) }
         ensures err { OnErr result ((self.new ≡ self.old) × (link.new ≡ link.old)) }
@@ -268,8 +289,12 @@ impl<D: Disk> Node<D> {
         ensures grows { granted_of self.old.base self.old.entries
             ≤ granted_of self.new.base self.new.entries }
         ensures living { GoesOn D.state self.old self.new }
-        ensures moments { D.keeps_model → Through (Covers self.old.owner (granted_of self.old.base self.old.entries)) (D.state self.old.disk) (D.state self.new.disk) }
-        ensures since { D.keeps_model → HeldSince self.old.owner (D.state self.new.disk) (D.state self.old.disk).clock (granted_of self.old.base self.old.entries) }
+        ensures moments { D.keeps_model
+            → Through (Covers self.old.owner (granted_of self.old.base self.old.entries))
+            (D.state self.old.disk) (D.state self.new.disk) }
+        ensures since { D.keeps_model
+            → HeldSince self.old.owner (D.state self.new.disk) (D.state self.old.disk).clock
+            (granted_of self.old.base self.old.entries) }
     {
         self.judge(tag)?;
         if self.journal.reserve().is_err() {

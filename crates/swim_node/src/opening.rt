@@ -11,6 +11,7 @@ ghost use Rattle.swim_state.specs.declared.fault.RecoverFault.TheVariants.{Devic
 ghost use Rattle.swim_node.specs.History.{fresh_base};
 ghost use Rattle.swim_node.specs.Lives.{IsLiving, life_of};
 ghost use Rattle.swim_node.specs.Node.{disk_of, owner_of};
+ghost use Rattle.swim_wire.specs.declared.update.TheConstants.{NUMBER_MAX};
 
 use crate::base::Base;
 use crate::journal::Journal;
@@ -36,16 +37,20 @@ impl<D: Disk> Node<D> {
         requires sound { AreSound settings }
         ensures entries { IfOk result (λ n. n.entries ≡ []) }
         ensures base { IfOk result (λ n. n.base ≡ fresh_base settings n.first limit) }
-        ensures first { D.keeps_model → IfOk result (λ n. n.first ≡ floor (D.state disk).content + 1) }
-        ensures bounds { IfOk result (λ n. (1 ≤ n.first) × (n.first ≤ 2 ^ 62)) }
+        ensures first { D.keeps_model
+            → IfOk result (λ n. n.first ≡ floor (D.state disk).content + 1) }
+        ensures bounds { IfOk result (λ n. (1 ≤ n.first) × (n.first ≤ NUMBER_MAX)) }
         ensures owner { IfOk result (λ n. n.owner ≡ owner_of settings) }
         ensures whole { IfOk result (λ n. n.broken ≡ false) }
-        ensures limit { IfOk result (λ n. (1 ≤ limit) × (limit ≤ 65536)) }
-        ensures range { IfErr result (λ refused. refused.1 ≡ OpenFault.Limit ↔ ((limit ≡ 0) ⊎ (65536 < limit))) }
+        ensures limit { IfOk result (λ n. (1 ≤ limit) × (limit ≤ LIMIT_MAX)) }
+        ensures range { IfErr result (λ refused.
+            refused.1 ≡ OpenFault.Limit ↔ ((limit ≡ 0) ⊎ (LIMIT_MAX < limit))) }
         ensures name { (D.state (disk_of result)).name ≡ (D.state disk).name }
 
         // The first two faults leave the disk as it was, and the others are those of the recovery.
-        ensures untouched { IfErr result (λ refused. (refused.1 ≡ OpenFault.Limit → refused.0 ≡ disk) × (refused.1 ≡ OpenFault.NoMemory → refused.0 ≡ disk)) }
+        ensures untouched { IfErr result (λ refused.
+            (refused.1 ≡ OpenFault.Limit → refused.0 ≡ disk)
+            × (refused.1 ≡ OpenFault.NoMemory → refused.0 ≡ disk)) }
 
         // One call of the disk failed if the answer is Device, and none if it is any other.
         ensures device { IfErr result (λ refused. refused.1 ≡ OpenFault.Refused Device
@@ -54,18 +59,39 @@ impl<D: Disk> Node<D> {
             → (D.state refused.0).failures ≡ (D.state disk).failures) }
         ensures opened { IfOk result (λ n. (D.state n.disk).failures ≡ (D.state disk).failures) }
 
-        ensures fault { D.keeps_model → IfErr result (λ refused. (fault : Faults) → fault ≢ Device → refused.1 ≡ OpenFault.Refused fault → fault_of (owner_of settings) (D.state disk).content ≡ Some fault) }
+        ensures fault { D.keeps_model
+            → IfErr result (λ refused. (fault : Faults)
+            → fault ≢ Device
+            → refused.1 ≡ OpenFault.Refused fault
+            → fault_of (owner_of settings) (D.state disk).content ≡ Some fault) }
 
         // What shows a fault isn't opened, and isn't written.
-        ensures none { D.keeps_model → IfOk result (λ n. fault_of (owner_of settings) (D.state disk).content ≡ None) }
-        ensures rests { D.keeps_model → IfErr result (λ refused. refused.1 ≢ OpenFault.Refused Device → Rests (D.state disk) (D.state refused.0)) }
+        ensures none { D.keeps_model
+            → IfOk result (λ n. fault_of (owner_of settings) (D.state disk).content ≡ None) }
+        ensures rests { D.keeps_model
+            → IfErr result (λ refused. refused.1 ≢ OpenFault.Refused Device
+            → Rests (D.state disk) (D.state refused.0)) }
 
         // No moment of the call leaves less than what was held before it, and the first number is above that. From such a
         // disk only a failed call or exhaustion comes.
-        ensures moments { D.keeps_model → (b : ℕ) → Held (owner_of settings) (D.state disk) b → Through (Covers (owner_of settings) b) (D.state disk) (D.state (disk_of result)) }
-        ensures since { D.keeps_model → (b : ℕ) → Held (owner_of settings) (D.state disk) b → HeldSince (owner_of settings) (D.state (disk_of result)) (D.state disk).clock b }
-        ensures from_held { D.keeps_model → (b : ℕ) → Held (owner_of settings) (D.state disk) b → IfErr result (λ refused. (fault : Faults) → refused.1 ≡ OpenFault.Refused fault → (fault ≡ Device) ⊎ (fault ≡ Exhausted)) }
-        ensures above { D.keeps_model → (b : ℕ) → Held (owner_of settings) (D.state disk) b → IfOk result (λ n. b < n.first) }
+        ensures moments { D.keeps_model
+            → (b : ℕ)
+            → Held (owner_of settings) (D.state disk) b
+            → Through (Covers (owner_of settings) b) (D.state disk) (D.state (disk_of result)) }
+        ensures since { D.keeps_model
+            → (b : ℕ)
+            → Held (owner_of settings) (D.state disk) b
+            → HeldSince (owner_of settings) (D.state (disk_of result)) (D.state disk).clock b }
+        ensures from_held { D.keeps_model
+            → (b : ℕ)
+            → Held (owner_of settings) (D.state disk) b
+            → IfErr result (λ refused. (fault : Faults)
+            → refused.1 ≡ OpenFault.Refused fault
+            → (fault ≡ Device) ⊎ (fault ≡ Exhausted)) }
+        ensures above { D.keeps_model
+            → (b : ℕ)
+            → Held (owner_of settings) (D.state disk) b
+            → IfOk result (λ n. b < n.first) }
         ensures living { D.keeps_model
             → IfOk result (λ n. IsLiving D.state n.owner (life_of settings limit disk [] n)) }
     {

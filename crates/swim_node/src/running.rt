@@ -25,8 +25,11 @@ pub fn run<D: Disk, L: Link>(
     ensures name { L.name link.new ≡ L.name link.old }
     ensures disk { (D.state node.new.disk).name ≡ (D.state node.old.disk).name }
     ensures ok { OnOk result (Ran node.old node.new calls.now) }
-    ensures err { IfErr result (λ r. (r.0 < length calls.now) × Ran node.old node.new (take r.0 calls.now)) }
-    ensures refused { IfErr result (λ r. (call : (Tags × Events)) × (slice_get calls.now r.0 ≡ Some call) × Refused node.new.base node.new.entries call.0 r.1) }
+    ensures err { IfErr result (λ r. (r.0 < length calls.now)
+        × Ran node.old node.new (take r.0 calls.now)) }
+    ensures refused { IfErr result (λ r. (call : (Tags × Events))
+        × (slice_get calls.now r.0 ≡ Some call)
+        × Refused node.new.base node.new.entries call.0 r.1) }
 
     // After Ok and Err alike: what the link took is what the added entries mark as taken.
     ensures sends { (added : List Entries) × (node.new.entries ≡ node.old.entries ++ added)

@@ -2,6 +2,7 @@
 
 ghost use Rattle.std.specs.Prelude.{◌≡◌, ◌≤◌, ◌^◌, IfSome};
 ghost use Rattle.swim_node.specs.Saving.{Saved};
+ghost use Rattle.swim_wire.specs.declared.update.TheConstants.{NUMBER_MAX};
 
 use crate::Save;
 use swim_disk::Disk;
@@ -9,7 +10,7 @@ use swim_state::Store;
 
 /// Raises the ceiling where the wanted number is above it.
 pub(crate) fn save<D: Disk>(store: &mut Store<D>, wanted: Option<u64>) -> Save
-    requires { IfSome wanted (λ n. n ≤ 2 ^ 62) }
+    requires { IfSome wanted (λ n. n ≤ NUMBER_MAX) }
     ensures { Saved D.keeps_model D.state wanted result store.old store.new }
 {
     // what the file covers, said of the disk before

@@ -14,7 +14,8 @@ use swim_wire::encode;
 fn send_one<L: Link>(link: &mut L, out: &Out) -> Outcome
     requires { HasText out.now.datagram }
     ensures name { L.name link.new ≡ L.name link.old }
-    ensures took { L.tells → L.took link.new ≡ L.took link.old ++ taken_by (out.now ∷ []) (result ∷ []) }
+    ensures took { L.tells
+        → L.took link.new ≡ L.took link.old ++ taken_by (out.now ∷ []) (result ∷ []) }
     ensures failures { L.failures link.new ≡ L.failures link.old + lost_in (result ∷ []) }
 {
     let bytes = encode(&out.datagram);
@@ -26,10 +27,11 @@ fn send_one<L: Link>(link: &mut L, out: &Out) -> Outcome
 
 /// Sends each datagram in order, whatever became of the one before.
 pub(crate) fn send_all<L: Link>(link: &mut L, outs: &[Out]) -> ArrayVec<Outcome, OUTS_MAX>
-    requires room { length outs.now ≤ 10 }
+    requires room { length outs.now ≤ OUTS_MAX }
     requires texts { All (λ out. HasText out.datagram) outs.now }
     ensures name { L.name link.new ≡ L.name link.old }
-    ensures sends { Sends L.tells (L.took link.old) (L.took link.new) (L.failures link.old) (L.failures link.new) outs.now result.items }
+    ensures sends { Sends L.tells (L.took link.old) (L.took link.new) (L.failures link.old)
+        (L.failures link.new) outs.now result.items }
 {
     let mut outcomes = ArrayVec::new();
     for out in outs {

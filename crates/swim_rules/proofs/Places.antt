@@ -5,7 +5,7 @@ use Rattle.std.specs.List.Sorted.{IsNonDecreasingBy}
 use Rattle.std.proofs.lemmas.Bool.{cases_Bool, eqb-true, eqb-false, eq-eqb, ne_eqb, ltb-true, ltb-false, leb-true, leb-false, lt-ltb, le-ltb, le-leb, lt-leb}
 use Rattle.swim_rules.specs.declared.table.Row.{Row}
 use Rattle.swim_rules.specs.Rows.{AreAbove, AreInOrder, remove_row, is_after}
-use Rattle.swim_rules.specs.Places.{IsRowAt, IsGapAt, place, is_there}
+use Rattle.swim_rules.specs.Machinery.Places.{IsRowAt, IsGapAt, place, is_there}
 use Rattle.swim_rules.proofs.Tables.{row_of-below, order-above}
 
 row_here : (r : Row) (rows : List Row) (who : ℕ) → r.update.who ≡ who → IsRowAt (r ∷ rows) who 0

@@ -2,7 +2,8 @@
 use Rattle.std.specs.Prelude.{ℕ, List, [], ◌∷◌}
 use Rattle.swim_wire.specs.declared.update.Update.{Update}
 use Rattle.swim_rules.specs.Rules.{Told}
-use Rattle.swim_rules.specs.Rows.{Members, answer_to, hear_rows, hear_option, remove_option, expired, forgotten, told_with, told_option, untold_option}
+use Rattle.swim_rules.specs.Rows.{Members, answer_to, hear_rows, hear_option, remove_option}
+use Rattle.swim_rules.specs.Rows.{expired, forgotten, told_with, told_option, untold_option}
 
 -- a call that may change a table, with its arguments
 pub data Call : Type 0 where
@@ -13,8 +14,10 @@ pub data Call : Type 0 where
 -- the table after a call, as the call's contract says
 abbrev pub table_after : Members → Call → Members
 table_after table (Hears u now) = record table { rows = hear_rows table.rows u now }
-table_after table (Expires now) = record table { rows = hear_option table.rows (expired table now) now }
-table_after table (Forgets now) = record table { rows = remove_option table.rows (forgotten table now) }
+table_after table (Expires now) =
+    record table { rows = hear_option table.rows (expired table now) now }
+table_after table (Forgets now) =
+    record table { rows = remove_option table.rows (forgotten table now) }
 
 -- what a table was told, after a call
 abbrev pub told_after : Members → List Told → Call → List Told
@@ -30,4 +33,5 @@ table_after_all table (call ∷ calls) = table_after_all (table_after table call
 -- what it was told after these calls
 abbrev pub told_after_all : Members → List Told → List Call → List Told
 told_after_all table told [] = told
-told_after_all table told (call ∷ calls) = told_after_all (table_after table call) (told_after table told call) calls
+told_after_all table told (call ∷ calls) =
+    told_after_all (table_after table call) (told_after table told call) calls

@@ -1,5 +1,5 @@
 pub mod Rules
 pub mod Rows
-pub mod Places
 pub mod Hearing
 pub mod Calls
+pub mod Machinery

@@ -1,10 +1,12 @@
 -- A table as a list of rows in the order of the members.
-use Rattle.std.specs.Prelude.{◌≡◌, ℕ, ◌-◌, ◌<◌, ◌≤◌, ◌==◌, ◌&&◌, nat_lt, nat_le, Bool, true, false, not, List, [], ◌∷◌, length, if◌then◌else◌, Option, Some, None}
+use Rattle.std.specs.Prelude.{◌≡◌, ℕ, ◌-◌, ◌<◌, ◌≤◌, ◌==◌, ◌&&◌, nat_lt, nat_le, Bool, true, false}
+use Rattle.std.specs.Prelude.{not, List, [], ◌∷◌, length, if◌then◌else◌, Option, Some, None}
 use Rattle.std.specs.List.{find}
 use Rattle.std.specs.Option.{option_map}
 use Rattle.swim_wire.specs.declared.update.Update.{Update}
 use Rattle.swim_wire.specs.declared.update.UpdateKind.{UpdateKind}
 use Rattle.swim_wire.specs.declared.update.UpdateKind.TheVariants.{Alive, Suspect, Confirm}
+use Rattle.swim_rules.specs.declared.table.TheConstants.{ROWS_MAX}
 use Rattle.swim_rules.specs.declared.table.Row.{Row}
 use Rattle.swim_rules.specs.declared.table.Heard.{Heard}
 use Rattle.swim_rules.specs.declared.table.Heard.TheVariants.{Accepted, Kept, Unknown, Full}
@@ -39,13 +41,14 @@ heard_as None full u = heard_new u.kind full
 
 -- the answer of a table with these rows
 abbrev pub answer_to : List Row → Update → Heard
-answer_to rows u = heard_as (row_of rows u.who) (length rows == 256) u
+answer_to rows u = heard_as (row_of rows u.who) (length rows == ROWS_MAX) u
 
 -- the rows after an update with this answer
 abbrev pub rows_after : Heard → List Row → Row → List Row
 rows_after Accepted rows r = put_row rows r
 rows_after _ rows r = rows
 
+-- the rows after an update was heard at this tick
 abbrev pub hear_rows : List Row → Update → ℕ → List Row
 hear_rows rows u now = rows_after (answer_to rows u) rows (record { update = u; since = now })
 
@@ -59,13 +62,15 @@ abbrev pub AreInOrder : List Row → Type 0
 AreInOrder [] = Unit {0}
 AreInOrder (r ∷ rows) = AreAbove r.update.who rows
 
--- what a table was told with an update that had this answer: an unknown member's Confirm and an update with no room for a row are left out
+-- what a table was told with an update that had this answer: an unknown
+-- member's Confirm and an update with no room for a row are left out
 abbrev pub told_with : Heard → List Told → Update → ℕ → List Told
 told_with Accepted told u now = Hear u now ∷ told
 told_with Kept told u now = Hear u now ∷ told
 told_with _ told u now = told
 
--- a table: whose it is, after how many ticks a Suspect becomes Confirm and a Confirm is forgotten, and the rows
+-- a table: whose it is, after how many ticks a Suspect
+-- becomes Confirm and a Confirm is forgotten, and the rows
 pub record Members : Type 0 where
   pub me : ℕ
   pub suspect : ℕ
@@ -76,11 +81,12 @@ pub record Members : Type 0 where
 abbrev pub LacksRow : ℕ → List Row → Type 0
 LacksRow x rows = row_of rows x ≡ None
 
--- what callers may rely on: at most 256 rows in strictly ascending order, and none of them is one's own
+-- what callers may rely on: at most `ROWS_MAX` rows in strictly
+-- ascending order, and none of them is one's own
 pub record IsTable (table : Members) : Type 0 where
   pub order : AreInOrder table.rows
   pub others : LacksRow table.me table.rows
-  pub most : length table.rows ≤ 256
+  pub most : length table.rows ≤ ROWS_MAX
 
 -- the same kind
 abbrev pub is_kind : UpdateKind → UpdateKind → Bool
@@ -112,8 +118,10 @@ hear_option rows (Some u) now = hear_rows rows u now
 
 -- the first member whose Confirm is due to be forgotten
 abbrev pub forgotten : Members → ℕ → Option ℕ
-forgotten table now = option_map (λ r. r.update.who) (find (is_due Confirm table.forget now) table.rows)
+forgotten table now =
+    option_map (λ r. r.update.who) (find (is_due Confirm table.forget now) table.rows)
 
+-- the rows without those of this member, if there is one to remove
 abbrev pub remove_option : List Row → Option ℕ → List Row
 remove_option rows None = rows
 remove_option rows (Some x) = remove_row rows x

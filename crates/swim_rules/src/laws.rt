@@ -13,7 +13,8 @@ ghost use Rattle.swim_rules.specs.Hearing.{hear_each, HaveSameUpdates, LacksConf
 /// table has none.
 pub fn rows_are_tops()
     ensures each { (table : Members) → AreInOrder table.rows → (calls : List Call) → (x : ℕ)
-        → row_of (table_after_all table calls).rows x ≡ row table.rows (told_after_all table [] calls) x }
+        → row_of (table_after_all table calls).rows x
+        ≡ row table.rows (told_after_all table [] calls) x }
     ensures all { (table : Members) → AreInOrder table.rows → (calls : List Call)
         → (table_after_all table calls).rows ≡ rows table.rows (told_after_all table [] calls) }
 {}
@@ -22,9 +23,12 @@ pub fn rows_are_tops()
 /// heard, leave the same update about a member, of a Confirm its number aside: where the member has
 /// a row before, and also where none of the updates is a Confirm and none finds the table full.
 pub fn order_is_of_no_matter()
-    ensures row { (rows : List Row) → (heard others : List Row) → (x : ℕ) → HaveSameUpdates heard others
-        → row_of rows x ≢ None → AreAlike (row_of (hear_each rows heard) x) (row_of (hear_each rows others) x) }
-    ensures room { (rows : List Row) → (heard others : List Row) → (x : ℕ) → HaveSameUpdates heard others
+    ensures row { (rows : List Row) → (heard others : List Row) → (x : ℕ)
+        → HaveSameUpdates heard others
+        → row_of rows x ≢ None
+        → AreAlike (row_of (hear_each rows heard) x) (row_of (hear_each rows others) x) }
+    ensures room { (rows : List Row) → (heard others : List Row) → (x : ℕ)
+        → HaveSameUpdates heard others
         → LacksConfirm heard → HaveRoom rows heard → HaveRoom rows others
         → AreAlike (row_of (hear_each rows heard) x) (row_of (hear_each rows others) x) }
 {}

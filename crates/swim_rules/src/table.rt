@@ -6,7 +6,7 @@ ghost use Rattle.std.specs.List.{find, filter, insert, remove, position_or_len};
 ghost use Rattle.std.specs.Option.{option_map, option_copied};
 ghost use Rattle.swim_rules.specs.Rules.{Told, row, rows};
 ghost use Rattle.swim_rules.specs.Rows.{AreInOrder, row_of, answer_to, hear_rows, told_with, is_due, is_eligible, is_of_kind, expired, hear_option, forgotten, remove_option, remove_row, confirmed, is_after, told_option, untold_option, IsTable};
-ghost use Rattle.swim_rules.specs.Places.{IsRowAt, IsGapAt, place, is_there};
+ghost use Rattle.swim_rules.specs.Machinery.Places.{IsRowAt, IsGapAt, place, is_there};
 
 use crate::overriding::overrides;
 use arrayvec::ArrayVec;
@@ -19,6 +19,7 @@ pub const ROWS_MAX: usize = 256;
 /// A row of the table: the update that was accepted last, and when.
 #[derive(Clone, Copy, Debug, PartialEq, Eq)]
 pub struct Row {
+    /// What was heard of the member, and overrides all else that was.
     pub update: Update,
     /// The tick at which the update was heard.
     pub since: u64,
@@ -66,9 +67,16 @@ impl Model for Table {
 
     ghost Value = { Members };
 
-    ghost view = { λ t. record { me = t.me; suspect = t.suspect; forget = t.forget; rows = t.rows.items } };
+    ghost view = { λ t. record {
+      me = t.me;
+      suspect = t.suspect;
+      forget = t.forget;
+      rows = t.rows.items;
+    } };
 
-    ghost invariant = { λ t. AreInOrder t.rows.items × LacksRow t.me t.rows.items × (t.eligible ≡ length (filter is_eligible t.rows.items)) };
+    ghost invariant = { λ t. AreInOrder t.rows.items
+        × LacksRow t.me t.rows.items
+        × (t.eligible ≡ length (filter is_eligible t.rows.items)) };
 }
 
 /// How many rows stand before `who`.
@@ -181,7 +189,7 @@ fn replace(rows: &mut ArrayVec<Row, ROWS_MAX>, eligible: &mut usize, place: usiz
 /// Puts a row that is Alive or Suspect before the one at this place.
 fn insert(rows: &mut ArrayVec<Row, ROWS_MAX>, eligible: &mut usize, place: usize, row: Row)
     requires place { place ≤ length rows.old.items }
-    requires room { length rows.old.items < 256 }
+    requires room { length rows.old.items < ROWS_MAX }
     requires new { is_eligible row ≡ true }
     requires counted { eligible.old ≡ length (filter is_eligible rows.old.items) }
     ensures rows { rows.new.items ≡ insert rows.old.items place row }
@@ -203,7 +211,7 @@ fn hear_in(
     ensures answer { result ≡ answer_to rows.old.items update }
     ensures rows { rows.new.items ≡ hear_rows rows.old.items update now }
     ensures counted { eligible.new ≡ length (filter is_eligible rows.new.items) }
-    ensures most { length rows.new.items ≤ 256 }
+    ensures most { length rows.new.items ≤ ROWS_MAX }
 {
     let row = Row { update, since: now };
     match find_row(rows, update.who) {
@@ -247,7 +255,7 @@ fn remove_in(rows: &mut ArrayVec<Row, ROWS_MAX>, eligible: &mut usize, who: Endp
     requires counted { eligible.old ≡ length (filter is_eligible rows.old.items) }
     ensures rows { rows.new.items ≡ remove_row rows.old.items who }
     ensures counted { eligible.new ≡ length (filter is_eligible rows.new.items) }
-    ensures most { length rows.new.items ≤ 256 }
+    ensures most { length rows.new.items ≤ ROWS_MAX }
 {
     if let Ok(place) = find_row(rows, who) {
         remove(rows, eligible, place);
@@ -318,7 +326,8 @@ impl Table {
     /// Confirm with its number, and gives that, or none where no Suspect is due.
     pub fn expire(&mut self, now: u64) -> Option<Update>
         ensures answer { result ≡ expired self.old now }
-        ensures rows { self.new ≡ record self.old { rows = hear_option self.old.rows (expired self.old now) now } }
+        ensures rows { self.new
+            ≡ record self.old { rows = hear_option self.old.rows (expired self.old now) now } }
         ensures kept { IsTable self.new }
         ensures tops { (base : List Row) (told : List Told) → rows base told ≡ self.old.rows
             → rows base (told_option told result now) ≡ self.new.rows }
@@ -336,7 +345,8 @@ impl Table {
     /// and gives it, or none where no Confirm is due.
     pub fn forget(&mut self, now: u64) -> Option<Endpoint>
         ensures answer { result ≡ forgotten self.old now }
-        ensures rows { self.new ≡ record self.old { rows = remove_option self.old.rows (forgotten self.old now) } }
+        ensures rows { self.new
+            ≡ record self.old { rows = remove_option self.old.rows (forgotten self.old now) } }
         ensures kept { IsTable self.new }
         ensures tops { (base : List Row) (told : List Told) → rows base told ≡ self.old.rows
             → rows base (untold_option told result) ≡ self.new.rows }
@@ -373,7 +383,7 @@ impl Table {
     /// How many rows are of this kind.
     pub fn count_of(&self, kind: UpdateKind) -> usize
         ensures count { result ≡ length (filter (is_of_kind kind) self.now.rows) }
-        ensures bound { result ≤ 256 }
+        ensures bound { result ≤ ROWS_MAX }
     {
         self.rows
             .iter()
@@ -391,7 +401,7 @@ impl Table {
     /// How many rows are Alive or Suspect.
     pub fn count(&self) -> usize
         ensures count { result ≡ length (filter is_eligible self.now.rows) }
-        ensures bound { result ≤ 256 }
+        ensures bound { result ≤ ROWS_MAX }
     {
         // no more than there are rows
         let _ = self.rows.len();

@@ -1,5 +1,7 @@
 -- Which line of a script says which command.
-use Rattle.std.specs.Prelude.{◌≡◌, ◌==◌, ◌||◌, ◌&&◌, ℕ, ◌^◌, ◌<◌, ◌≤◌, nat_le, nat_lt, if◌then◌else◌, Result, Ok, Err, ◌⊎◌, Bool, true, false, not, Option, Some, None, List, [], ◌∷◌, length, slice_index, codes, All}
+use Rattle.std.specs.Prelude.{◌≡◌, ◌==◌, ◌||◌, ◌&&◌, ℕ, ◌^◌, ◌<◌, ◌≤◌, nat_le, nat_lt}
+use Rattle.std.specs.Prelude.{if◌then◌else◌, Result, Ok, Err, ◌⊎◌, Bool, true, false, not, Option}
+use Rattle.std.specs.Prelude.{Some, None, List, [], ◌∷◌, length, slice_index, codes, All}
 use Rattle.std.specs.List.{filter, slice_split, list_all}
 use Rattle.std.specs.Borrow.{Bor}
 use Rattle.std.specs.Fmt.{decimal}
@@ -9,8 +11,12 @@ use Rattle.swim_member.specs.declared.event.Event.TheVariants as event
 use Rattle.swim_disk.specs.declared.mem.Choice.{Choice}
 use Rattle.swim_disk.specs.declared.mem.Choice.TheVariants.{Keep, Drop, Fill}
 use Rattle.hex.specs.Hex.{decode_of}
+use Rattle.swim_script.specs.declared.script.TheConstants.{LINE_MAX}
+use Rattle.swim_script.specs.declared.line.TheConstants.{COUNT_MAX}
 use Rattle.swim_script.specs.declared.command.Command.{Command}
-use Rattle.swim_script.specs.declared.command.Command.TheVariants.{Group, Me, Set, Start, Init, Open, Happen, Plan, Kill, Crash, Overwrite, Slots, Rebase}
+use Rattle.swim_script.specs.declared.command.Command.TheVariants.{Group, Me, Set, Start, Init}
+use Rattle.swim_script.specs.declared.command.Command.TheVariants.{Open, Happen, Plan, Kill, Crash}
+use Rattle.swim_script.specs.declared.command.Command.TheVariants.{Overwrite, Slots, Rebase}
 use Rattle.swim_script.specs.declared.command.Setting.{Setting}
 use Rattle.swim_script.specs.declared.command.Setting.TheVariants as setting
 use Rattle.swim_script.specs.declared.command.Failure.{Failure}
@@ -47,9 +53,11 @@ keyword_text keyword.Overwrite = codes "disk"
 keyword_text keyword.Slots = codes "slots"
 keyword_text keyword.Rebase = codes "rebase"
 
+-- the word is that of a keyword
 abbrev pub IsKeyword : List ℕ → Keyword → Type 0
 IsKeyword word keyword = word ≡ keyword_text keyword
 
+-- the word of a setting, as `set` takes it
 abbrev pub setting_text : Setting → List ℕ
 setting_text setting.Lambda = codes "lambda"
 setting_text setting.Period = codes "period"
@@ -59,6 +67,7 @@ setting_text setting.Forget = codes "forget"
 setting_text setting.Helpers = codes "helpers"
 setting_text setting.Limit = codes "limit"
 
+-- the word is that of a setting
 abbrev pub IsSetting : List ℕ → Setting → Type 0
 IsSetting word setting = word ≡ setting_text setting
 
@@ -68,7 +77,8 @@ line keyword rest = spaced (keyword_text keyword) rest
 
 -- the line's first word is this keyword
 abbrev pub BeginsWith : List ℕ → Keyword → Type 0
-BeginsWith text keyword = (text ≡ keyword_text keyword) ⊎ ((rest : List ℕ) × (text ≡ line keyword rest))
+BeginsWith text keyword =
+    (text ≡ keyword_text keyword) ⊎ ((rest : List ℕ) × (text ≡ line keyword rest))
 
 -- the keywords whose arguments are read without memory
 abbrev pub IsPlain : Keyword → Type 0
@@ -84,15 +94,18 @@ pub record IsReceived (text : List ℕ) (from : ℕ) (bytes : List ℕ) : Type 0
   pub hex : IsCut word bytes
   pub says : text ≡ line keyword.Receive (spaced (endpoint_text from) word)
 
+-- the text is an event line, with its numbers in range
 abbrev pub SaysEvent : List ℕ → Event → Type 0
 SaysEvent text (event.Tick word) = (text ≡ line keyword.Tick (decimal word)) × (word < 2 ^ 32)
 SaysEvent text (event.Datagram from bytes) = IsReceived text from bytes.items
 SaysEvent text event.ReceiveFailed = text ≡ keyword_text keyword.ReceiveFailed
-SaysEvent text (event.SendFailed count) = (text ≡ line keyword.SendFailed (decimal count)) × (count < 2 ^ 32)
+SaysEvent text (event.SendFailed count) =
+    (text ≡ line keyword.SendFailed (decimal count)) × (count < 2 ^ 32)
 SaysEvent text (event.Join peer) = (text ≡ line keyword.Join (endpoint_text peer)) × IsEndpoint peer
 SaysEvent text event.Leave = text ≡ keyword_text keyword.Leave
 SaysEvent text (event.Members after) =
-    ((text ≡ keyword_text keyword.Members) × (after ≡ 0)) ⊎ ((text ≡ line keyword.Members (endpoint_text after)) × IsEndpoint after)
+    ((text ≡ keyword_text keyword.Members) × (after ≡ 0))
+    ⊎ ((text ≡ line keyword.Members (endpoint_text after)) × IsEndpoint after)
 
 -- the failure of the k-th call of the sort that the word names, of those with a word of their own
 abbrev pub IsFailure : List ℕ → ℕ → Failure → Type 0
@@ -104,21 +117,28 @@ IsFailure word k _ = ⊥
 
 -- the calls of a sort that may be planned to fail: the first to the millionth
 abbrev pub IsCall : ℕ → Type 0
-IsCall k = (1 ≤ k) × (k ≤ 1000000)
+IsCall k = (1 ≤ k) × (k ≤ COUNT_MAX)
 
+-- the text is a line that plans a failure of the k-th call
 abbrev pub SaysFailure : List ℕ → Failure → Type 0
-SaysFailure text (failure.Read k) = (text ≡ line keyword.Fail (spaced (codes "read") (decimal k))) × IsCall k
-SaysFailure text (failure.Write k) = (text ≡ line keyword.Fail (spaced (codes "write") (decimal k))) × IsCall k
-SaysFailure text (failure.TornWrite k) = (text ≡ line keyword.Tear (spaced (codes "write") (decimal k))) × IsCall k
-SaysFailure text (failure.Sync k) = (text ≡ line keyword.Fail (spaced (codes "sync") (decimal k))) × IsCall k
+SaysFailure text (failure.Read k) =
+    (text ≡ line keyword.Fail (spaced (codes "read") (decimal k))) × IsCall k
+SaysFailure text (failure.Write k) =
+    (text ≡ line keyword.Fail (spaced (codes "write") (decimal k))) × IsCall k
+SaysFailure text (failure.TornWrite k) =
+    (text ≡ line keyword.Tear (spaced (codes "write") (decimal k))) × IsCall k
+SaysFailure text (failure.Sync k) =
+    (text ≡ line keyword.Fail (spaced (codes "sync") (decimal k))) × IsCall k
 SaysFailure text (failure.Halt k) = (text ≡ line keyword.Halt (decimal k)) × IsCall k
-SaysFailure text (failure.Send k) = (text ≡ line keyword.Fail (spaced (codes "send") (decimal k))) × IsCall k
+SaysFailure text (failure.Send k) =
+    (text ≡ line keyword.Fail (spaced (codes "send") (decimal k))) × IsCall k
 
 -- what a crash is to leave of what was not synced
 abbrev pub SaysChoice : List ℕ → Choice → Type 0
 SaysChoice text Keep = text ≡ codes "keep"
 SaysChoice text Drop = text ≡ codes "drop"
-SaysChoice text (Fill byte) = (word : List ℕ) × (text ≡ spaced (codes "fill") word) × (decode_of word ≡ Ok (byte ∷ []))
+SaysChoice text (Fill byte) =
+    (word : List ℕ) × (text ≡ spaced (codes "fill") word) × (decode_of word ≡ Ok (byte ∷ []))
 
 -- a crash with its choice
 pub record IsCrash (text : List ℕ) (choice : Choice) : Type 0 where
@@ -136,7 +156,9 @@ pub record IsOverwrite (text : List ℕ) (patch : Patch) : Type 0 where
 abbrev pub Says : List ℕ → Command → Type 0
 Says text (Group number) = (text ≡ line keyword.Group (decimal number)) × (number < 2 ^ 64)
 Says text (Me endpoint) = (text ≡ line keyword.Me (endpoint_text endpoint)) × IsEndpoint endpoint
-Says text (Set setting number) = (text ≡ line keyword.Set (spaced (setting_text setting) (decimal number))) × (number ≤ 1000000)
+Says text (Set setting number) =
+    (text ≡ line keyword.Set (spaced (setting_text setting) (decimal number)))
+    × (number ≤ COUNT_MAX)
 Says text (Start first) = text ≡ line keyword.Start (decimal first.value)
 Says text (Init ceiling) = (text ≡ line keyword.Init (decimal ceiling)) × (ceiling < 2 ^ 64)
 Says text Open = text ≡ keyword_text keyword.Open
@@ -174,7 +196,9 @@ is_printed byte = nat_le 0x20 byte && nat_le byte 0x7e
 -- the first fault of a line's bytes, if they have one
 abbrev pub judged : List ℕ → Result (Unit {0}) FaultKind
 judged text =
-    if not (list_all is_printed text) then Err fault.Text else (if nat_lt 1300 (length text) then Err fault.Long else Ok tt)
+    if not (list_all is_printed text)
+    then Err fault.Text
+    else (if nat_lt LINE_MAX (length text) then Err fault.Long else Ok tt)
 
 -- the script says these commands, in order, and its bytes have no fault
 pub record IsScript (script : List ℕ) (commands : List Command) : Type 0 where

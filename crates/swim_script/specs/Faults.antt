@@ -1,5 +1,6 @@
 -- The first fault of a script, and how faults are printed.
-use Rattle.std.specs.Prelude.{◌≡◌, ◌⊎◌, ℕ, ◌+◌, true, Option, List, ◌∷◌, ◌++◌, length, All, Ok, Err, codes}
+use Rattle.std.specs.Prelude.{◌≡◌, ◌⊎◌, ℕ, ◌+◌, true, Option, List, ◌∷◌, ◌++◌, length, All, Ok, Err}
+use Rattle.std.specs.Prelude.{codes}
 use Rattle.std.specs.Fmt.{decimal}
 use Rattle.swim_wire.specs.Codes.{numbered}
 use Rattle.swim_script.specs.declared.command.Command.{Command}
@@ -16,9 +17,11 @@ IsWordFault text fault.Command = No (BeginsWith text)
 IsWordFault text fault.Argument = (keyword : Keyword) × BeginsWith text keyword × No (Says text)
 IsWordFault text _ = ⊥
 
--- a line's first fault: one of its bytes, or else one of its words where it isn't empty and no comment
+-- a line's first fault: one of its bytes, or else one
+-- of its words where it isn't empty and no comment
 abbrev pub IsFaultOf : List ℕ → FaultKind → Type 0
-IsFaultOf text kind = (judged text ≡ Err kind) ⊎ ((judged text ≡ Ok tt) × (is_said text ≡ true) × IsWordFault text kind)
+IsFaultOf text kind = (judged text ≡ Err kind)
+    ⊎ ((judged text ≡ Ok tt) × (is_said text ≡ true) × IsWordFault text kind)
 
 -- a line without a fault, which says a command or nothing
 abbrev pub IsGood : List ℕ → Type 0
@@ -34,6 +37,7 @@ pub record IsFaultAt (script : List ℕ) (f : ScriptFault) : Type 0 where
   pub number : f.line ≡ length before + 1
   pub faulty : IsFaultOf text f.kind
 
+-- the fault of a script for which memory is wanting: it has line 0
 abbrev pub no_memory : ScriptFault
 no_memory = record { line = 0; kind = fault.NoMemory }
 
@@ -41,6 +45,7 @@ no_memory = record { line = 0; kind = fault.NoMemory }
 abbrev pub IsFirstFault : List ℕ → ScriptFault → Type 0
 IsFirstFault script f = (f ≡ no_memory) ⊎ IsFaultAt script f
 
+-- the number, the name and the text of each kind of fault
 abbrev pub kind_number : FaultKind → ℕ
 kind_number fault.Text = 1
 kind_number fault.Long = 2

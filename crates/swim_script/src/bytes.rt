@@ -27,7 +27,7 @@ fn decode_hex(alloc: Global, word: &[u8]) -> Result<Vec<u8>, FaultKind>
 
 /// As many of the bytes as a member keeps of a datagram.
 fn cut(bytes: &[u8]) -> ArrayVec<u8, RECEIVED_MAX>
-    ensures { result.items ≡ take 513 bytes.now }
+    ensures { result.items ≡ take RECEIVED_MAX bytes.now }
 {
     let mut cut = ArrayVec::new();
     for byte in bytes {
@@ -56,7 +56,8 @@ pub(crate) fn read_bytes(alloc: Global, word: &[u8]) -> Result<Vec<u8>, FaultKin
 /// The byte that two hex digits spell.
 pub(crate) fn read_hex_byte(alloc: Global, word: &[u8]) -> Result<u8, FaultKind>
     ensures byte { IfOk result (λ byte. decode_of word.now ≡ Ok (byte ∷ [])) }
-    ensures none { IfErr result (λ kind. Refuses kind (λ byte. decode_of word.now ≡ Ok (byte ∷ []))) }
+    ensures none { IfErr result (λ kind.
+        Refuses kind (λ byte. decode_of word.now ≡ Ok (byte ∷ []))) }
 {
     let bytes = decode_hex(alloc, word)?;
     match bytes.as_slice() {

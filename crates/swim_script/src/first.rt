@@ -2,6 +2,7 @@
 
 ghost use Rattle.std.specs.Prelude.{◌≡◌, ◌-◌, ◌^◌, ◌≤◌, IfSome, IfNone};
 ghost use Rattle.std.specs.Fmt.{decimal};
+ghost use Rattle.swim_wire.specs.declared.update.TheConstants.{NUMBER_MAX};
 ghost use Rattle.swim_words.specs.Words.{No, SaysNumber};
 
 use swim_wire::NUMBER_MAX;
@@ -12,7 +13,7 @@ use swim_words::read_within;
 pub struct FirstNumber {
     /// The number.
     pub value: u64,
-    ghost in_range: { (1 ≤ value) × (value ≤ 2 ^ 62) },
+    ghost in_range: { (1 ≤ value) × (value ≤ NUMBER_MAX) },
 }
 
 impl FirstNumber {
@@ -27,7 +28,7 @@ impl FirstNumber {
 /// The number that decimal digits spell, if a life may begin with it.
 pub(crate) fn read_first(text: &[u8]) -> Option<FirstNumber>
     ensures number { IfSome result (λ first. text.now ≡ decimal first.value) }
-    ensures none { IfNone result (No (SaysNumber text.now 1 (2 ^ 62))) }
+    ensures none { IfNone result (No (SaysNumber text.now 1 NUMBER_MAX)) }
 {
     let value = read_within(text, 1, NUMBER_MAX)?;
     Some(FirstNumber { value })

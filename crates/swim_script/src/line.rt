@@ -100,7 +100,8 @@ fn read_set(arguments: &[u8]) -> Option<Command>
 
 /// The call that the arguments make fail.
 fn read_failure(arguments: &[u8]) -> Option<Failure>
-    ensures failure { IfSome result (λ failure. SaysFailure (line Keyword.Fail arguments.now) failure) }
+    ensures failure { IfSome result
+        (λ failure. SaysFailure (line Keyword.Fail arguments.now) failure) }
     ensures none { IfNone result (No (SaysFailure (line Keyword.Fail arguments.now))) }
 {
     let (word, number) = split_at_byte(arguments, b' ')?;
@@ -110,7 +111,8 @@ fn read_failure(arguments: &[u8]) -> Option<Failure>
 
 /// The write that the arguments tear.
 fn read_torn(arguments: &[u8]) -> Option<Failure>
-    ensures failure { IfSome result (λ failure. SaysFailure (line Keyword.Tear arguments.now) failure) }
+    ensures failure { IfSome result
+        (λ failure. SaysFailure (line Keyword.Tear arguments.now) failure) }
     ensures none { IfNone result (No (SaysFailure (line Keyword.Tear arguments.now))) }
 {
     let (word, number) = split_at_byte(arguments, b' ')?;
@@ -183,7 +185,8 @@ fn read_choice(alloc: Global, arguments: &[u8]) -> Result<Choice, FaultKind>
 /// The part of the disk that the arguments write over.
 fn read_patch(alloc: Global, arguments: &[u8]) -> Result<Command, FaultKind>
     ensures command { IfOk result (λ command. Says (line Keyword.Overwrite arguments.now) command) }
-    ensures none { IfErr result (λ kind. Refuses kind (Says (line Keyword.Overwrite arguments.now))) }
+    ensures none { IfErr result
+        (λ kind. Refuses kind (Says (line Keyword.Overwrite arguments.now))) }
 {
     let (at, word) = split_at_byte(arguments, b' ').ok_or(FaultKind::Argument)?;
     let at = read_number(at).ok_or(FaultKind::Argument)?;

@@ -1,6 +1,7 @@
 //! Bytes that a line writes over a disk.
 
 ghost use Rattle.std.specs.Prelude.{◌≡◌, ◌+◌, ◌<◌, ◌≤◌, length, IfOk, IfSome, IfNone};
+ghost use Rattle.swim_disk.specs.declared.mem.TheConstants.{MOST_BYTES};
 ghost use Rattle.swim_script.specs.Patches.{IsPatched};
 
 use std::alloc::AllocError;
@@ -13,14 +14,14 @@ pub struct Patch {
     pub at: u64,
     /// What goes there.
     pub bytes: Vec<u8>,
-    ghost fits: { at + length bytes.items ≤ 65536 },
+    ghost fits: { at + length bytes.items ≤ MOST_BYTES },
 }
 
 impl Patch {
     /// These bytes at this offset, unless they would end past the room of a disk.
     pub(crate) fn new(at: u64, bytes: Vec<u8>) -> Option<Patch>
         ensures patch { IfSome result (λ patch. (patch.at ≡ at) × (patch.bytes ≡ bytes)) }
-        ensures none { IfNone result (65536 < at + length bytes.items) }
+        ensures none { IfNone result (MOST_BYTES < at + length bytes.items) }
     {
         if at > MOST_BYTES || bytes.len() as u64 > MOST_BYTES - at {
             return None;

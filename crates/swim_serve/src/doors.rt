@@ -1,12 +1,46 @@
 //! Control connections over TCP.
 
+use std::io::{self, ErrorKind, Read};
 use std::net::{TcpListener, TcpStream};
 use std::thread;
-use std::time::{Clock, Duration};
+use std::time::{Clock, Duration, Instant};
 use swim_shell::Doors;
 
-/// The most that a connection waits for a read or a write, in milliseconds.
+/// The most that a line may take to come, or a write may wait, in milliseconds.
 const CONNECTION_MILLIS: u64 = 1000;
+
+/// What reads from a connection: it fails once a line has taken longer than a second to come, so that nobody holds up the
+/// others, or the end of an era, by a line that never ends.
+#[derive(Drop)]
+pub struct LinesInTime<'a, C: Clock> {
+    stream: TcpStream,
+    clock: &'a C,
+    /// When the line began that comes now.
+    began: Instant,
+}
+
+impl<'a, C: Clock> LinesInTime<'a, C> {
+    /// How long the line may still take; an error if it has taken too long.
+    fn left(&self) -> io::Result<Duration> {
+        let limit = Duration::from_millis(CONNECTION_MILLIS);
+        let left = limit.saturating_sub(self.began.elapsed(self.clock)?);
+        if left.is_zero() {
+            return Err(io::Error::from(ErrorKind::TimedOut));
+        }
+        Ok(left)
+    }
+}
+
+impl<'a, C: Clock> Read for LinesInTime<'a, C> {
+    fn read(&mut self, buf: &mut [u8]) -> io::Result<usize> {
+        self.stream.set_read_timeout(Some(self.left()?))?;
+        let count = self.stream.read(buf)?;
+        if buf[..count].contains(&b'\n') {
+            self.began = Instant::now(self.clock)?;
+        }
+        Ok(count)
+    }
+}
 
 /// Control connections over TCP. Where none has come, it waits a while before it answers so.
 #[derive(Drop)]
@@ -30,23 +64,31 @@ impl<'a, C: Clock> TcpDoors<'a, C> {
     }
 }
 
-/// Both ends of a connection whose reads and writes wait at most a second; none where it cannot be made so.
-fn with_waits(stream: TcpStream) -> Option<(TcpStream, TcpStream)> {
+/// Both ends of a connection whose lines come and whose writes end within a second; none if it cannot be made so.
+fn with_waits<'a, C: Clock>(
+    clock: &'a C,
+    stream: TcpStream,
+) -> Option<(LinesInTime<'a, C>, TcpStream)> {
+    let began = Instant::now(clock).ok()?;
     let wait = Duration::from_millis(CONNECTION_MILLIS);
-    stream.set_read_timeout(Some(wait)).ok()?;
     stream.set_write_timeout(Some(wait)).ok()?;
     let other = stream.try_clone().ok()?;
-    Some((stream, other))
+    let lines = LinesInTime {
+        stream,
+        clock,
+        began,
+    };
+    Some((lines, other))
 }
 
 impl<'a, C: Clock> Doors for TcpDoors<'a, C> {
-    type Reader = TcpStream;
+    type Reader = LinesInTime<'a, C>;
 
     type Writer = TcpStream;
 
-    fn next(&mut self) -> Option<(TcpStream, TcpStream)> {
+    fn next(&mut self) -> Option<(LinesInTime<'a, C>, TcpStream)> {
         match self.listener.accept() {
-            Ok((stream, _)) => with_waits(stream),
+            Ok((stream, _)) => with_waits(self.clock, stream),
             Err(_) => {
                 thread::sleep(self.clock, self.wait);
                 None

@@ -1,7 +1,10 @@
 -- The keys of a settings file.
 use Rattle.std.specs.Prelude.{ℕ, List, [], ◌∷◌, take, codes}
 use Rattle.swim_settings.specs.declared.key.Key.{Key}
-use Rattle.swim_settings.specs.declared.key.Key.TheVariants.{File, Group, Me, Control, TickMs, Lambda, Period, Direct, Suspect, Forget, Helpers, Limit, RandomKey, Join}
+use Rattle.swim_settings.specs.declared.key.Key.TheVariants.{File, Group, Me, Control, TickMs}
+use Rattle.swim_settings.specs.declared.key.Key.TheVariants.{Lambda, Period, Direct, Suspect}
+use Rattle.swim_settings.specs.declared.key.Key.TheVariants.{Forget, Helpers, Limit, RandomKey}
+use Rattle.swim_settings.specs.declared.key.Key.TheVariants.{Join}
 
 -- the key as a file has it
 abbrev pub key_text : Key → List ℕ
@@ -22,7 +25,8 @@ key_text Join = codes "join"
 
 -- all keys, in the order in which a refused one is looked for
 abbrev pub keys : List Key
-keys = File ∷ Group ∷ Me ∷ Control ∷ TickMs ∷ Lambda ∷ Period ∷ Direct ∷ Suspect ∷ Forget ∷ Helpers ∷ Limit ∷ RandomKey ∷ Join ∷ []
+keys = File ∷ Group ∷ Me ∷ Control ∷ TickMs ∷ Lambda ∷ Period ∷ Direct ∷ Suspect ∷ Forget ∷ Helpers
+    ∷ Limit ∷ RandomKey ∷ Join ∷ []
 
 -- how many keys come before it
 abbrev pub place : Key → ℕ

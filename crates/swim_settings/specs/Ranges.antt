@@ -2,6 +2,7 @@
 use Rattle.std.specs.Prelude.{◌<◌, ◌≤◌, ◌^◌}
 use Rattle.swim_member.specs.Checks.{AreSound}
 use Rattle.swim_settings.specs.declared.settings.RunSettings.{RunSettings}
+use Rattle.swim_node.specs.declared.opening.TheConstants.{LIMIT_MAX}
 
 -- each number is in its range
 pub record AreInRange (run : RunSettings) : Type 0 where
@@ -10,4 +11,4 @@ pub record AreInRange (run : RunSettings) : Type 0 where
   pub tick_low : 1 ≤ run.tick_ms
   pub tick_high : run.tick_ms ≤ 60000
   pub limit_low : 1 ≤ run.limit
-  pub limit_high : run.limit ≤ 65536
+  pub limit_high : run.limit ≤ LIMIT_MAX

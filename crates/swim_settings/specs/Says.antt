@@ -1,18 +1,25 @@
 -- What the table of a settings file says.
-use Rattle.std.specs.Prelude.{◌≡◌, ◌⊎◌, ◌≤◌, ◌-◌, ℕ, ℤ, pos, negsuc, List, [], ◌∷◌, string_bytes, IsUtf8, Option, Some, None, option_and_then, Ok}
+use Rattle.std.specs.Prelude.{◌≡◌, ◌⊎◌, ◌≤◌, ◌-◌, ℕ, ℤ, pos, negsuc, List, [], ◌∷◌, string_bytes}
+use Rattle.std.specs.Prelude.{IsUtf8, Option, Some, None, option_and_then, Ok}
 use Rattle.std.specs.List.{AllByRecursion}
 use Rattle.hex.specs.Hex.{decode_of}
 use Rattle.toml.specs.Parse.{parse_document}
-use Rattle.toml.specs.Data.{Data, Items, no_items, item, Members, get_member, as_str, as_integer, as_array}
+use Rattle.toml.specs.Data.{Data, Items, no_items, item, Members, get_member, as_str, as_integer}
+use Rattle.toml.specs.Data.{as_array}
 use Rattle.swim_wire.specs.Numbers.{IsEndpoint}
 use Rattle.swim_words.specs.Words.{endpoint_text, No}
 use Rattle.swim_settings.specs.declared.key.Key.{Key}
-use Rattle.swim_settings.specs.declared.key.Key.TheVariants.{File, Group, Me, Control, TickMs, Lambda, Period, Direct, Suspect, Forget, Helpers, Limit, RandomKey, Join}
+use Rattle.swim_settings.specs.declared.key.Key.TheVariants.{File, Group, Me, Control, TickMs}
+use Rattle.swim_settings.specs.declared.key.Key.TheVariants.{Lambda, Period, Direct, Suspect}
+use Rattle.swim_settings.specs.declared.key.Key.TheVariants.{Forget, Helpers, Limit, RandomKey}
+use Rattle.swim_settings.specs.declared.key.Key.TheVariants.{Join}
+use Rattle.swim_member.specs.declared.settings.TheConstants.{HELPERS_MAX}
 use Rattle.swim_member.specs.declared.settings.Settings.{Settings}
 use Rattle.swim_settings.specs.declared.refusal.Refusal.{Refusal}
 use Rattle.swim_settings.specs.declared.refusal.Refusal.TheVariants as refusals
 use Rattle.swim_settings.specs.declared.settings.RunSettings.{RunSettings}
 use Rattle.swim_settings.specs.Keys.{key_text, before}
+use Rattle.swim_node.specs.declared.opening.TheConstants.{LIMIT_MAX}
 
 -- what stands at the key
 abbrev pub value_at : Key → Members → Option Data
@@ -33,11 +40,13 @@ number_at key table = option_and_then natural_of (option_and_then as_integer (va
 
 -- the number there, or the default where the table hasn't the key
 abbrev pub IsNumber : Key → ℕ → Members → ℕ → Type 0
-IsNumber key default table n = (number_at key table ≡ Some n) ⊎ ((value_at key table ≡ None) × (n ≡ default))
+IsNumber key default table n =
+    (number_at key table ≡ Some n) ⊎ ((value_at key table ≡ None) × (n ≡ default))
 
 -- what the hex digits there spell; nothing where the table hasn't the key
 abbrev pub AreBytes : Key → Members → Option (List ℕ) → Type 0
-AreBytes key table (Some bytes) = (text : List ℕ) × (text_at key table ≡ Some text) × (decode_of text ≡ Ok bytes)
+AreBytes key table (Some bytes) =
+    (text : List ℕ) × (text_at key table ≡ Some text) × (decode_of text ≡ Ok bytes)
 AreBytes key table None = value_at key table ≡ None
 
 -- the items are the texts of these endpoints, in this order
@@ -49,7 +58,9 @@ AreTexts _ _ = ⊥
 -- the endpoints there; none where the table hasn't the key
 abbrev pub AreEndpoints : Key → Members → List ℕ → Type 0
 AreEndpoints key table es =
-    ((items : Items) × (option_and_then as_array (value_at key table) ≡ Some items) × AreTexts items es)
+    ((items : Items)
+    × (option_and_then as_array (value_at key table) ≡ Some items)
+    × AreTexts items es)
     ⊎ ((value_at key table ≡ None) × (es ≡ []))
 
 -- the table says these settings of the member, its group and endpoint aside
@@ -90,11 +101,12 @@ IsRefused Control table = No (IsEndpointAt Control table)
 IsRefused TickMs table = No (IsWithin TickMs 100 1 60000 table)
 IsRefused Lambda table = No (IsWithin Lambda 3 1 16 table)
 IsRefused Period table = No (IsWithin Period 10 2 1000 table)
-IsRefused Direct table = (period : ℕ) × IsNumber Period 10 table period × No (IsWithin Direct 3 1 (period - 1) table)
+IsRefused Direct table =
+    (period : ℕ) × IsNumber Period 10 table period × No (IsWithin Direct 3 1 (period - 1) table)
 IsRefused Suspect table = No (IsWithin Suspect 50 1 100000 table)
 IsRefused Forget table = No (IsWithin Forget 6000 1 1000000 table)
-IsRefused Helpers table = No (IsWithin Helpers 3 0 8 table)
-IsRefused Limit table = No (IsWithin Limit 4096 1 65536 table)
+IsRefused Helpers table = No (IsWithin Helpers 3 0 HELPERS_MAX table)
+IsRefused Limit table = No (IsWithin Limit 4096 1 LIMIT_MAX table)
 IsRefused _ table = Unit
 
 -- the refusal is of the text, which is no TOML, or memory ran out
@@ -112,11 +124,12 @@ IsTaken Control table = (e : ℕ) × (text_at Control table ≡ Some (endpoint_t
 IsTaken TickMs table = (n : ℕ) × IsWithin TickMs 100 1 60000 table n
 IsTaken Lambda table = (n : ℕ) × IsWithin Lambda 3 1 16 table n
 IsTaken Period table = (n : ℕ) × IsWithin Period 10 2 1000 table n
-IsTaken Direct table = (period n : ℕ) × IsNumber Period 10 table period × IsWithin Direct 3 1 (period - 1) table n
+IsTaken Direct table =
+    (period n : ℕ) × IsNumber Period 10 table period × IsWithin Direct 3 1 (period - 1) table n
 IsTaken Suspect table = (n : ℕ) × IsWithin Suspect 50 1 100000 table n
 IsTaken Forget table = (n : ℕ) × IsWithin Forget 6000 1 1000000 table n
-IsTaken Helpers table = (n : ℕ) × IsWithin Helpers 3 0 8 table n
-IsTaken Limit table = (n : ℕ) × IsWithin Limit 4096 1 65536 table n
+IsTaken Helpers table = (n : ℕ) × IsWithin Helpers 3 0 HELPERS_MAX table n
+IsTaken Limit table = (n : ℕ) × IsWithin Limit 4096 1 LIMIT_MAX table n
 IsTaken _ table = Unit
 
 -- all keys before the key have what they take
@@ -139,8 +152,10 @@ IsOfUnknown refusals.Memory = Unit
 IsOfUnknown (refusals.Unknown key) = Unit
 IsOfUnknown _ = ⊥
 
--- the text is refused with reason: it is no TOML, or its table has a value that its key does not take
+-- the text is refused with reason: it is no TOML, or
+-- its table has a value that its key does not take
 abbrev pub IsReason : List ℕ → Refusal → Type 0
 IsReason text refusals.Toml = IsUtf8 text → parse_document text ≡ None
-IsReason text (refusals.Key key) = (table : Members) × (parse_document text ≡ Some table) × IsFirst key table
+IsReason text (refusals.Key key) =
+    (table : Members) × (parse_document text ≡ Some table) × IsFirst key table
 IsReason text _ = Unit

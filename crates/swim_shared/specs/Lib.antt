@@ -1,9 +1,8 @@
-pub mod Names
 pub mod Passes
 pub mod Odd
-pub mod Rules
 pub mod Published
 pub mod Taken
 pub mod Outboxes
 pub mod Parts
 pub mod Locked
+pub mod Machinery

@@ -2,7 +2,7 @@
 
 ghost use Rattle.std.specs.Prelude.{◌≡◌, ◌<◌, ◌≤◌, ◌^◌, ◌++◌, ◌∷◌, [], length, IfSome};
 ghost use mathlib.Core.List.{IsPrefix};
-ghost use Rattle.swim_shared.specs.Rules.{head_of, MayAdd};
+ghost use Rattle.swim_shared.specs.Machinery.Rules.{head_of, MayAdd};
 
 use crate::law::{Add, Claim, Law, Nothing};
 use logbook::{Offer, Pen, Seen, Start, Word};
@@ -16,7 +16,9 @@ pub struct Opened {
     pub head: Word<Entry, u64, Law>,
     /// All of it: nothing.
     pub front: Front,
+    /// The history has no entry.
     pub ghost empty: { front.entries ≡ [] },
+    /// The shared word is that of this history.
     pub ghost head_is: { head ≡ head_of front.book },
 }
 

@@ -4,7 +4,7 @@ ghost use Rattle.std.specs.Prelude.{◌≡◌, ◌↔◌, ◌+◌, ◌<◌, ◌�
 ghost use Rattle.std.specs.Prelude.{length, false, IfOk, IfErr, IfSome, IsTrue, OnOk};
 ghost use Rattle.swim_node.specs.History.{IsLegal};
 ghost use Rattle.swim_shared.specs.Taken.{taken_of};
-ghost use Rattle.swim_shared.specs.Rules.{head_of, MayAdd};
+ghost use Rattle.swim_shared.specs.Machinery.Rules.{head_of, MayAdd};
 ghost use Rattle.swim_shared.specs.Published.{KnowsOf};
 ghost use Rattle.swim_shared.specs.Passes.{sight, Called, FullFor, Unseen, Added, Ahead};
 ghost use Rattle.swim_shared.specs.Locked.{GrowsByOne, Enters};
@@ -40,7 +40,7 @@ pub(crate) struct Locked<N: Name, D: Disk, L: Link, R: Wait + Drop> {
 impl<N: Name, D: Disk, L: Link, R: Wait + Drop> Model for Locked<N, D, L, R> {
     ghost use Rattle.std.specs.Prelude.{◌≡◌, ◌++◌, IfSome};
     ghost use Rattle.swim_shared.specs.Taken.{taken_of};
-    ghost use Rattle.swim_shared.specs.Rules.{head_of, MayAdd};
+    ghost use Rattle.swim_shared.specs.Machinery.Rules.{head_of, MayAdd};
     ghost use Rattle.swim_shared.specs.Locked.{LockedView};
 
     ghost Value = { LockedView };

@@ -52,7 +52,7 @@ impl Sender {
         ensures handed { Handed L.tells L.took L.failures self.old.got self.new.got
             link.old link.new }
         ensures all { length self.new.got ≡ length self.old.got + result.taken + result.lost }
-        ensures few { result.taken + result.lost ≤ 16 }
+        ensures few { result.taken + result.lost ≤ TURN_MAX }
         ensures lost { L.failures link.new ≡ L.failures link.old + result.lost }
         ensures owed { self.new.owed ≡ min (self.old.owed + result.lost) (2 ^ 32 - 1) }
     {

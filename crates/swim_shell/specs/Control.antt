@@ -13,6 +13,7 @@ use Rattle.swim_member.specs.declared.note.Note.TheVariants as note
 use Rattle.swim_node.specs.declared.entry.Entry.{Entry}
 use Rattle.swim_node.specs.declared.entry.Reply.{Reply}
 use Rattle.swim_shared.specs.Passes.{PassView}
+use Rattle.swim_shell.specs.declared.lines.TheConstants.{LINE_MAX}
 use Rattle.swim_shell.specs.declared.worker.Turn.{Turn}
 use Rattle.swim_shell.specs.declared.calling.Refusal.{Refusal}
 use Rattle.swim_shell.specs.declared.calling.Refusal.TheVariants as refusal
@@ -27,8 +28,8 @@ use Rattle.swim_shell.specs.Gates.{Went, Halted}
 
 -- how the bytes before an end of line are kept
 abbrev pub IsLine : List ℕ → Line → Type 0
-IsLine text (Text v) = (length text ≤ 64) × (v.items ≡ text)
-IsLine text Long = 64 < length text
+IsLine text (Text v) = (length text ≤ LINE_MAX) × (v.items ≡ text)
+IsLine text Long = LINE_MAX < length text
 
 -- the text is none of the lines
 pub record IsUnknown (text : List ℕ) : Type 0 where
@@ -45,6 +46,7 @@ pub record IsNoAddress (text : List ℕ) : Type 0 where
   pub says : (text ≡ spaced (codes "members") word) ⊎ (text ≡ spaced (codes "join") word)
   pub none : No (SaysEndpoint word)
 
+-- what a line that is not too long asks for
 abbrev pub NamesShort : List ℕ → Asked → Type 0
 NamesShort text asked.Status = text ≡ codes "status"
 NamesShort text (asked.Members after) =
@@ -60,8 +62,8 @@ NamesShort text asked.TooLong = ⊥
 
 -- the line names this
 abbrev pub Names : List ℕ → Asked → Type 0
-Names text asked.TooLong = 64 < length text
-Names text a = (length text ≤ 64) × NamesShort text a
+Names text asked.TooLong = LINE_MAX < length text
+Names text a = (length text ≤ LINE_MAX) × NamesShort text a
 
 -- what a read of one byte tells
 abbrev pub ReadsByte : {E : Type 0} → Option (List ℕ) → Option (List ℕ) → Result (Option ℕ) E
@@ -72,8 +74,8 @@ ReadsByte old new (Err _) = Consumes old new []
 
 -- what is kept of the bytes of a line, and whether they are too many
 abbrev pub Kept : Bool → List ℕ → List ℕ → Type 0
-Kept false text bytes = (length text ≤ 64) × (text ≡ bytes)
-Kept true text bytes = 64 < length bytes
+Kept false text bytes = (length text ≤ LINE_MAX) × (text ≡ bytes)
+Kept true text bytes = LINE_MAX < length bytes
 
 -- a line so far
 pub record Reading (old new : Option (List ℕ)) (text : List ℕ) (long : Bool) : Type 0 where
@@ -95,6 +97,7 @@ pub record CutLine (old new : Option (List ℕ)) : Type 0 where
   pub took : Consumes old new text
   pub lacks : Lacks 10 text
 
+-- one reading of the input: a whole line, or a cut rest at its end
 abbrev pub ReadsLine : Option (List ℕ) → Option (List ℕ) → Option Line → Type 0
 ReadsLine old new (Some line) = WholeLine old new line
 ReadsLine old new None = CutLine old new × IsAtEnd new
@@ -137,8 +140,8 @@ pub record Plain (entries : List Entry) (refused : Option Refusal) (answer text 
   pub unrefused : refused ≡ None
   pub is : answer ≡ text
 
--- a line makes this call, and what is written follows from its reply; or the call was refused, as is
--- written then
+-- a line makes this call, and what is written follows from
+-- its reply; or the call was refused, as is written then
 abbrev pub Calls : Event → (Reply → List ℕ → Type 0) → List Entry → Option Refusal → List ℕ → Type 0
 Calls event Writes [] (Some why) answer = answer ≡ refusal_text why
 Calls event Writes (e ∷ []) None answer = (e.event ≡ event) × Writes e.reply answer
@@ -173,6 +176,7 @@ end_by refusal.Memory = None
 end_by refusal.EraFull = Some ends.EraFull
 end_by refusal.Unread = Some ends.Unread
 
+-- how control ends after a refusal, if it ends
 abbrev pub end_after : Option Refusal → Option ControlEnd
 end_after None = None
 end_after (Some why) = end_by why
@@ -218,15 +222,18 @@ pub record Heard : Type 0 where
   pub refused : Option Refusal
   pub answer : List ℕ
 
+-- a line that was heard: what it asks for, the calls that it made and its answer fit
 pub record IsHeard (h : Heard) : Type 0 where
   pub lacks : Lacks 10 h.text
   pub names : Names h.text h.asked
   pub answers : Answers h.asked h.entries h.refused h.answer
 
+-- each of these lines was heard so
 abbrev pub AreHeard : List Heard → Type 0
 AreHeard [] = Unit {0}
 AreHeard (h ∷ hs) = IsHeard h × AreHeard hs
 
+-- the bytes, answers and calls of the lines that were heard, in order
 abbrev pub bytes_of : List Heard → List ℕ
 bytes_of [] = []
 bytes_of (h ∷ hs) = (h.text ++ 10 ∷ []) ++ bytes_of hs
@@ -239,6 +246,7 @@ abbrev pub entries_of : List Heard → List Entry
 entries_of [] = []
 entries_of (h ∷ hs) = h.entries ++ entries_of hs
 
+-- how control ends after this line, if it ends
 abbrev pub end_at : Heard → Option ControlEnd
 end_at h = end_of h.refused h.asked
 

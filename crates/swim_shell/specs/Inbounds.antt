@@ -4,12 +4,14 @@ use Rattle.std.specs.Prelude.{List, [], ◌∷◌, ◌++◌, length, Option, Som
 use Rattle.swim_member.specs.declared.event.Event.{Event}
 use Rattle.swim_member.specs.declared.event.Event.TheVariants.{Datagram, ReceiveFailed}
 use Rattle.swim_shared.specs.Passes.{PassView}
+use Rattle.swim_shell.specs.declared.receiving.TheConstants.{FAILURES_MAX}
 use Rattle.swim_shell.specs.declared.worker.WorkerEnd.{WorkerEnd}
 use Rattle.swim_shell.specs.declared.worker.WorkerEnd.TheVariants as ends
 use Rattle.swim_shell.specs.declared.worker.Turn.{Turn}
 use Rattle.swim_shell.specs.Calls.{NewCalls}
 use Rattle.swim_shell.specs.Gates.{Went, Guided}
 
+-- what an inbound gave in one turn: a datagram and its sender, nothing, or a failure
 pub data Came : Type 0 where
   Received : (from : ℕ) → (bytes : List ℕ) → Came
   Nothing : Came
@@ -27,10 +29,12 @@ events_at (Received from bytes) = Datagram from (record { items = bytes }) ∷ [
 events_at Nothing = []
 events_at Failed = ReceiveFailed ∷ []
 
+-- the events that these make, in order
 abbrev pub events_for : List Came → List Event
 events_for [] = []
 events_for (c ∷ cs) = events_at c ++ events_for cs
 
+-- how many failures are among these
 abbrev pub failures_at : Came → ℕ
 failures_at Failed = 1
 failures_at _ = 0
@@ -52,7 +56,7 @@ row_of n (c ∷ cs) = row_of (row_after n c) cs
 -- nowhere are there 16 failures in a row, after n of them
 abbrev pub is_calm : ℕ → List Came → Bool
 is_calm n [] = true
-is_calm n (c ∷ cs) = nat_lt (row_after n c) 16 && is_calm (row_after n c) cs
+is_calm n (c ∷ cs) = nat_lt (row_after n c) FAILURES_MAX && is_calm (row_after n c) cs
 
 -- these are the answers of an inbound between two of its states, as far as it tells
 pub record Took (tells : Type 0) (old new : List Came) (f g : ℕ) (came : List Came) : Type 0 where
@@ -80,8 +84,9 @@ pub record Faulty (p q : PassView) (came : List Came) : Type 0 where
   pub came_is : came ≡ before ++ Failed ∷ []
   pub calls : NewCalls p q (events_for came)
   pub calm : is_calm 0 before ≡ true
-  pub row : row_of 0 came ≡ 16
+  pub row : row_of 0 came ≡ FAILURES_MAX
 
+-- what a receiver has done when it ends so
 abbrev pub EndsBy : WorkerEnd → PassView → PassView → List Came → Type 0
 EndsBy ends.Stopped p q came = Served p q came
 EndsBy ends.Fault p q came = Faulty p q came

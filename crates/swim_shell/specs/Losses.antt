@@ -9,6 +9,7 @@ use Rattle.swim_shell.specs.declared.worker.Turn.{Turn}
 use Rattle.swim_shell.specs.Calls.{NewCalls}
 use Rattle.swim_shell.specs.Gates.{Went, Guided}
 
+-- the events that tell these counts of losses
 abbrev pub losses_of : List ℕ → List Event
 losses_of [] = []
 losses_of (c ∷ cs) = SendFailed c ∷ losses_of cs
@@ -18,6 +19,7 @@ abbrev pub told_of : ℕ → List ℕ
 told_of zero = []
 told_of (suc n) = suc n ∷ []
 
+-- how many losses these counts tell in all
 abbrev pub told_in : List ℕ → ℕ
 told_in [] = 0
 told_in (c ∷ cs) = c + told_in cs

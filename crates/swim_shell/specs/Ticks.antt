@@ -15,6 +15,7 @@ abbrev pub Draws : ChaCha → List ℕ → ChaCha → Type 0
 Draws old [] new = new ≡ old
 Draws old (w ∷ ws) new = (w ≡ (next_word 10 old).0) × Draws (next_word 10 old).1 ws new
 
+-- the events Tick with these random words
 abbrev pub ticks_of : List ℕ → List Event
 ticks_of [] = []
 ticks_of (w ∷ ws) = Tick w ∷ ticks_of ws
@@ -26,6 +27,7 @@ pub record LastRefused (p q : PassView) (words : List ℕ) : Type 0 where
   pub words_are : words ≡ before ++ last ∷ []
   pub calls : NewCalls p q (ticks_of before)
 
+-- what a ticker has done when it ends so
 abbrev pub TicksBy : WorkerEnd → PassView → PassView → List ℕ → Type 0
 TicksBy ends.Stopped p q words = NewCalls p q (ticks_of words)
 TicksBy ends.Fault p q words = ⊥

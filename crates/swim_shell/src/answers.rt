@@ -21,7 +21,8 @@ pub(crate) type Answer = ArrayString<ANSWER_MAX>;
 
 /// Adds a text, where it fits.
 pub(crate) fn add_text(answer: &mut Answer, text: &str)
-    ensures { length answer.old.bytes + length text.now ≤ 2048 → answer.new.bytes ≡ answer.old.bytes
+    ensures { length answer.old.bytes + length text.now ≤ ANSWER_MAX
+        → answer.new.bytes ≡ answer.old.bytes
         ++ text.now }
 {
     let _ = answer.try_push_str(text);

@@ -27,7 +27,8 @@ fn tick_one<N: Name, D: Disk, L: Link, R: Wait + Drop, W: Wait + Log + Clock>(
     notes: &mut NoteLog,
     rng: &mut ChaCha20Rng,
 ) -> Result<(), Refusal>
-    ensures ok { IfOk result (λ _. NewCalls pass.old pass.new (Tick (next_word 10 rng.old).0 ∷ [])) }
+    ensures ok { IfOk result (λ _.
+        NewCalls pass.old pass.new (Tick (next_word 10 rng.old).0 ∷ [])) }
     ensures err { IfErr result (λ _. NewCalls pass.old pass.new []) }
     ensures rng { rng.new ≡ (next_word 10 rng.old).1 }
 {

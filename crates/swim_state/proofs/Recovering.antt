@@ -2,7 +2,7 @@
 use Rattle.std.proofs.Common.{◌≡◌, ◌≢◌, ◌⊎◌, inl, inr, ⊎_elim, ℕ, ◌^◌, ◌<◌, ◌≤◌, max, Bool, true, false, nat_lt, ◌==◌, if◌then◌else◌, List, [], ◌∷◌, length, take, Option, Some, None, refl, sym, ◌∙◌, ap, subst, arith}
 use Rattle.std.proofs.lemmas.Bool.{and_from, and_parts, eqb-true, eq-eqb, ne_eqb, lt-ltb, ltb-true}
 use Rattle.std.proofs.lemmas.List.{take_at}
-use Rattle.swim_state.specs.Layout.{version_1}
+use Rattle.swim_state.specs.Version.{version_1}
 use Rattle.swim_state.specs.File.{mark, owner_bytes, head, reading_at, IsOpen, ceiling_of, floor_of, AreOf, AreUsable, IsSound}
 use Rattle.swim_state.specs.Recovery.{same_bytes, head_fault, slots_fault, first_fault, fault_of}
 use Rattle.swim_state.specs.declared.owner.Owner.{Owner}

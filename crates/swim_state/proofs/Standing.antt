@@ -2,10 +2,11 @@
 use Rattle.std.proofs.Common.{◌&&◌, nat_le, ◌≡◌, ◌≢◌, ◌⊎◌, inl, inr, ⊎_elim, ℕ, ◌+◌, ◌-◌, ◌^◌, ◌<◌, ◌≤◌, Bool, true, false, ◌==◌, if◌then◌else◌, List, [], ◌∷◌, length, take, get_or, slice_index, refl, sym, ◌∙◌, ap, subst, arith}
 use Rattle.std.proofs.lemmas.Bool.{and_from, and_parts, eq-eqb, ne_eqb, le-leb, leb-true}
 use Rattle.swim_disk.specs.Disk.{Torn, overlaid}
-use Rattle.swim_state.specs.Layout.{Layout, Apart, body_of, gate_of, other, part, body, ceiling_in, is_good, saved_in, version_1}
+use Rattle.swim_state.specs.Layout.{Layout, Apart, body_of, gate_of, other, part, body, ceiling_in, is_good, saved_in}
+use Rattle.swim_state.specs.Version.{version_1}
 use Rattle.swim_state.specs.File.{head, reading, reading_at, IsOpen, ceiling_of, IsSound, floor}
 use Rattle.swim_state.specs.Held.{Covers}
-use Rattle.swim_state.specs.Saving.{Stands}
+use Rattle.swim_state.specs.Machinery.Saving.{Stands}
 use Rattle.swim_state.specs.declared.owner.Owner.{Owner}
 use Rattle.swim_state.specs.declared.layout.Saved.{Saved}
 use Rattle.swim_state.specs.declared.layout.Slot.{Slot}
@@ -14,7 +15,7 @@ use Rattle.swim_state.specs.declared.layout.Reading.TheVariants.{Shut, Holds, Da
 use Rattle.byteorder.specs.Endian.{big_number, big_bytes}
 use Rattle.byteorder.specs.Numbers.{big_number-reads_back}
 use Rattle.std.proofs.lemmas.List.{get_or_past, take-take}
-use Rattle.swim_disk.specs.Torn.{overlaid_torn}
+use Rattle.swim_disk.specs.Machinery.Torn.{overlaid_torn}
 use Rattle.swim_state.proofs.Torn.{part_kept, index-part, overlaid_part}
 
 pub byte_kept : (at n : ℕ) (old new : List ℕ) (p : ℕ) → Torn at n old new → p < length old → Apart at n p 1 → slice_index new p ≡ slice_index old p

@@ -1,9 +1,10 @@
 -- How steps of a save follow one another.
 use Rattle.std.proofs.Common.{◌≡◌, ℕ, true, List, ◌∷◌, [], length, Result, Ok, Err, OnOk, subst, sym}
 use Rattle.swim_disk.specs.Disk.{State, Torn, overlaid}
-use Rattle.swim_state.specs.Layout.{Layout, body_of, body, part, version_1}
+use Rattle.swim_state.specs.Layout.{Layout, body_of, body, part}
+use Rattle.swim_state.specs.Version.{version_1}
 use Rattle.swim_state.specs.File.{reading_at}
-use Rattle.swim_state.specs.Saving.{Stands, Step, Put}
+use Rattle.swim_state.specs.Machinery.Saving.{Stands, Step, Put}
 use Rattle.swim_state.specs.declared.layout.Saved.{Saved}
 use Rattle.swim_state.specs.declared.layout.Slot.{Slot}
 use Rattle.swim_state.specs.declared.layout.Reading.TheVariants.{Shut}

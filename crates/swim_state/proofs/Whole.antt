@@ -1,10 +1,11 @@
 -- A whole save, from its three steps.
 use Rattle.std.proofs.Common.{◌≡◌, ◌≢◌, inl, inr, ℕ, ◌^◌, ◌<◌, ◌≤◌, true, List, take, Ok, Err, refl, subst, sym, ◌∙◌, ap, arith}
 use Rattle.swim_disk.specs.Disk.{State, IsSettled}
-use Rattle.swim_state.specs.Layout.{other, body_of, part, is_good, version_1}
+use Rattle.swim_state.specs.Layout.{other, body_of, part, is_good}
+use Rattle.swim_state.specs.Version.{version_1}
 use Rattle.swim_state.specs.File.{head, reading_at, reading_in, floor, floor_of, ceiling_of, IsOpen, IsSound, AreUsable, AreOf}
 use Rattle.swim_state.specs.Held.{Through}
-use Rattle.swim_state.specs.Saving.{Stands, Saves}
+use Rattle.swim_state.specs.Machinery.Saving.{Stands, Saves}
 use Rattle.swim_state.specs.declared.owner.Owner.{Owner}
 use Rattle.swim_state.specs.declared.layout.Saved.{Saved}
 use Rattle.swim_state.specs.declared.layout.Slot.{Slot}

@@ -1,3 +1,5 @@
+//! The making of a state file.
+
 ghost use Rattle.std.specs.Prelude.{◌≡◌, ◌⊎◌, ◌↔◌, ◌+◌, ◌<◌, ◌≤◌, ◌^◌, ◌∷◌, [], ℕ, List, length, OnOk, IsErrOf};
 ghost use Rattle.swim_disk.specs.Disk.{Counts, IsSettled, Rests, overlaid};
 ghost use Rattle.swim_state.specs.File.{floor, head, IsSound};
@@ -37,7 +39,7 @@ fn shut_last<D: Disk>(disk: &mut D) -> Result<(), DiskFault>
 
 /// Writes a file with this ceiling in slot A.
 fn fill_new<D: Disk>(disk: &mut D, owner: Owner, saved: Saved) -> Result<(), DiskFault>
-    requires { saved.ceiling ≤ 2 ^ 62 }
+    requires { saved.ceiling ≤ NUMBER_MAX }
     ensures counts { Counts result (D.state disk.old) (D.state disk.new) }
     ensures made { D.keeps_model → (D.state disk.old).content ≡ [] → OnOk result
         ((c : List ℕ) → (D.state disk.new).images c → IsSound owner c × (floor c ≡ saved.ceiling)) }
@@ -64,15 +66,15 @@ pub fn init<D: Disk>(disk: &mut D, owner: Owner, ceiling: u64) -> Result<(), Ini
         → (D.state disk.new).failures ≡ (D.state disk.old).failures }
 
     // A ceiling out of range is refused first, and nothing is touched.
-    ensures range { IsErrOf result InitFault.Range ↔ (2 ^ 62 < ceiling) }
-    ensures untouched { 2 ^ 62 < ceiling → disk.new ≡ disk.old }
+    ensures range { IsErrOf result InitFault.Range ↔ (NUMBER_MAX < ceiling) }
+    ensures untouched { NUMBER_MAX < ceiling → disk.new ≡ disk.old }
 
     // A disk that isn't empty is refused, and nothing is written.
     ensures empty { D.keeps_model → IsErrOf result InitFault.NotEmpty
         → 0 < length (D.state disk.old).content }
-    ensures full { D.keeps_model → 0 < length (D.state disk.old).content → ceiling ≤ 2 ^ 62
+    ensures full { D.keeps_model → 0 < length (D.state disk.old).content → ceiling ≤ NUMBER_MAX
         → IsErrOf result InitFault.NotEmpty ⊎ IsErrOf result InitFault.Device }
-    ensures kept { D.keeps_model → 0 < length (D.state disk.old).content → ceiling ≤ 2 ^ 62
+    ensures kept { D.keeps_model → 0 < length (D.state disk.old).content → ceiling ≤ NUMBER_MAX
         → Rests (D.state disk.old) (D.state disk.new) }
 
     // Once it is made, a crash leaves a sound file with this floor.

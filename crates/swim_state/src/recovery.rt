@@ -1,3 +1,5 @@
+//! The opening of a state file: what is read, how it is judged, and the first number above it.
+
 ghost use Rattle.std.specs.Prelude.{◌≡◌, ◌≢◌, ◌⊎◌, ◌<◌, ◌≤◌, ◌^◌, ◌+◌, length, take, false, Some, None, IfOk, IfErr, OnOk, OnErr, IsErrOf, ℕ};
 ghost use Rattle.swim_disk.specs.Disk.{Counts, IsSettled, Rests};
 ghost use Rattle.swim_state.specs.File.{floor, floor_of, head, AreOf, AreUsable, IsSound};
@@ -57,9 +59,9 @@ fn judge_head(found: &[u8; HEAD_SIZE], owner: Owner) -> Result<(), RecoverFault>
 
 /// Judges what the slots say.
 fn judge_slots(slots: Slots) -> Result<(), RecoverFault>
-    requires { floor_of slots ≤ 2 ^ 62 }
+    requires { floor_of slots ≤ NUMBER_MAX }
     ensures usable { OnOk result (AreUsable slots) }
-    ensures room { OnOk result (floor_of slots < 2 ^ 62) }
+    ensures room { OnOk result (floor_of slots < NUMBER_MAX) }
     ensures none { OnOk result (slots_fault slots.a slots.b ≡ None) }
     ensures fault { IfErr result (λ f. slots_fault slots.a slots.b ≡ Some f) }
     ensures no_device { IsErrOf result RecoverFault.Device → ⊥ }
@@ -89,7 +91,7 @@ fn judge<D: Disk>(disk: &mut D, owner: Owner) -> Result<Slots, RecoverFault>
     ensures fault { D.keeps_model → 16385 ≤ length (D.state disk.old).content
         → IfErr result (λ f. f ≢ Device → fault_of owner (D.state disk.old).content ≡ Some f) }
     ensures usable { IfOk result (λ s. AreUsable s) }
-    ensures room { IfOk result (λ s. floor_of s < 2 ^ 62) }
+    ensures room { IfOk result (λ s. floor_of s < NUMBER_MAX) }
     ensures device { IsErrOf result RecoverFault.Device
         → (D.state disk.new).failures ≡ (D.state disk.old).failures + 1 }
     ensures calm { (IsErrOf result RecoverFault.Device → ⊥)
@@ -116,7 +118,7 @@ fn look<D: Disk>(disk: &mut D, owner: Owner) -> Result<Slots, RecoverFault>
     ensures fault { D.keeps_model
         → IfErr result (λ f. f ≢ Device → fault_of owner (D.state disk.old).content ≡ Some f) }
     ensures usable { IfOk result (λ s. AreUsable s) }
-    ensures room { IfOk result (λ s. floor_of s < 2 ^ 62) }
+    ensures room { IfOk result (λ s. floor_of s < NUMBER_MAX) }
     ensures device { IsErrOf result RecoverFault.Device
         → (D.state disk.new).failures ≡ (D.state disk.old).failures + 1 }
     ensures calm { (IsErrOf result RecoverFault.Device → ⊥)
@@ -135,7 +137,7 @@ fn first_save<D: Disk>(
     slots: Slots,
 ) -> Result<Store<D>, (D, RecoverFault)>
     requires usable { AreUsable slots }
-    requires room { floor_of slots < 2 ^ 62 }
+    requires room { floor_of slots < NUMBER_MAX }
     requires settled { D.keeps_model → IsSettled (D.state disk) }
     requires same { D.keeps_model → AreOf (D.state disk).content slots }
     requires sound { D.keeps_model → IsSound owner (D.state disk).content }
@@ -166,7 +168,7 @@ pub fn recover<D: Disk>(mut disk: D, owner: Owner) -> Result<Store<D>, (D, Recov
     ensures name { (D.state (disk_in result)).name ≡ (D.state disk).name }
     ensures owner { IfOk result (λ s. s.owner ≡ owner) }
     ensures whole { IfOk result (λ s. s.broken ≡ false) }
-    ensures bounds { IfOk result (λ s. (1 ≤ s.ceiling) × (s.ceiling ≤ 2 ^ 62)) }
+    ensures bounds { IfOk result (λ s. (1 ≤ s.ceiling) × (s.ceiling ≤ NUMBER_MAX)) }
 
     // One call of the disk failed if the answer is Device, and none if it is any other, which comes
     // after all reads.
@@ -179,7 +181,8 @@ pub fn recover<D: Disk>(mut disk: D, owner: Owner) -> Result<Store<D>, (D, Recov
     ensures opened { IfOk result (λ s. (D.state s.disk).failures ≡ (D.state disk).failures) }
 
     // Where the disk keeps the model: the first number is the next one of the content.
-    ensures first { D.keeps_model → IfOk result (λ s. s.ceiling ≡ floor (D.state disk).content + 1) }
+    ensures first { D.keeps_model
+        → IfOk result (λ s. s.ceiling ≡ floor (D.state disk).content + 1) }
     ensures covered { D.keeps_model → IfOk result (λ s. Held owner (D.state s.disk) s.ceiling) }
 
     // No moment of the call leaves less than what was held before it.

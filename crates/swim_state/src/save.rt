@@ -1,11 +1,15 @@
+//! The three steps of a save: a gate is shut, its body is written, and the gate is opened.
+
 ghost use Rattle.std.specs.Prelude.{◌≡◌, ◌<◌, ◌≤◌, ◌^◌, ◌+◌, ℕ, List, true, false, OnErr, IfOk};
 ghost use Rattle.swim_disk.specs.Disk.{Counts, IsSettled};
 ghost use Rattle.swim_state.specs.File.{reading_at, floor_of, AreUsable, AreOf, IsSound};
-ghost use Rattle.swim_state.specs.Layout.{body, body_of, is_good, part, version_1};
-ghost use Rattle.swim_state.specs.Saving.{Put, Stands, Step, Saves};
+ghost use Rattle.swim_state.specs.Layout.{body, body_of, is_good, part};
+ghost use Rattle.swim_state.specs.Version.{version_1};
+ghost use Rattle.swim_state.specs.Machinery.Saving.{Put, Stands, Step, Saves};
 ghost use Rattle.swim_state.specs.declared.owner.Owner.{Owner};
 ghost use Rattle.swim_state.specs.declared.layout.Saved.{Saved};
 ghost use Rattle.swim_state.specs.declared.layout.Reading.TheVariants.{Shut, Holds};
+ghost use Rattle.swim_wire.specs.declared.update.TheConstants.{NUMBER_MAX};
 
 use crate::layout::{BODY_SIZE, OPEN, Saved, Slot};
 use crate::slots::Slots;
@@ -26,7 +30,7 @@ pub(crate) fn put<D: Disk>(disk: &mut D, at: u64, bytes: &[u8]) -> Result<(), Di
 pub(crate) fn save<D: Disk>(disk: &mut D, slots: Slots, saved: Saved) -> Result<Slots, DiskFault>
     requires usable { AreUsable slots }
     requires above { floor_of slots < saved.ceiling }
-    requires bounded { saved.ceiling ≤ 2 ^ 62 }
+    requires bounded { saved.ceiling ≤ NUMBER_MAX }
     requires settled { D.keeps_model → IsSettled (D.state disk.old) }
     requires same { D.keeps_model → AreOf (D.state disk.old).content slots }
     requires sound { D.keeps_model → (owner : Owner) × IsSound owner (D.state disk.old).content }
@@ -94,7 +98,7 @@ pub(crate) fn fill<D: Disk>(disk: &mut D, slot: Slot, saved: Saved) -> Result<()
 
 /// Opens the gate over a good body.
 pub(crate) fn open<D: Disk>(disk: &mut D, slot: Slot, saved: Saved) -> Result<(), DiskFault>
-    requires bounded { saved.ceiling ≤ 2 ^ 62 }
+    requires bounded { saved.ceiling ≤ NUMBER_MAX }
     requires settled { D.keeps_model → IsSettled (D.state disk.old) }
     requires filled { D.keeps_model
         → part (D.state disk.old).content (body_of slot) 16 ≡ body saved }

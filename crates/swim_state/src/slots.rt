@@ -1,3 +1,5 @@
+//! What both slots say, and which of them the next save writes.
+
 ghost use Rattle.std.specs.Prelude.{◌≡◌, ◌≢◌, ◌+◌, ◌<◌, ◌≤◌, ◌^◌, ◌⊎◌, IfOk, OnOk, OnErr, ℕ};
 ghost use Rattle.swim_disk.specs.Disk.{Rests, Counts};
 
@@ -9,18 +11,20 @@ use swim_wire::NUMBER_MAX;
 /// What both slots say.
 #[derive(Clone, Copy, Debug, PartialEq, Eq)]
 pub struct Slots {
+    /// What slot A holds.
     pub a: Reading,
+    /// What slot B holds.
     pub b: Reading,
 }
 
 impl Reading {
     ghost use Rattle.swim_state.specs.File.{reading, ceiling_of};
-    ghost use Rattle.swim_state.specs.Layout.{version_1};
+    ghost use Rattle.swim_state.specs.Version.{version_1};
 
     /// What a gate byte and a body say.
     pub(crate) fn of(gate: u8, body: &[u8; BODY_SIZE]) -> Reading
         ensures reading { result ≡ reading version_1 gate body.now }
-        ensures bounded { ceiling_of result ≤ 2 ^ 62 }
+        ensures bounded { ceiling_of result ≤ NUMBER_MAX }
     {
         if gate != OPEN {
             return Reading::Shut;
@@ -85,7 +89,7 @@ impl Slots {
 
     /// Whether a gate is open and no slot is damaged.
     pub(crate) fn is_usable(self) -> bool
-        requires { floor_of self ≤ 2 ^ 62 }
+        requires { floor_of self ≤ NUMBER_MAX }
         ensures { (result ≡ true) ↔ AreUsable self }
     {
         match (self.a, self.b) {
@@ -110,7 +114,8 @@ impl Slots {
 }
 
 ghost use Rattle.swim_state.specs.File.{reading_at, ceiling_of, floor_of, AreOf};
-ghost use Rattle.swim_state.specs.Layout.{is_good, version_1};
+ghost use Rattle.swim_state.specs.Layout.{is_good};
+ghost use Rattle.swim_state.specs.Version.{version_1};
 
 /// Whether the complement agrees with a ceiling that may stand.
 fn is_good(body: &[u8; BODY_SIZE]) -> bool
@@ -151,7 +156,7 @@ pub(crate) fn read_slot<D: Disk>(disk: &mut D, slot: Slot) -> Result<Reading, Di
     ensures rests { D.keeps_model → Rests (D.state disk.old) (D.state disk.new) }
     ensures reading { D.keeps_model
         → IfOk result (λ r. r ≡ reading_at version_1 (D.state disk.old).content slot) }
-    ensures bounded { IfOk result (λ r. ceiling_of r ≤ 2 ^ 62) }
+    ensures bounded { IfOk result (λ r. ceiling_of r ≤ NUMBER_MAX) }
 {
     let mut gate = [0; 1];
     disk.read_at(slot.gate(), &mut gate)?;
@@ -166,7 +171,7 @@ pub(crate) fn read_slots<D: Disk>(disk: &mut D) -> Result<Slots, DiskFault>
     ensures asked { OnOk result ((D.state disk.new).calls ≡ (D.state disk.old).calls + 4) }
     ensures rests { D.keeps_model → Rests (D.state disk.old) (D.state disk.new) }
     ensures same { D.keeps_model → IfOk result (λ s. AreOf (D.state disk.old).content s) }
-    ensures bounded { IfOk result (λ s. floor_of s ≤ 2 ^ 62) }
+    ensures bounded { IfOk result (λ s. floor_of s ≤ NUMBER_MAX) }
 {
     let a = read_slot(disk, Slot::A)?;
     let b = read_slot(disk, Slot::B)?;

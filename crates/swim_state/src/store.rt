@@ -1,9 +1,12 @@
+//! An open state file, whose ceiling is raised by a save.
+
 ghost use Rattle.std.specs.Prelude.{◌≡◌, ◌+◌, ◌<◌, ◌≤◌, ◌^◌, ◌⊎◌, true, false, IfOk, OnOk, OnErr, IsErrOf, ℕ};
 ghost use Rattle.swim_disk.specs.Disk.{Counts, IsSettled, Rests, State};
 ghost use Rattle.swim_state.specs.File.{floor, floor_of, AreOf, AreUsable};
 ghost use Rattle.swim_state.specs.Held.{Covers, Through, Held, HeldSince};
 ghost use Rattle.swim_state.specs.Store.{IsStore};
 ghost use Rattle.swim_state.specs.declared.owner.Owner.{Owner};
+ghost use Rattle.swim_wire.specs.declared.update.TheConstants.{NUMBER_MAX};
 
 use crate::fault::SaveFault;
 use crate::layout::Saved;
@@ -28,9 +31,15 @@ impl<D: Disk> Model for Store<D> {
 
     ghost Value = { StoreView D };
 
-    ghost view = { λ s. record { disk = s.disk; owner = s.owner; ceiling = s.ceiling; broken = s.broken } };
+    ghost view = { λ s. record {
+      disk = s.disk;
+      owner = s.owner;
+      ceiling = s.ceiling;
+      broken = s.broken;
+    } };
 
-    ghost invariant = { λ s. IsStore D.keeps_model (D.state s.disk) s.owner s.ceiling s.slots s.broken };
+    ghost invariant = { λ s.
+        IsStore D.keeps_model (D.state s.disk) s.owner s.ceiling s.slots s.broken };
 }
 
 impl<D: Disk> Store<D> {
@@ -53,7 +62,7 @@ impl<D: Disk> Store<D> {
     /// The greatest number that its owner may use. A crash now leaves a floor of at least this.
     pub fn ceiling(&self) -> u64
         ensures value { result ≡ self.now.ceiling }
-        ensures bounds { (1 ≤ result) × (result ≤ 2 ^ 62) }
+        ensures bounds { (1 ≤ result) × (result ≤ NUMBER_MAX) }
         ensures covered { D.keeps_model → Held self.now.owner (D.state self.now.disk) result }
     {
         self.ceiling
@@ -92,7 +101,7 @@ impl<D: Disk> Store<D> {
     /// floor that it read, which isn't below it.
     pub fn raise(&mut self, to: u64) -> Result<(), SaveFault>
         requires above { self.old.ceiling < to }
-        requires bounded { to ≤ 2 ^ 62 }
+        requires bounded { to ≤ NUMBER_MAX }
 
         // On any disk.
         ensures owner { self.new.owner ≡ self.old.owner }
@@ -107,7 +116,7 @@ impl<D: Disk> Store<D> {
 
         // The ceiling. A store that isn't broken raises it to the number asked for, or not at all.
         ensures ok { OnOk result
-            (to ≤ self.new.ceiling × self.new.ceiling ≤ 2 ^ 62 × self.new.broken ≡ false) }
+            (to ≤ self.new.ceiling × self.new.ceiling ≤ NUMBER_MAX × self.new.broken ≡ false) }
         ensures err { OnErr result
             (self.old.ceiling ≤ self.new.ceiling × self.new.ceiling < to × self.new.broken ≡ true) }
 
@@ -142,7 +151,7 @@ impl<D: Disk> Store<D> {
     fn raise_whole(&mut self, to: u64) -> Result<(), SaveFault>
         requires whole { self.old.broken ≡ false }
         requires above { self.old.ceiling < to }
-        requires bounded { to ≤ 2 ^ 62 }
+        requires bounded { to ≤ NUMBER_MAX }
         ensures owner { self.new.owner ≡ self.old.owner }
         ensures counts { Counts result (D.state self.old.disk) (D.state self.new.disk) }
         ensures device { IsErrOf result SaveFault.Changed → ⊥ }
@@ -164,7 +173,7 @@ impl<D: Disk> Store<D> {
     fn raise_broken(&mut self, to: u64) -> Result<(), SaveFault>
         requires broken { self.old.broken ≡ true }
         requires above { self.old.ceiling < to }
-        requires bounded { to ≤ 2 ^ 62 }
+        requires bounded { to ≤ NUMBER_MAX }
         ensures owner { self.new.owner ≡ self.old.owner }
         ensures name { (D.state self.new.disk).name ≡ (D.state self.old.disk).name }
         ensures device { IsErrOf result SaveFault.Device
@@ -178,7 +187,7 @@ impl<D: Disk> Store<D> {
         ensures covered { D.keeps_model
             → Held self.new.owner (D.state self.new.disk) self.new.ceiling }
         ensures ok { OnOk result
-            (to ≤ self.new.ceiling × self.new.ceiling ≤ 2 ^ 62 × self.new.broken ≡ false) }
+            (to ≤ self.new.ceiling × self.new.ceiling ≤ NUMBER_MAX × self.new.broken ≡ false) }
         ensures err { OnErr result
             (self.old.ceiling ≤ self.new.ceiling × self.new.ceiling < to × self.new.broken ≡ true) }
         ensures raised { D.keeps_model
@@ -208,7 +217,7 @@ pub(crate) fn settle<D: Disk>(disk: &mut D) -> Result<Slots, DiskFault>
     ensures rests { D.keeps_model → Rests (D.state disk.old) (D.state disk.new) }
     ensures settled { D.keeps_model → OnOk result (IsSettled (D.state disk.new)) }
     ensures same { D.keeps_model → IfOk result (λ s. AreOf (D.state disk.old).content s) }
-    ensures bounded { IfOk result (λ s. floor_of s ≤ 2 ^ 62) }
+    ensures bounded { IfOk result (λ s. floor_of s ≤ NUMBER_MAX) }
 {
     disk.sync()?;
     read_slots(disk)

@@ -1,3 +1,5 @@
+//! State files byte by byte, their faults, and every call that may fail or be cut short by a crash.
+
 ghost use Rattle.std.specs.Prelude.{◌≡◌};
 
 use crate::{

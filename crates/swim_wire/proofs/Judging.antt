@@ -15,11 +15,12 @@ use Rattle.swim_wire.specs.declared.fault.WireFault.{WireFault}
 use Rattle.swim_wire.specs.declared.fault.WireFault.TheVariants.{TooShort, TooLong, Magic, Version, Kind, Count, Reserved, Endpoint, UpdateKind, Number}
 use Rattle.swim_wire.specs.Numbers.{number_at}
 use Rattle.swim_wire.specs.Codes.{kind_code, update_code, fault_number}
-use Rattle.swim_wire.specs.Spelling.{magic, number_max}
+use Rattle.swim_wire.specs.Spelling.{magic}
 use Rattle.swim_wire.specs.Faults.{Has, SomeUpdate, HasReservedUpdate, HasNoMember, HasUnknownCode, HasGreatNumber, HasNoSubject, TakesCursor, IsFirstFault, IsFaultless, from_update}
 use Rattle.swim_wire.specs.Reading.{datagram_of}
 use Rattle.swim_wire.specs.Decoding.{some_below, some_update, is_code, is_zero_cursor, has, all_faults, read_as, reading}
 use Rattle.swim_wire.proofs.Order.{fault_number_one, fault_number_lt}
+use Rattle.swim_wire.specs.declared.update.TheConstants.{NUMBER_MAX}
 
 -- ---- each test
 
@@ -101,7 +102,7 @@ judged Endpoint bytes =
     (Decides-eqb (number_at 24 2 bytes) 0)
     (Decides-or ((number_at 30 2 bytes == 0) && not (is_zero_cursor bytes)) (some_update (λ u. number_at 6 2 u == 0) bytes) (no_subject bytes) (no_member bytes))
 judged UpdateKind bytes = of_update (λ u. not (is_code 3 (slice_index u 0))) HasUnknownCode bytes (λ u. is_update_kind (slice_index u 0))
-judged Number bytes = of_update (λ u. nat_lt number_max (number_at 8 8 u)) HasGreatNumber bytes (λ u. Decides-ltb number_max (number_at 8 8 u))
+judged Number bytes = of_update (λ u. nat_lt NUMBER_MAX (number_at 8 8 u)) HasGreatNumber bytes (λ u. Decides-ltb NUMBER_MAX (number_at 8 8 u))
 
 -- ---- the first that holds
 

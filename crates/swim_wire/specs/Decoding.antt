@@ -1,14 +1,21 @@
--- What a text of bytes is read as, as tests that compute. `decode` shows that they agree with the grammar and the sets of texts.
-use Rattle.std.specs.Prelude.{ℕ, zero, suc, ◌+◌, ◌-◌, ◌*◌, ◌/◌, ◌==◌, ◌&&◌, ◌||◌, nat_lt, Bool, false, not, List, [], ◌∷◌, length, take, slice_index, Option, Some, None, Result, Ok, Err}
+-- What a text of bytes is read as, as tests that compute. `decode`
+-- shows that they agree with the grammar and the sets of texts.
+use Rattle.std.specs.Prelude.{ℕ, zero, suc, ◌+◌, ◌-◌, ◌*◌, ◌/◌, ◌==◌, ◌&&◌, ◌||◌, nat_lt, Bool}
+use Rattle.std.specs.Prelude.{false, not, List, [], ◌∷◌, length, take, slice_index, Option, Some}
+use Rattle.std.specs.Prelude.{None, Result, Ok, Err}
 use Rattle.std.specs.List.{find}
 use Rattle.std.specs.Str.{bytes_eq}
+use Rattle.swim_wire.specs.declared.datagram.TheConstants.{DATAGRAM_MAX}
 use Rattle.swim_wire.specs.declared.datagram.Datagram.{Datagram}
 use Rattle.swim_wire.specs.declared.fault.WireFault.{WireFault}
-use Rattle.swim_wire.specs.declared.fault.WireFault.TheVariants.{TooShort, TooLong, Magic, Version, Kind, Count, Reserved, Endpoint, UpdateKind, Number}
+use Rattle.swim_wire.specs.declared.fault.WireFault.TheVariants.{TooShort, TooLong, Magic, Version}
+use Rattle.swim_wire.specs.declared.fault.WireFault.TheVariants.{Kind, Count, Reserved, Endpoint}
+use Rattle.swim_wire.specs.declared.fault.WireFault.TheVariants.{UpdateKind, Number}
 use Rattle.swim_wire.specs.Numbers.{number_at}
-use Rattle.swim_wire.specs.Spelling.{magic, number_max}
+use Rattle.swim_wire.specs.Spelling.{magic}
 use Rattle.swim_wire.specs.Faults.{from_update}
 use Rattle.swim_wire.specs.Reading.{datagram_of}
+use Rattle.swim_wire.specs.declared.update.TheConstants.{NUMBER_MAX}
 
 -- one of the numbers below n passes the test
 abbrev pub some_below : ℕ → (ℕ → Bool) → Bool
@@ -25,31 +32,36 @@ is_code n code = nat_lt 0 code && nat_lt code (n + 1)
 
 -- the subject is the zero cursor of a join or a page
 abbrev pub is_zero_cursor : List ℕ → Bool
-is_zero_cursor bytes = (slice_index bytes 5 == 4 || slice_index bytes 5 == 5) && (number_at 26 4 bytes == 0)
+is_zero_cursor bytes =
+    (slice_index bytes 5 == 4 || slice_index bytes 5 == 5) && (number_at 26 4 bytes == 0)
 
 -- the text has this fault
 abbrev pub has : WireFault → List ℕ → Bool
 has TooShort bytes = nat_lt (length bytes) 32
-has TooLong bytes = nat_lt 512 (length bytes)
+has TooLong bytes = nat_lt DATAGRAM_MAX (length bytes)
 has Magic bytes = not (bytes_eq (take 4 bytes) magic)
 has Version bytes = not (slice_index bytes 4 == 1)
 has Kind bytes = not (is_code 5 (slice_index bytes 5))
 has Count bytes = not (length bytes == 32 + 16 * slice_index bytes 6)
-has Reserved bytes = not (slice_index bytes 7 == 0) || some_update (λ u. not (slice_index u 1 == 0)) bytes
+has Reserved bytes =
+    not (slice_index bytes 7 == 0) || some_update (λ u. not (slice_index u 1 == 0)) bytes
 has Endpoint bytes =
     (number_at 24 2 bytes == 0)
     || (((number_at 30 2 bytes == 0) && not (is_zero_cursor bytes))
     || some_update (λ u. number_at 6 2 u == 0) bytes)
 has UpdateKind bytes = some_update (λ u. not (is_code 3 (slice_index u 0))) bytes
-has Number bytes = some_update (λ u. nat_lt number_max (number_at 8 8 u)) bytes
+has Number bytes = some_update (λ u. nat_lt NUMBER_MAX (number_at 8 8 u)) bytes
 
 -- the faults in their order
 abbrev pub all_faults : List WireFault
-all_faults = TooShort ∷ TooLong ∷ Magic ∷ Version ∷ Kind ∷ Count ∷ Reserved ∷ Endpoint ∷ UpdateKind ∷ Number ∷ []
+all_faults = TooShort ∷ TooLong ∷ Magic ∷ Version ∷ Kind ∷ Count ∷ Reserved ∷ Endpoint ∷ UpdateKind
+    ∷ Number ∷ []
 
+-- the first fault that the bytes have, in the order of the list
 abbrev pub first_fault_of : List ℕ → Option WireFault
 first_fault_of bytes = find (λ fault. has fault bytes) all_faults
 
+-- a fault if there is one, else the datagram
 abbrev pub read_as : Option WireFault → Datagram → Result Datagram WireFault
 read_as (Some fault) d = Err fault
 read_as None d = Ok d

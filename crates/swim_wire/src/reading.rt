@@ -4,7 +4,7 @@ ghost use Rattle.std.specs.Prelude.{◌≡◌, ◌≢◌, ℕ, ◌+◌, ◌*◌,
 ghost use Rattle.byteorder.specs.Endian.{big_number};
 ghost use Rattle.swim_wire.specs.declared.datagram.Datagram.{Datagram as Datagrams};
 ghost use Rattle.swim_wire.specs.declared.fault.WireFault.{WireFault as Faults};
-ghost use Rattle.swim_wire.specs.Spelling.{number_max, Spells};
+ghost use Rattle.swim_wire.specs.Spelling.{Spells};
 ghost use Rattle.swim_wire.specs.Faults.{SomeUpdate, HasReservedUpdate, HasReserved, HasNoSubject, HasNoEndpoint, HasNoMember, HasUnknownCode, HasGreatNumber, HasNoneBelow, IsFirstFault, IsFaultless, IsCounted, from_update};
 ghost use Rattle.swim_wire.specs.Reading.{update_of, updates_of, datagram_of};
 ghost use Rattle.swim_wire.specs.Decoding.{reading};

@@ -62,8 +62,11 @@ pub fn read_within(text: &[u8], least: u64, most: u64) -> Option<u64>
 /// One of the four numbers of an address, and what stands after the byte that ends it, which is no digit.
 fn read_before(text: &[u8], byte: u8) -> Option<(u8, &[u8])>
     requires apart { (byte < 48) ⊎ (57 < byte) }
-    ensures parts { IfSome result (λ parts. (parts.0 < 256) × (text.now ≡ split_by byte (decimal parts.0) parts.1.now)) }
-    ensures none { IfNone result ((number : ℕ) (rest : List ℕ) → number < 256 → text.now ≢ split_by byte (decimal number) rest) }
+    ensures parts { IfSome result (λ parts. (parts.0 < 256)
+        × (text.now ≡ split_by byte (decimal parts.0) parts.1.now)) }
+    ensures none { IfNone result ((number : ℕ) (rest : List ℕ)
+        → number < 256
+        → text.now ≢ split_by byte (decimal number) rest) }
 {
     let (word, rest) = split_at_byte(text, byte)?;
     let number = read_within(word, 0, 255)?;

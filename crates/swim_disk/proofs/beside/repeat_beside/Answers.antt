@@ -1,7 +1,7 @@
 use Rattle.std.proofs.Common.{◌≡◌, ◌∙◌, ◌+◌, ◌∷◌, ◌++◌, [], ap, sym, subst, take, List}
 use Rattle.std.proofs.lemmas.List.{take_more}
 use Rattle.swim_disk.specs.MemDisk.{disk_of}
-use Rattle.swim_disk.specs.Patch.{Patched}
+use Rattle.swim_disk.specs.Machinery.Patch.{Patched}
 use Rattle.swim_disk.specs.Replay.{Disk, replay}
 use Rattle.swim_disk.specs.declared.past.Call.{Call}
 use Rattle.swim_disk.proofs.Recorded.{replay_more}

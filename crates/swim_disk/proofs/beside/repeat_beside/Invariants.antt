@@ -1,7 +1,7 @@
 use Rattle.std.proofs.Common.{◌≡◌, take}
 use Rattle.swim_disk.specs.MemDisk.{disk_of, state_of}
 use Rattle.swim_disk.specs.Part.{KeepsPart}
-use Rattle.swim_disk.specs.Patch.{Patches}
+use Rattle.swim_disk.specs.Machinery.Patch.{Patches}
 use Rattle.swim_disk.specs.Replay.{replay}
 use Rattle.swim_disk.proofs.beside.repeat_beside.Given as goal
 

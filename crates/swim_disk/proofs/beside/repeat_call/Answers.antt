@@ -1,6 +1,6 @@
 use Rattle.std.proofs.Common.{◌∙◌, ap, sym, subst, ℕ, List}
 use Rattle.swim_disk.specs.MemDisk.{disk_of}
-use Rattle.swim_disk.specs.Patch.{Patched, written_beside}
+use Rattle.swim_disk.specs.Machinery.Patch.{Patched, written_beside}
 use Rattle.swim_disk.specs.Replay.{Disk, written}
 use Rattle.swim_disk.proofs.Patched.{on_ok, patched-write}
 use Rattle.swim_disk.proofs.beside.repeat_call.Goals as goal

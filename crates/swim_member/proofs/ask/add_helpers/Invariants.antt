@@ -1,7 +1,7 @@
 use Rattle.std.proofs.Common.{◌≡◌, ◌≤◌, ◌++◌, map, take, drop, length}
 use Rattle.std.specs.List.{filter}
 use Rattle.swim_member.specs.Events.{name}
-use Rattle.swim_member.specs.Steps.{is_helper}
+use Rattle.swim_member.specs.Machinery.Steps.{is_helper}
 use Rattle.swim_member.proofs.ask.add_helpers.Given as goal
 
 -- what is there and what the rows that are left would add give what all add

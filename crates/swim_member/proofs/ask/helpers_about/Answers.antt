@@ -1,7 +1,7 @@
 use Rattle.std.proofs.Common.{ℕ, true, false, ◌++◌, List, map, take, ap, ◌∙◌}
 use Rattle.std.specs.List.{filter}
 use Rattle.swim_member.specs.Events.{name}
-use Rattle.swim_member.specs.Steps.{is_helper}
+use Rattle.swim_member.specs.Machinery.Steps.{is_helper}
 use Rattle.swim_member.proofs.Asking.{helpers-passes}
 use Rattle.swim_member.proofs.ask.helpers_about.Goals as goal
 

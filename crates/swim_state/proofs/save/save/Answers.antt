@@ -1,7 +1,7 @@
 use Rattle.std.proofs.Common.{take, arith}
 use Rattle.std.proofs.lemmas.Bool.{both_ways}
 use Rattle.std.proofs.lemmas.Result.{err_from_is_err_and}
-use Rattle.swim_state.specs.Layout.{version_1}
+use Rattle.swim_state.specs.Version.{version_1}
 use Rattle.swim_state.specs.File.{floor_of}
 use Rattle.swim_state.proofs.Standing.{block_begins}
 use Rattle.swim_state.proofs.Moments.{goes_on}

@@ -1,5 +1,6 @@
 use Rattle.std.proofs.Common.{◌≡◌, ◌∙◌, ◌+◌, ◌-◌, ap, sym, ℕ, List, get_or, take, drop, arith}
-use Rattle.swim_state.specs.Layout.{part, gate_of, body_of, version_1}
+use Rattle.swim_state.specs.Layout.{part, gate_of, body_of}
+use Rattle.swim_state.specs.Version.{version_1}
 use Rattle.swim_state.specs.File.{reading, reading_at}
 use Rattle.swim_state.proofs.Standing.{past_the_end}
 use Rattle.swim_state.proofs.slots.slot_in.Goals as goal

@@ -5,7 +5,7 @@ use Rattle.swim.specs.declared.story.Stage.{Stage}
 use Rattle.swim.specs.declared.story.Stage.TheVariants.{Idle}
 use Rattle.swim.specs.Life.{PlayDisk}
 use Rattle.swim.specs.Play.{Playing, Becomes, IsCrashed}
-use Rattle.swim.specs.Story.{IsStory, disk_in}
+use Rattle.swim.specs.Machinery.Story.{IsStory, disk_in}
 use Rattle.swim.proofs.Openings.{if-disk}
 use Rattle.swim.proofs.Stories.{story-crashed}
 use Rattle.swim.proofs.story.Story.crash.Goals as goal

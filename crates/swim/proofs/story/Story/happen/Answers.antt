@@ -2,7 +2,7 @@ use Rattle.std.proofs.Common.{ap, subst}
 use Rattle.swim.specs.contracts.story.Story.{the_view}
 use Rattle.swim.specs.declared.story.Stage.TheVariants.{Open}
 use Rattle.swim.specs.Play.{Playing}
-use Rattle.swim.specs.Story.{IsAnswered, disk_in, life_in}
+use Rattle.swim.specs.Machinery.Story.{IsAnswered, disk_in, life_in}
 use Rattle.swim.proofs.Openings.{answered-is}
 use Rattle.swim.proofs.story.Story.happen.Goals as goal
 

@@ -4,7 +4,7 @@ use Rattle.swim_disk.specs.MemDisk.{state_of}
 use Rattle.swim_disk.specs.declared.mem.MemDisk.{MemDisk}
 use Rattle.swim.specs.Life.{PlayDisk}
 use Rattle.swim.specs.Play.{Playing}
-use Rattle.swim.specs.Story.{disk_in}
+use Rattle.swim.specs.Machinery.Story.{disk_in}
 use Rattle.swim.proofs.story.Story.image.Goals as goal
 
 pub returns-in-Idle-clause-some : goal.returns-in-Idle-clause-some

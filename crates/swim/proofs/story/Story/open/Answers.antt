@@ -9,7 +9,7 @@ use Rattle.swim.specs.declared.story.Stage.{Stage}
 use Rattle.swim.specs.declared.story.Stage.TheVariants.{Idle, Open}
 use Rattle.swim.specs.Life.{disk_state}
 use Rattle.swim.specs.Play.{Playing, CanOpen, ComesAfterLives, IsRefused, asked_of, opened}
-use Rattle.swim.specs.Story.{IsStory, disk_in}
+use Rattle.swim.specs.Machinery.Story.{IsStory, disk_in}
 use Rattle.swim.proofs.Openings.{after_lives, opening-unsound, opening-begun, opening-refused}
 use Rattle.swim.proofs.Stories.{story-begun, story-begun-apart, story-held, story-refused, story-run}
 use Rattle.swim.proofs.story.Story.open.Goals.{then-self, else-self}

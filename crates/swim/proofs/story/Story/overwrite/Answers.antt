@@ -7,7 +7,7 @@ use Rattle.swim.specs.contracts.story.Story.{the_view}
 use Rattle.swim.specs.declared.story.Stage.TheVariants.{Idle}
 use Rattle.swim.specs.Life.{PlayDisk}
 use Rattle.swim.specs.Play.{Playing, Becomes}
-use Rattle.swim.specs.Story.{disk_in}
+use Rattle.swim.specs.Machinery.Story.{disk_in}
 use Rattle.swim.proofs.Openings.{if-disk}
 use Rattle.swim.proofs.Stories.{story-put}
 use Rattle.swim.proofs.story.Story.overwrite.Goals as goal

@@ -1,7 +1,7 @@
 use Rattle.swim_node.specs.Node.{owner_of}
 use Rattle.std.proofs.Common.{subst}
 use Rattle.swim.specs.declared.story.Stage.{Stage}
-use Rattle.swim.specs.Story.{IsStory}
+use Rattle.swim.specs.Machinery.Story.{IsStory}
 use Rattle.swim.proofs.Stories.{story-rebased}
 use Rattle.swim.proofs.story.Story.rebase.Goals as goal
 

@@ -4,7 +4,7 @@ use Rattle.arrayvec.proofs.ArrayVecLemmas.{filter-from_retain}
 use Rattle.swim_member.specs.contracts.member.Member.{the_view}
 use Rattle.swim_member.specs.declared.state.Relay.{Relay}
 use Rattle.swim_member.specs.State.{Ticked}
-use Rattle.swim_member.specs.Steps.{apply, is_live}
+use Rattle.swim_member.specs.Machinery.Steps.{apply, is_live}
 use Rattle.swim_member.proofs.Keeping.{keep-made}
 use Rattle.swim_member.proofs.Bases.{live-kept}
 use Rattle.swim_member.proofs.member.Member.advance.Goals as goal

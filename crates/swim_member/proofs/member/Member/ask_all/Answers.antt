@@ -5,7 +5,7 @@ use Rattle.swim_rules.specs.Rows.{is_eligible}
 use Rattle.swim_member.specs.declared.answer.Out.{Out}
 use Rattle.swim_member.specs.State.{State}
 use Rattle.swim_member.specs.Events.{name, helpers_about}
-use Rattle.swim_member.specs.Steps.{asking}
+use Rattle.swim_member.specs.Machinery.Steps.{asking}
 use Rattle.swim_member.proofs.Asking.{asks-all-state, asks-all-outs}
 use Rattle.swim_member.proofs.member.Member.ask_all.Goals as goal
 

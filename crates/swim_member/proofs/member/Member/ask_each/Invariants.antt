@@ -1,7 +1,7 @@
 use Rattle.std.proofs.Common.{◌≡◌, ◌+◌, ◌++◌, drop, length, true}
 use Rattle.std.specs.List.{list_all}
 use Rattle.swim_member.specs.Fit.{is_fit}
-use Rattle.swim_member.specs.Steps.{after_asks, outs_of_asks}
+use Rattle.swim_member.specs.Machinery.Steps.{after_asks, outs_of_asks}
 use Rattle.swim_member.proofs.member.Member.ask_each.Given as goal
 
 -- the asks that were made and those that are left give what all give

@@ -4,7 +4,7 @@ use Rattle.swim_gossip.specs.Queue.{Gossip}
 use Rattle.swim_member.specs.contracts.member.Member.{the_view}
 use Rattle.swim_member.specs.State.{State}
 use Rattle.swim_member.specs.Events.{perform, Expire}
-use Rattle.swim_member.specs.Steps.{apply_all}
+use Rattle.swim_member.specs.Machinery.Steps.{apply_all}
 use Rattle.swim_member.proofs.Keeping.{keep-heard, room-heard, expired-accepted, expired-other, expired-low, expired-state}
 use Rattle.swim_member.proofs.member.Member.expire_one.Goals as goal
 

@@ -2,7 +2,7 @@ use Rattle.std.proofs.Common.{ap, sym, ◌∙◌, ◌∷◌}
 use Rattle.swim_member.specs.declared.answer.Answer.{Answer}
 use Rattle.swim_member.specs.State.{State}
 use Rattle.swim_member.specs.Events.{Depart, Bye, each_from}
-use Rattle.swim_member.specs.Steps.{after, outs_by, notes_by}
+use Rattle.swim_member.specs.Machinery.Steps.{after, outs_by, notes_by}
 use Rattle.swim_member.proofs.Ticking.{notes-each, notes-bye}
 use Rattle.swim_member.proofs.Showing.{answer-parts, page-left}
 use Rattle.swim_member.proofs.member.Member.leave.Goals as goal

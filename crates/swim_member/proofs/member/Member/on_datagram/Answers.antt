@@ -4,7 +4,7 @@ use Rattle.swim_wire.specs.declared.fault.WireFault.{WireFault}
 use Rattle.swim_wire.specs.Decoding.{reading}
 use Rattle.swim_member.specs.declared.note.Note.{Note}
 use Rattle.swim_member.specs.Events.{Move, refused, accepted_moves, datagram_moves, moves_of_datagram}
-use Rattle.swim_member.specs.Steps.{answer_by}
+use Rattle.swim_member.specs.Machinery.Steps.{answer_by}
 use Rattle.swim_member.proofs.Showing.{answer-parts, page-received}
 use Rattle.swim_member.proofs.member.Member.on_datagram.Goals as goal
 

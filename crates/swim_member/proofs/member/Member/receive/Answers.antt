@@ -3,7 +3,7 @@ use Rattle.std.specs.Option.{option_to_list}
 use Rattle.swim_wire.specs.declared.update.Update.{Update}
 use Rattle.swim_member.specs.declared.note.Note.{Note}
 use Rattle.swim_member.specs.Events.{Hear, Settle, perform, notes}
-use Rattle.swim_member.specs.Steps.{after, apply_all, notes_by}
+use Rattle.swim_member.specs.Machinery.Steps.{after, apply_all, notes_by}
 use Rattle.swim_member.proofs.Received.{ReceivedBy, received-state, received-outs, received-notes}
 use Rattle.swim_member.proofs.member.Member.receive.Goals as goal
 

@@ -2,7 +2,7 @@ use Rattle.std.proofs.Common.{◌≡◌, ◌≤◌, ◌+◌, ◌-◌, ◌++◌, 
 use Rattle.std.specs.List.{list_all}
 use Rattle.swim_member.specs.Fit.{is_fit}
 use Rattle.swim_member.specs.Events.{Bye, each_from}
-use Rattle.swim_member.specs.Steps.{after, outs_by}
+use Rattle.swim_member.specs.Machinery.Steps.{after, outs_by}
 use Rattle.swim_member.proofs.member.Member.say_bye.Given as goal
 
 -- the pings that were sent and those that are left give what all give

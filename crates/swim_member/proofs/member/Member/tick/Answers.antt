@@ -4,7 +4,7 @@ use Rattle.swim_member.specs.declared.settings.Settings.{Settings}
 use Rattle.swim_member.specs.declared.answer.Answer.{Answer}
 use Rattle.swim_member.specs.declared.answer.Out.{Out}
 use Rattle.swim_member.specs.Events.{Ask, each_from, tick_moves}
-use Rattle.swim_member.specs.Steps.{outs_by}
+use Rattle.swim_member.specs.Machinery.Steps.{outs_by}
 use Rattle.swim_member.proofs.Ticking.{Ticked, ticked-state, ticked-outs, ticked-notes, ticked-settings}
 use Rattle.swim_member.proofs.Showing.{answer-parts, page-ticked}
 use Rattle.swim_member.proofs.Parts.{length-option}

@@ -4,7 +4,7 @@ use Rattle.std.proofs.lemmas.List.{get_or-set_other}
 use Rattle.std.proofs.lemmas.Grind.{get_or-set_at}
 use Rattle.swim_node.specs.declared.entry.Entry.{Entry}
 use Rattle.swim_node.specs.History.{calls_by}
-use Rattle.swim_node.specs.Turns.{JournalView, AreTurns}
+use Rattle.swim_node.specs.Machinery.Turns.{JournalView, AreTurns}
 use Rattle.swim_node.proofs.Lists.{few_calls_by, calls_by-append}
 use Rattle.swim_node.proofs.journal.Journal.push.Goals as goal
 

@@ -8,8 +8,10 @@ use Rattle.swim_member.specs.Fit.{AreAll, own_numbers_in}
 
 -- a step with this ceiling, from one state to the next, with what the member answers
 pub record Steps (old new : State) (event : Event) (granted : ℕ) (said : Answer) : Type 0 where
-  pub state : (base : State) (before : List Step) → state_of base before ≡ old → state_of base (before ++ record { event = event; granted = granted } ∷ []) ≡ new
-  pub answered : (base : State) (before : List Step) → state_of base before ≡ old → answer base before event granted ≡ said
+  pub state : (base : State) (before : List Step) → state_of base before ≡ old
+      → state_of base (before ++ record { event = event; granted = granted } ∷ []) ≡ new
+  pub answered : (base : State) (before : List Step) → state_of base before ≡ old
+      → answer base before event granted ≡ said
   pub number : new.number ≡ number_after (wanted old event) granted old.number
   pub own : AreAll new.number (own_numbers_in new.settings.me said.outs.items)
   pub settings : new.settings ≡ old.settings

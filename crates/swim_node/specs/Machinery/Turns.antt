@@ -8,5 +8,7 @@ pub record JournalView : Type 0 where
   pub entries : List Entry
   pub room : ℕ
 
+-- the counts by caller are those of the entries
 pub record AreTurns (turns : List ℕ) (entries : List Entry) : Type 0 where
-  pub counted : (caller : ℕ) → caller < 16 → slice_index turns caller ≡ length (calls_by caller entries)
+  pub counted : (caller : ℕ) → caller < 16
+      → slice_index turns caller ≡ length (calls_by caller entries)

@@ -1,5 +1,7 @@
--- A step as the code takes it, from one state to the next. It is shown to be what the readings of a log say.
-use Rattle.std.specs.Prelude.{ℕ, suc, ◌+◌, ◌-◌, ◌%◌, ◌^◌, nat_lt, ◌&&◌, Bool, not, List, [], ◌∷◌, ◌++◌, map, if◌then◌else◌, Option, Some, None}
+-- A step as the code takes it, from one state to the
+-- next. It is shown to be what the readings of a log say.
+use Rattle.std.specs.Prelude.{ℕ, suc, ◌+◌, ◌-◌, ◌%◌, ◌^◌, nat_lt, ◌&&◌, Bool, not, List, [], ◌∷◌}
+use Rattle.std.specs.Prelude.{◌++◌, map, if◌then◌else◌, Option, Some, None}
 use Rattle.std.specs.List.{filter}
 use Rattle.swim_wire.specs.declared.update.Update.{Update}
 use Rattle.swim_wire.specs.declared.datagram.Datagram.{Datagram}
@@ -14,10 +16,13 @@ use Rattle.swim_member.specs.declared.note.Note.{Note}
 use Rattle.swim_member.specs.declared.answer.Out.{Out}
 use Rattle.swim_member.specs.declared.answer.Answer.{Answer}
 use Rattle.swim_member.specs.declared.event.Event.{Event}
-use Rattle.swim_member.specs.State.{State, Happening, Heard, Forgot, Began, Sent, Numbered, Became, Ticked, Took, Probed, Relayed, Unrelayed, Joined, Paged, Noted}
+use Rattle.swim_member.specs.State.{State, Happening, Heard, Forgot, Began, Sent, Numbered, Became}
+use Rattle.swim_member.specs.State.{Ticked, Took, Probed, Relayed, Unrelayed, Joined, Paged, Noted}
 use Rattle.swim_member.specs.Readings.{gossips, is_relay, without_relay}
-use Rattle.swim_member.specs.Events.{Move, perform, moves, notes, outs, page, name, send, datagram, carried, is_at, is_eligible_name}
+use Rattle.swim_member.specs.Events.{Move, perform, moves, notes, outs, page, name, send, datagram}
+use Rattle.swim_member.specs.Events.{carried, is_at, is_eligible_name}
 
+-- the relay is less than a period old
 abbrev pub is_live : ℕ → ℕ → Relay → Bool
 is_live now period r = nat_lt (now - r.made) period
 
@@ -27,16 +32,22 @@ queue_after p waiting = if gossips p.kind then map (raise_all p.updates.items) w
 
 -- a state after a happening
 abbrev pub apply : Happening → State → State
-apply (Heard u) s = record s { rows = heard_row (row_of s.rows u.who) s.rows (record { update = u; since = s.time }) }
+apply (Heard u) s = record s {
+  rows = heard_row (row_of s.rows u.who) s.rows (record { update = u; since = s.time });
+}
 apply (Forgot x) s = record s { rows = remove_row s.rows x; queue = without x s.queue }
 apply (Began u) s = record s { queue = offered s.queue u }
 apply (Sent to p) s = record s { queue = queue_after p s.queue }
 apply (Numbered n) s = record s { number = n }
 apply (Became p) s = record s { phase = p }
-apply Ticked s = record s { time = s.time + 1; relays = filter (is_live (s.time + 1) s.settings.period) s.relays }
+apply Ticked s = record s {
+  time = s.time + 1;
+  relays = filter (is_live (s.time + 1) s.settings.period) s.relays;
+}
 apply Took s = record s { seq = (s.seq + 1) % 2 ^ 32 }
 apply (Probed p) s = record s { probe = p }
-apply (Relayed r) s = record s { relays = s.relays ++ filter (is_live s.time s.settings.period) (r ∷ []) }
+apply (Relayed r) s =
+    record s { relays = s.relays ++ filter (is_live s.time s.settings.period) (r ∷ []) }
 apply (Unrelayed r) s = record s { relays = without_relay r s.relays }
 apply (Joined j) s = record s { joining = j }
 apply (Paged updates) s = s
@@ -82,11 +93,19 @@ earlier own comes row = if comes && nat_lt own.who row.update.who then own else 
 
 -- an answer that has nothing to say
 abbrev pub no_answer : Answer
-no_answer = record { outs = record { items = [] }; notes = record { items = [] }; page = record { items = [] } }
+no_answer = record {
+  outs = record { items = [] };
+  notes = record { items = [] };
+  page = record { items = [] };
+}
 
 -- the answer of these moves
 abbrev pub answer_by : State → List Move → Answer
-answer_by s moves = record { outs = record { items = outs_by s moves }; notes = record { items = notes_by s moves }; page = record { items = page (news_from s moves) } }
+answer_by s moves = record {
+  outs = record { items = outs_by s moves };
+  notes = record { items = notes_by s moves };
+  page = record { items = page (news_from s moves) };
+}
 
 -- the row is eligible and stands after x, or else before it
 abbrev pub is_helper : ℕ → Bool → Row → Bool
@@ -95,13 +114,15 @@ is_helper x later r = is_eligible r && (if later then nat_lt x (name r) else nat
 -- the state after a ping-req about the target of q to each of these members
 abbrev pub after_asks : State → Probe → List ℕ → State
 after_asks s q [] = s
-after_asks s q (helper ∷ helpers) = after_asks (apply (send s helper PingReq q.seq q.target) s) q helpers
+after_asks s q (helper ∷ helpers) =
+    after_asks (apply (send s helper PingReq q.seq q.target) s) q helpers
 
 -- these ping-reqs
 abbrev pub outs_of_asks : State → Probe → List ℕ → List Out
 outs_of_asks s q [] = []
 outs_of_asks s q (helper ∷ helpers) =
-    record { to = helper; datagram = datagram s PingReq q.seq q.target (carried s) } ∷ outs_of_asks (apply (send s helper PingReq q.seq q.target) s) q helpers
+    record { to = helper; datagram = datagram s PingReq q.seq q.target (carried s) }
+    ∷ outs_of_asks (apply (send s helper PingReq q.seq q.target) s) q helpers
 
 -- the probe, where it is not answered and its target is eligible
 abbrev pub open_probe : State → Option Probe → Option Probe

@@ -1,5 +1,6 @@
 -- The lives of a script, as what plays it keeps them.
-use Rattle.std.specs.Prelude.{◌≡◌, Bool, true, false, List, [], All, Option, Some, None, Result, Ok, Err, length}
+use Rattle.std.specs.Prelude.{◌≡◌, Bool, true, false, List, [], All, Option, Some, None, Result, Ok}
+use Rattle.std.specs.Prelude.{Err, length}
 use Rattle.swim_member.specs.declared.event.Event.{Event}
 use Rattle.swim_state.specs.declared.owner.Owner.{Owner}
 use Rattle.swim_node.specs.declared.fault.ApplyFault.{ApplyFault}
@@ -12,11 +13,13 @@ use Rattle.swim.specs.declared.story.Stage.TheVariants.{Bare, Idle, Open}
 use Rattle.swim.specs.Life.{PlayDisk, disk_state, IsOfOne, IsOnto, AreOnOneDisk}
 use Rattle.swim.specs.Play.{Playing, Asked, asked_of, IsRun, Takes}
 
+-- the disk that there is at a stage
 abbrev pub disk_in : Stage → Option PlayDisk
 disk_in Bare = None
 disk_in (Idle disk) = Some disk
 disk_in (Open life) = Some life.left
 
+-- the life that is open at a stage, as the script asks for it
 abbrev pub life_in : Stage → Option Asked
 life_in Bare = None
 life_in (Idle disk) = None
@@ -38,14 +41,20 @@ abbrev pub Stands : Owner → Bool → List (Life PlayDisk) → Stage → Type 0
 Stands owner apart lives Bare = lives ≡ []
 Stands owner true lives (Idle disk) = AreOnOneDisk lives
 Stands owner false lives (Idle disk) = Leads owner lives disk
-Stands owner apart lives (Open life) = Leads (owner_of life.settings) lives life.opened × (apart ≡ false → owner ≡ owner_of life.settings)
+Stands owner apart lives (Open life) = Leads (owner_of life.settings) lives life.opened
+    × (apart ≡ false → owner ≡ owner_of life.settings)
 
-pub record IsStory (owner : Owner) (apart : Bool) (runs : List Run) (lives : List (Life PlayDisk)) (stage : Stage) : Type 0 where
+-- what holds between two lines of a script: the ended runs
+-- are runs, and the lives since then are lives on one disk
+pub record IsStory (owner : Owner) (apart : Bool) (runs : List Run) (lives : List (Life PlayDisk))
+    (stage : Stage) : Type 0 where
   pub ended : All IsRun runs
   pub now : Stands owner apart lives stage
 
--- what comes of an event that the open life is given, by the answer; the only caller is never out of turn
-abbrev pub IsAnswered : Event → Option Asked → Playing → Playing → Result (Unit {0}) ApplyFault → Type 0
+-- what comes of an event that the open life is given,
+-- by the answer; the only caller is never out of turn
+abbrev pub IsAnswered : Event → Option Asked → Playing → Playing → Result (Unit {0}) ApplyFault
+    → Type 0
 IsAnswered event None p q answer = ⊥
 IsAnswered event (Some life) p q (Ok done) = Takes event life p q
 IsAnswered event (Some life) p q (Err EraFull) = (length life.events ≡ life.limit) × (q ≡ p)

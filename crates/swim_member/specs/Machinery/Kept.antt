@@ -9,7 +9,7 @@ use Rattle.std.specs.List.{filter, list_all}
 use Rattle.swim_member.specs.declared.state.Relay.{Relay}
 use Rattle.swim_member.specs.Checks.{AreSound}
 use Rattle.swim_member.specs.Fit.{may_stand, may_wait}
-use Rattle.swim_member.specs.Steps.{is_live}
+use Rattle.swim_member.specs.Machinery.Steps.{is_live}
 
 abbrev pub is_row : Option Row → Bool
 is_row None = false

@@ -1,0 +1,4 @@
+-- What only proofs, private functions and the invariants of types use: no public clause needs it.
+pub mod Patch
+pub mod Torn
+pub mod Reached
