@@ -6,21 +6,20 @@ use std::thread;
 use std::time::{Clock, Duration, Instant};
 use swim_shell::Doors;
 
-/// The most that a line may take to come, or a write may wait, in milliseconds.
+/// The most that a connection may take for all its lines, and that a write may wait, in milliseconds.
 const CONNECTION_MILLIS: u64 = 1000;
 
-/// What reads from a connection: it fails once a line has taken longer than a second to come, so that nobody holds up the
-/// others, or the end of an era, by a line that never ends.
+/// What reads from a connection, for a second and no longer: so nobody holds up the others, or the end of an era, by a line
+/// that never ends or by lines without end.
 #[derive(Drop)]
-pub struct LinesInTime<'a, C: Clock> {
+pub struct InTime<'a, C: Clock> {
     stream: TcpStream,
     clock: &'a C,
-    /// When the line began that comes now.
     began: Instant,
 }
 
-impl<'a, C: Clock> LinesInTime<'a, C> {
-    /// How long the line may still take; an error if it has taken too long.
+impl<'a, C: Clock> InTime<'a, C> {
+    /// How long it may still be read from; an error if its time is over.
     fn left(&self) -> io::Result<Duration> {
         let limit = Duration::from_millis(CONNECTION_MILLIS);
         let left = limit.saturating_sub(self.began.elapsed(self.clock)?);
@@ -31,14 +30,10 @@ impl<'a, C: Clock> LinesInTime<'a, C> {
     }
 }
 
-impl<'a, C: Clock> Read for LinesInTime<'a, C> {
+impl<'a, C: Clock> Read for InTime<'a, C> {
     fn read(&mut self, buf: &mut [u8]) -> io::Result<usize> {
         self.stream.set_read_timeout(Some(self.left()?))?;
-        let count = self.stream.read(buf)?;
-        if buf[..count].contains(&b'\n') {
-            self.began = Instant::now(self.clock)?;
-        }
-        Ok(count)
+        self.stream.read(buf)
     }
 }
 
@@ -64,29 +59,29 @@ impl<'a, C: Clock> TcpDoors<'a, C> {
     }
 }
 
-/// Both ends of a connection whose lines come and whose writes end within a second; none if it cannot be made so.
+/// Both ends of a connection that takes a second at most; none if it cannot be made so.
 fn with_waits<'a, C: Clock>(
     clock: &'a C,
     stream: TcpStream,
-) -> Option<(LinesInTime<'a, C>, TcpStream)> {
+) -> Option<(InTime<'a, C>, TcpStream)> {
     let began = Instant::now(clock).ok()?;
     let wait = Duration::from_millis(CONNECTION_MILLIS);
     stream.set_write_timeout(Some(wait)).ok()?;
     let other = stream.try_clone().ok()?;
-    let lines = LinesInTime {
+    let reader = InTime {
         stream,
         clock,
         began,
     };
-    Some((lines, other))
+    Some((reader, other))
 }
 
 impl<'a, C: Clock> Doors for TcpDoors<'a, C> {
-    type Reader = LinesInTime<'a, C>;
+    type Reader = InTime<'a, C>;
 
     type Writer = TcpStream;
 
-    fn next(&mut self) -> Option<(LinesInTime<'a, C>, TcpStream)> {
+    fn next(&mut self) -> Option<(InTime<'a, C>, TcpStream)> {
         match self.listener.accept() {
             Ok((stream, _)) => with_waits(self.clock, stream),
             Err(_) => {

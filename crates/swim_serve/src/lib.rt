@@ -13,7 +13,7 @@ mod udp;
 mod until;
 mod work;
 
-pub use doors::{LinesInTime, TcpDoors};
+pub use doors::{InTime, TcpDoors};
 pub use ended::Ended;
 pub use ring_sender::RingSender;
 pub use serving::{Ends, serve};
