@@ -1,3 +1,3 @@
 mod Lives
 mod Openings
-mod Stories
+mod Sessions

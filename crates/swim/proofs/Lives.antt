@@ -2,14 +2,14 @@
 use Rattle.std.proofs.Common.{◌≡◌, ℕ, ◌<◌, List, [], ◌∷◌, ◌++◌, length, refl, sym, ap, ◌∙◌, arith}
 use Rattle.std.specs.Prelude.{All}
 use Rattle.std.proofs.lemmas.List.Elements.{All-append, All-cons, All-nil}
-use Rattle.swim_disk.specs.Disk.{State, IsSettled}
+use Rattle.swim_disk.specs.Disk.{DiskState, IsSettled}
 use Rattle.swim_state.specs.declared.owner.Owner.{Owner}
 use Rattle.swim_state.specs.Held.{Held}
 use Rattle.swim_node.specs.declared.entry.Entry.{Entry}
 use Rattle.swim_node.specs.Lives.{Era, Life, IsLived, ceiling_of, Then, Crashed, Refused, Reached, Here, Next, AreLives}
 use Rattle.swim_node.proofs.Lives.{held-reached}
 use Rattle.swim.specs.Life.{PlayDisk, disk_state, IsMine, AreMine, IsOfOne, IsOnto, Spares, AreOnOneDisk}
-use Rattle.swim.specs.Machinery.Story.{Leads}
+use Rattle.swim.specs.Machinery.Session.{Leads}
 
 -- ---- the calls of one caller
 
@@ -21,29 +21,29 @@ mine-rebased eras era h mine = All-append AreMine eras (era ∷ []) h (All-cons 
 
 -- ---- lives one after another
 
-lives-snoc : {D : Type 0} (state : D → State) (owner : Owner) (lives : List (Life D)) (life : Life D) → AreLives state owner lives → IsOnto state owner lives life.opened → IsLived state owner life → AreLives state owner (lives ++ life ∷ [])
+lives-snoc : {D : Type 0} (state : D → DiskState) (owner : Owner) (lives : List (Life D)) (life : Life D) → AreLives state owner lives → IsOnto state owner lives life.opened → IsLived state owner life → AreLives state owner (lives ++ life ∷ [])
 lives-snoc state owner [] life h onto lived = (lived, tt {0}, tt {0})
 lives-snoc state owner (first ∷ []) life h onto lived = (h.0, onto, (lived, tt {0}, tt {0}))
 lives-snoc state owner (first ∷ next ∷ lives) life h onto lived = (h.0, h.1, lives-snoc state owner (next ∷ lives) life h.2 onto lived)
 
-onto-snoc : {D : Type 0} (state : D → State) (owner : Owner) (lives : List (Life D)) (life : Life D) → IsOnto state owner (lives ++ life ∷ []) life.left
+onto-snoc : {D : Type 0} (state : D → DiskState) (owner : Owner) (lives : List (Life D)) (life : Life D) → IsOnto state owner (lives ++ life ∷ []) life.left
 onto-snoc state owner [] life = Here life.left
 onto-snoc state owner (first ∷ []) life = Here life.left
 onto-snoc state owner (first ∷ next ∷ lives) life = onto-snoc state owner (next ∷ lives) life
 
-reached-then : (D : Type 0) (state : D → State) (owner : Owner) (b : ℕ) (d e f : D) → Reached D state owner b d e → Then D state owner b e f → Reached D state owner b d f
+reached-then : (D : Type 0) (state : D → DiskState) (owner : Owner) (b : ℕ) (d e f : D) → Reached D state owner b d e → Then D state owner b e f → Reached D state owner b d f
 reached-then D state owner b d _ f (Here _) step = Next d f f step (Here f)
 reached-then D state owner b d e f (Next _ x _ first rest) step = Next d x f first (reached-then D state owner b x e f rest step)
 
 -- what may become of the disk, whatever it is held to, may become of it after these lives
-onto-then : {D : Type 0} (state : D → State) (owner : Owner) (lives : List (Life D)) (d e : D) → AreLives state owner lives → IsOnto state owner lives d → ((b : ℕ) → Held owner (state d) b → Then D state owner b d e) → IsOnto state owner lives e
+onto-then : {D : Type 0} (state : D → DiskState) (owner : Owner) (lives : List (Life D)) (d e : D) → AreLives state owner lives → IsOnto state owner lives d → ((b : ℕ) → Held owner (state d) b → Then D state owner b d e) → IsOnto state owner lives e
 onto-then state owner [] d e h onto may = tt {0}
 onto-then {D} state owner (life ∷ []) d e h onto may =
     reached-then D state owner (ceiling_of life) life.left d e onto (may (ceiling_of life) (held-reached D state owner (ceiling_of life) life.left d onto (IsLived.held h.0)))
 onto-then state owner (first ∷ next ∷ lives) d e h onto may = onto-then state owner (next ∷ lives) d e h.2 onto may
 
 -- after a life something is held
-onto-held : {D : Type 0} (state : D → State) (owner : Owner) (life : Life D) (lives : List (Life D)) (d : D) → AreLives state owner (life ∷ lives) → IsOnto state owner (life ∷ lives) d → (b : ℕ) × Held owner (state d) b
+onto-held : {D : Type 0} (state : D → DiskState) (owner : Owner) (life : Life D) (lives : List (Life D)) (d : D) → AreLives state owner (life ∷ lives) → IsOnto state owner (life ∷ lives) d → (b : ℕ) × Held owner (state d) b
 onto-held {D} state owner life [] d h onto = (ceiling_of life, held-reached D state owner (ceiling_of life) life.left d onto (IsLived.held h.0))
 onto-held state owner life (next ∷ lives) d h onto = onto-held state owner next lives d h.2 onto
 

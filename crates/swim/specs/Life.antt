@@ -1,6 +1,6 @@
 -- Lives on disks in memory that fail by a plan.
 use Rattle.std.specs.Prelude.{◌≡◌, ℕ, ◌<◌, List, [], ◌∷◌, ◌++◌, length, All}
-use Rattle.swim_disk.specs.Disk.{State}
+use Rattle.swim_disk.specs.Disk.{DiskState}
 use Rattle.swim_disk.specs.MemDisk as memory
 use Rattle.swim_disk.specs.Fault as fault
 use Rattle.swim_disk.specs.declared.fault.FaultDisk.{FaultDisk}
@@ -18,7 +18,7 @@ abbrev pub PlayDisk : Type 0
 PlayDisk = FaultDisk MemDisk
 
 -- what contracts see of a player's disk, as the disk model has it
-abbrev pub disk_state : PlayDisk → State
+abbrev pub disk_state : PlayDisk → DiskState
 disk_state disk = fault.state_of memory.state_of disk
 
 -- the entry is of the one caller that a script has
@@ -65,7 +65,7 @@ abbrev pub era_now : Life PlayDisk → Era
 era_now life = record { base = life.base; entries = life.entries }
 
 -- the last of these lives, if there is one, left what became this disk
-abbrev pub IsOnto : {D : Type 0} → (D → State) → Owner → List (Life D) → D → Type 0
+abbrev pub IsOnto : {D : Type 0} → (D → DiskState) → Owner → List (Life D) → D → Type 0
 IsOnto state owner [] disk = Unit {0}
 IsOnto {D} state owner (life ∷ []) disk = Reached D state owner (ceiling_of life) life.left disk
 IsOnto state owner (life ∷ next ∷ lives) disk = IsOnto state owner (next ∷ lives) disk

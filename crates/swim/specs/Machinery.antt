@@ -1,2 +1,2 @@
 -- What only proofs, private functions and the invariants of types use: no public clause needs it.
-pub mod Story
+pub mod Session

@@ -32,17 +32,17 @@ use Rattle.swim_script.specs.declared.command.Failure.TheVariants as failure
 use Rattle.swim_script.specs.declared.command.Setting.{Setting}
 use Rattle.swim_script.specs.declared.command.Setting.TheVariants as setting
 use Rattle.swim.specs.declared.setup.Setup.{Setup}
-use Rattle.swim.specs.declared.story.Opening.{Opening}
-use Rattle.swim.specs.declared.story.Opening.TheVariants.{Begun, Refused}
-use Rattle.swim.specs.declared.story.Refusal.{Refusal}
-use Rattle.swim.specs.declared.story.Refusal.TheVariants as refusal
-use Rattle.swim.specs.declared.story.Run.{Run}
+use Rattle.swim.specs.declared.session.Opening.{Opening}
+use Rattle.swim.specs.declared.session.Opening.TheVariants.{Begun, Refused}
+use Rattle.swim.specs.declared.session.Refusal.{Refusal}
+use Rattle.swim.specs.declared.session.Refusal.TheVariants as refusal
+use Rattle.swim.specs.declared.session.Run.{Run}
 use Rattle.swim.specs.Life.{PlayDisk, disk_state, AreOnOneDisk}
 use Rattle.swim_wire.specs.declared.update.TheConstants.{NUMBER_MAX}
 
 -- a life, as a script asks for it: how and on which disk it is opened, with which number it
 -- begins, the events of its eras that a rebase ended and of its last one, and its disk now
-pub record Asked : Type 0 where
+pub record ScriptedLife : Type 0 where
   pub settings : Settings
   pub limit : ℕ
   pub opened : PlayDisk
@@ -58,9 +58,9 @@ pub record Playing : Type 0 where
   pub setup : Setup
   pub disk : Option PlayDisk
   pub apart : Bool
-  pub runs : List (List Asked)
-  pub lives : List Asked
-  pub life : Option Asked
+  pub runs : List (List ScriptedLife)
+  pub lives : List ScriptedLife
+  pub life : Option ScriptedLife
 
 -- ---- the setup
 
@@ -91,8 +91,8 @@ with_setting s setting.Helpers n = record s { settings = record s.settings { hel
 with_setting s setting.Limit n = record s { limit = n }
 
 -- another group or another member is named
-abbrev pub named : Settings → Playing → Playing
-named settings p = record p { setup = record p.setup { settings = settings }; apart = true }
+abbrev pub with_settings : Settings → Playing → Playing
+with_settings settings p = record p { setup = record p.setup { settings = settings }; apart = true }
 
 -- the settings are sound, and an era has 1 to 65,536 entries
 pub record CanOpen (s : Setup) : Type 0 where
@@ -123,8 +123,8 @@ pub record IsMade (owner : Owner) (ceiling : ℕ) (disk : PlayDisk)
   pub err : IfErr answer (λ fault. IsUnmade ceiling disk fault)
 
 -- there is a new disk
-abbrev pub made : PlayDisk → Playing → Playing
-made disk p = record p { disk = Some disk; apart = true }
+abbrev pub with_disk : PlayDisk → Playing → Playing
+with_disk disk p = record p { disk = Some disk; apart = true }
 
 -- what a crash with this choice leaves of a disk: one
 -- of its images, and a later crash leaves the same
@@ -152,8 +152,8 @@ runs_before false runs lives = runs
 
 -- a life is opened with this number on the old disk, which has become the
 -- new one; it begins a run where the disk or the owner is another one
-abbrev pub opened : PlayDisk → ℕ → PlayDisk → Playing → Playing
-opened old first new p = record p {
+abbrev pub with_life : PlayDisk → ℕ → PlayDisk → Playing → Playing
+with_life old first new p = record p {
   disk = Some new;
   apart = false;
   runs = runs_before p.apart p.runs p.lives;
@@ -175,7 +175,7 @@ pub record Begins (old : PlayDisk) (first : ℕ) (p q : Playing) : Type 0 where
   pub sound : shown (owner_of p.setup.settings) (disk_state old).content ≡ None
   pub next : first ≡ floor (disk_state old).content + 1
   pub disk : PlayDisk
-  pub is : q ≡ opened old first disk p
+  pub is : q ≡ with_life old first disk p
 
 -- when an opening is refused, and what that leaves of
 -- the disk; where memory is wanting the script ends
@@ -222,11 +222,11 @@ pub record Starts (first : ℕ) (p q : Playing) : Type 0 where
   pub disk : PlayDisk
   pub answer : Result (Unit {0}) InitFault
   pub is_made : IsMade (owner_of p.setup.settings) (first - 1) disk answer
-  pub ok : OnOk answer (Opens disk (made disk p) q)
-  pub err : OnErr answer (q ≡ made disk p)
+  pub ok : OnOk answer (Opens disk (with_disk disk p) q)
+  pub err : OnErr answer (q ≡ with_disk disk p)
 
 -- the open life has one event more, and its disk may have become another one
-pub record Takes (event : Event) (life : Asked) (p q : Playing) : Type 0 where
+pub record Takes (event : Event) (life : ScriptedLife) (p q : Playing) : Type 0 where
   pub room : length life.events < life.limit
   pub disk : PlayDisk
   pub is : q ≡ record p {
@@ -235,28 +235,28 @@ pub record Takes (event : Event) (life : Asked) (p q : Playing) : Type 0 where
   }
 
 -- an event comes; without an open member nothing happens, and a full era takes no more
-abbrev pub Happens : Event → Option Asked → Playing → Playing → Type 0
+abbrev pub Happens : Event → Option ScriptedLife → Playing → Playing → Type 0
 Happens event None p q = q ≡ p
 Happens event (Some life) p q = Takes event life p q ⊎ ((length life.events ≡ life.limit) × (q ≡ p))
 
 -- an era begins
-abbrev pub rebased : Option Asked → Option Asked
-rebased None = None
-rebased (Some life) = Some (record life { eras = life.eras ++ life.events ∷ []; events = [] })
+abbrev pub with_new_era : Option ScriptedLife → Option ScriptedLife
+with_new_era None = None
+with_new_era (Some life) = Some (record life { eras = life.eras ++ life.events ∷ []; events = [] })
 
 -- the open life, if there is one, has ended; its disk stays
-abbrev pub ended_with : Option Asked → Playing → Playing
+abbrev pub ended_with : Option ScriptedLife → Playing → Playing
 ended_with None p = p
 ended_with (Some life) p = record p { lives = p.lives ++ life ∷ []; life = None }
 
 -- the open life has ended
-abbrev pub ended : Playing → Playing
-ended p = ended_with p.life p
+abbrev pub with_life_ended : Playing → Playing
+with_life_ended p = ended_with p.life p
 
 -- ---- lines
 
 -- with an open member nothing happens
-abbrev pub IfClosed : Option Asked → Playing → Playing → Type 0 → Type 0
+abbrev pub IfClosed : Option ScriptedLife → Playing → Playing → Type 0 → Type 0
 IfClosed None p q done = done
 IfClosed (Some life) p q done = q ≡ p
 
@@ -267,8 +267,8 @@ IfDisk (Some disk) p q done = done disk
 
 -- what a line may make of what plays
 abbrev pub Does : Playing → Command → Playing → Type 0
-Does p (Group group) q = q ≡ named (record p.setup.settings { group = group }) p
-Does p (Me me) q = q ≡ named (record p.setup.settings { me = me }) p
+Does p (Group group) q = q ≡ with_settings (record p.setup.settings { group = group }) p
+Does p (Me me) q = q ≡ with_settings (record p.setup.settings { me = me }) p
 Does p (Set setting n) q = q ≡ record p { setup = with_setting p.setup setting n }
 Does p (Start first) q = IfClosed p.life p q (Starts first.value p q)
 Does p (Init ceiling) q =
@@ -278,14 +278,14 @@ Does p (Init ceiling) q =
 Does p Open q = IfClosed p.life p q (IfDisk p.disk p q (λ disk. Opens disk p q))
 Does p (Happen event) q = Happens event p.life p q
 Does p (Plan failure) q = q ≡ p
-Does p Kill q = q ≡ ended p
-Does p (Crash choice) q = IfDisk p.disk p q (λ disk. Becomes (IsCrashed choice disk) (ended p) q)
+Does p Kill q = q ≡ with_life_ended p
+Does p (Crash choice) q = IfDisk p.disk p q (λ disk. Becomes (IsCrashed choice disk) (with_life_ended p) q)
 Does p (Overwrite patch) q =
     IfClosed p.life p q (IfDisk p.disk p q (λ disk.
     Becomes (λ new. IsPatched patch.at patch.bytes.items (inner_of disk) (inner_of new))
     (record p { apart = true }) q))
 Does p Slots q = q ≡ p
-Does p Rebase q = q ≡ record p { life = rebased p.life }
+Does p Rebase q = q ≡ record p { life = with_new_era p.life }
 
 -- ---- the link
 
@@ -323,8 +323,8 @@ Plays p [] q = q ≡ p
 Plays p (command ∷ commands) q = (r : Scene) × Shows p command r × Plays r commands q
 
 -- what there is before the first line: no disk, no life, and a link that loses nothing
-abbrev pub beginning : Scene
-beginning = record {
+abbrev pub first_scene : Scene
+first_scene = record {
   playing = record {
     setup = first_setup;
     disk = None;
@@ -337,8 +337,8 @@ beginning = record {
 }
 
 -- all lives, an open one among them; those of one disk and owner are together
-abbrev pub all_of : Playing → List (List Asked)
-all_of p = and_run (ended p).runs (ended p).lives
+abbrev pub all_of : Playing → List (List ScriptedLife)
+all_of p = and_run (with_life_ended p).runs (with_life_ended p).lives
 
 -- the event of one call
 abbrev pub event_of : Entry → Event
@@ -349,7 +349,7 @@ abbrev pub events_of : Era → List Event
 events_of era = map event_of era.entries
 
 -- what was asked for where this life was lived
-abbrev pub asked_of : Life PlayDisk → Asked
+abbrev pub asked_of : Life PlayDisk → ScriptedLife
 asked_of life = record {
   settings = life.settings;
   limit = life.limit;
@@ -361,7 +361,7 @@ asked_of life = record {
 }
 
 -- the lives of a run, as the script asks for them
-abbrev pub run_of : Run → List Asked
+abbrev pub run_of : Run → List ScriptedLife
 run_of run = map asked_of run.lives.items
 
 -- the lives of a run are lives of one owner on one disk
@@ -376,7 +376,7 @@ IsRising run = AreRising run.lives.items
 -- those of each run are lives of one owner on one disk, and so own numbers rise over them
 pub record ArePlayed (commands : List Command) (runs : List Run) : Type 0 where
   pub end : Scene
-  pub plays : Plays beginning commands end
+  pub plays : Plays first_scene commands end
   pub asked : map run_of runs ≡ all_of end.playing
   pub lived : All IsRun runs
   pub rising : All IsRising runs

@@ -9,8 +9,8 @@ use Rattle.swim_node.specs.declared.entry.Save.{Save}
 use Rattle.swim_node.specs.declared.entry.Save.TheVariants.{Kept, Done, Failed}
 use Rattle.swim_node.specs.declared.entry.Status.{Status}
 use Rattle.swim_words.specs.Names.{phase_word}
-use Rattle.swim.specs.declared.story.Refusal.{Refusal}
-use Rattle.swim.specs.declared.story.Refusal.TheVariants.{Settings, Open}
+use Rattle.swim.specs.declared.session.Refusal.{Refusal}
+use Rattle.swim.specs.declared.session.Refusal.TheVariants.{Settings, Open}
 
 -- the word of a transcript for what became of a save
 abbrev pub save_word : Save → List ℕ

@@ -9,11 +9,11 @@ ghost use Rattle.swim_state.specs.declared.fault.RecoverFault.{RecoverFault as R
 ghost use Rattle.swim_state.specs.declared.fault.RecoverFault.TheVariants.{Device, Exhausted};
 ghost use Rattle.swim_node.specs.declared.opening.TheConstants.{LIMIT_MAX};
 ghost use Rattle.swim_node.specs.Lives.{IsLived};
-ghost use Rattle.swim_node.specs.Node.{owner_of, rebased};
+ghost use Rattle.swim_node.specs.Node.{owner_of, next_base};
 ghost use Rattle.swim_node.specs.Sending.{HasTexts};
 ghost use Rattle.swim_node.specs.declared.entry.Entry.{Entry as Entries};
 ghost use Rattle.swim_node.specs.declared.fault.OpenFault.TheVariants as faults;
-ghost use Rattle.swim.specs.declared.story.Refusal.TheVariants as refusals;
+ghost use Rattle.swim.specs.declared.session.Refusal.TheVariants as refusals;
 ghost use Rattle.swim.specs.Life.{disk_state, IsOfOne, Spares, Adds, IsDeclined, era_now};
 ghost use Rattle.swim.specs.Play.{IsRefused};
 
@@ -75,14 +75,14 @@ impl Life {
 
 /// A life that goes on.
 #[derive(Drop)]
-pub(crate) struct Living {
+pub(crate) struct OpenLife {
     setup: Setup,
     opened: Snapshot<PlayDisk>,
     eras: Vec<Era>,
     node: Node<PlayDisk>,
 }
 
-impl Model for Living {
+impl Model for OpenLife {
     ghost use Rattle.swim_node.specs.Lives.{Life as Lives};
     ghost use Rattle.swim.specs.Life.{PlayDisk as Disks, IsOngoing};
 
@@ -111,13 +111,13 @@ impl Model for Living {
     }) };
 }
 
-impl Living {
+impl OpenLife {
     /// Opens a member on this disk.
     pub(crate) fn open(
         alloc: Global,
         disk: PlayDisk,
         setup: Setup,
-    ) -> Result<Living, (PlayDisk, OpenFault)>
+    ) -> Result<OpenLife, (PlayDisk, OpenFault)>
         requires sound { AreSound setup.settings }
         ensures setup { IfOk result (λ l. (l.settings ≡ setup.settings) × (l.limit ≡ setup.limit)) }
         ensures opened { IfOk result (λ l. l.opened ≡ disk) }
@@ -137,7 +137,7 @@ impl Living {
     {
         let opened = Snapshot::of(&disk);
         let node = Node::open(alloc, disk, setup.settings, setup.limit)?;
-        Ok(Living {
+        Ok(OpenLife {
             setup,
             opened,
             eras: Vec::new(alloc),
@@ -192,7 +192,7 @@ impl Living {
             × (self.new.opened ≡ self.old.opened) }
         ensures ok { OnOk result (self.new ≡ record self.old {
           eras = self.old.eras ++ era_now self.old ∷ [];
-          base = rebased self.old.base self.old.entries;
+          base = next_base self.old.base self.old.entries;
           entries = [];
         }) }
     {
@@ -208,7 +208,7 @@ impl Living {
         ensures lived { IsLived disk_state (owner_of self.settings) self }
         ensures mine { IsOfOne self }
     {
-        let Living {
+        let OpenLife {
             setup,
             opened,
             eras,

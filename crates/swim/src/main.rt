@@ -5,7 +5,7 @@
 mod life;
 mod player;
 mod setup;
-mod story;
+mod session;
 #[cfg(test)]
 mod tests;
 mod transcript;
@@ -20,7 +20,7 @@ use std::process::ExitCode;
 use std::sync::Wait;
 use std::thread::Threads;
 use std::time::Clock;
-use swim_run::{Asked, Ending, Stamped, ask, level, make, read_words, run};
+use swim_run::{Subcommand, Ending, Stamped, ask, level, make, read_words, run};
 use swim_script::ScriptFault;
 
 /// The exit status where the words are refused.
@@ -66,10 +66,10 @@ fn ask_member(rt: &HostRuntime, to: &str, line: &str) -> Result<ExitCode, Ending
 fn answer<T: Threads + Wait + Log + Clock + Sync>(
     rt: &HostRuntime,
     logged: &T,
-    asked: Asked<'_>,
+    asked: Subcommand<'_>,
 ) -> Result<ExitCode, Ending> {
     match asked {
-        Asked::Init {
+        Subcommand::Init {
             file,
             group,
             me,
@@ -78,12 +78,12 @@ fn answer<T: Threads + Wait + Log + Clock + Sync>(
             make(rt, file, group, me, ceiling)?;
             Ok(ExitCode::SUCCESS)
         }
-        Asked::Run { config } => {
+        Subcommand::Run { config } => {
             run(rt, logged, config)?;
             Ok(ExitCode::SUCCESS)
         }
-        Asked::Ctl { to, line } => ask_member(rt, to, line),
-        Asked::Play => play_input(rt),
+        Subcommand::Ctl { to, line } => ask_member(rt, to, line),
+        Subcommand::Play => play_input(rt),
     }
 }
 

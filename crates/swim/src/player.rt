@@ -4,10 +4,10 @@ ghost use Rattle.std.specs.Prelude.{◌≡◌, List, None, map, All, OnOk, IfOk,
 ghost use Rattle.swim_script.specs.Commands.{IsScript};
 ghost use Rattle.swim_script.specs.Faults.{IsFirstFault};
 ghost use Rattle.swim_script.specs.declared.command.Command.{Command as Commands};
-ghost use Rattle.swim.specs.Play.{ArePlayed, Shows, IsMade, IsRun, IsRising, all_of, beginning, lost_by, run_of};
+ghost use Rattle.swim.specs.Play.{ArePlayed, Shows, IsMade, IsRun, IsRising, all_of, first_scene, lost_by, run_of};
 
 use crate::life::PlayDisk;
-use crate::story::{Run, Story};
+use crate::session::{Run, Session};
 use crate::transcript::{write_entry, write_opening, write_slots};
 use std::alloc::{AllocError, Global};
 use std::fmt::Write;
@@ -90,7 +90,7 @@ fn clear_plan(plan: Option<&Plan>) {
 #[derive(Drop)]
 struct Player {
     alloc: Global,
-    story: Story,
+    session: Session,
     plan: Option<Plan>,
     link: MemoryLink,
     text: String,
@@ -101,16 +101,16 @@ impl Model for Player {
 
     ghost Value = { Scene };
 
-    ghost view = { λ p. record { playing = p.story; loses = p.link.loses } };
+    ghost view = { λ p. record { playing = p.session; loses = p.link.loses } };
 }
 
 impl Player {
     fn new(alloc: Global) -> Player
-        ensures { result ≡ beginning }
+        ensures { result ≡ first_scene }
     {
         Player {
             alloc,
-            story: Story::new(alloc),
+            session: Session::new(alloc),
             plan: None,
             link: MemoryLink::new(alloc, 0),
             text: String::new(alloc),
@@ -121,12 +121,12 @@ impl Player {
     fn init(&mut self, ceiling: u64) -> Result<(), AllocError>
         ensures { OnOk result (Shows self.old (Command.Init ceiling) self.new) }
     {
-        if self.story.is_open() {
+        if self.session.is_open() {
             return writeln!(self.text, "open already");
         }
-        let made = make_disk(self.alloc, self.story.owner(), ceiling)?;
+        let made = make_disk(self.alloc, self.session.owner(), ceiling)?;
         self.plan = Some(made.plan);
-        self.story.put(made.disk);
+        self.session.put(made.disk);
         match made.answer {
             Ok(()) => writeln!(self.text, "init ok"),
             Err(fault) => writeln!(self.text, "init refused {fault}"),
@@ -137,16 +137,16 @@ impl Player {
     fn start(&mut self, first: FirstNumber) -> Result<(), AllocError>
         ensures { OnOk result (Shows self.old (Command.Start first) self.new) }
     {
-        if self.story.is_open() {
+        if self.session.is_open() {
             return writeln!(self.text, "open already");
         }
-        let made = make_disk(self.alloc, self.story.owner(), first.ceiling())?;
+        let made = make_disk(self.alloc, self.session.owner(), first.ceiling())?;
         self.plan = Some(made.plan);
-        self.story.put(made.disk);
+        self.session.put(made.disk);
         if let Err(fault) = made.answer {
             return writeln!(self.text, "init refused {fault}");
         }
-        let opening = self.story.open(self.alloc)?;
+        let opening = self.session.open(self.alloc)?;
         write_opening(&mut self.text, "start", opening)
     }
 
@@ -154,13 +154,13 @@ impl Player {
     fn open(&mut self) -> Result<(), AllocError>
         ensures { OnOk result (Shows self.old Command.Open self.new) }
     {
-        if self.story.is_open() {
+        if self.session.is_open() {
             return writeln!(self.text, "open already");
         }
-        if !self.story.has_disk() {
+        if !self.session.has_disk() {
             return writeln!(self.text, "no disk");
         }
-        let opening = self.story.open(self.alloc)?;
+        let opening = self.session.open(self.alloc)?;
         write_opening(&mut self.text, "open", opening)
     }
 
@@ -168,11 +168,11 @@ impl Player {
     fn happen(&mut self, event: Event) -> Result<(), AllocError>
         ensures { OnOk result (Shows self.old (Command.Happen event) self.new) }
     {
-        if !self.story.is_open() {
+        if !self.session.is_open() {
             return writeln!(self.text, "no member");
         }
-        match self.story.happen(&mut self.link, event) {
-            Ok(()) => match self.story.last() {
+        match self.session.happen(&mut self.link, event) {
+            Ok(()) => match self.session.last() {
                 Some(entry) => write_entry(self.alloc, &mut self.text, entry),
                 None => unreachable!(),
             },
@@ -185,10 +185,10 @@ impl Player {
     fn kill(&mut self) -> Result<(), AllocError>
         ensures { OnOk result (Shows self.old Command.Kill self.new) }
     {
-        if !self.story.is_open() {
+        if !self.session.is_open() {
             return writeln!(self.text, "no member");
         }
-        self.story.end()?;
+        self.session.end()?;
         writeln!(self.text, "killed")
     }
 
@@ -196,13 +196,13 @@ impl Player {
     fn crash(&mut self, choice: Choice) -> Result<(), AllocError>
         ensures { OnOk result (Shows self.old (Command.Crash choice) self.new) }
     {
-        if self.story.is_open() {
-            self.story.end()?;
+        if self.session.is_open() {
+            self.session.end()?;
         }
-        if !self.story.has_disk() {
+        if !self.session.has_disk() {
             return writeln!(self.text, "no disk");
         }
-        self.story.crash(self.alloc, choice);
+        self.session.crash(self.alloc, choice);
         renew(&mut self.link, self.alloc);
         clear_plan(self.plan.as_ref());
         writeln!(self.text, "crashed")
@@ -212,34 +212,34 @@ impl Player {
     fn overwrite(&mut self, patch: Patch) -> Result<(), AllocError>
         ensures { OnOk result (Shows self.old (Command.Overwrite patch) self.new) }
     {
-        if self.story.is_open() {
+        if self.session.is_open() {
             return writeln!(self.text, "open already");
         }
-        if !self.story.has_disk() {
+        if !self.session.has_disk() {
             return writeln!(self.text, "no disk");
         }
-        self.story.overwrite(&patch)
+        self.session.overwrite(&patch)
     }
 
     /// Begins an era.
     fn rebase(&mut self) -> Result<(), AllocError>
         ensures { OnOk result (Shows self.old Command.Rebase self.new) }
     {
-        if !self.story.is_open() {
+        if !self.session.is_open() {
             return writeln!(self.text, "no member");
         }
-        self.story.rebase()?;
+        self.session.rebase()?;
         writeln!(self.text, "rebase ok")
     }
 
     /// Does what a line says.
-    fn obey(&mut self, command: Command) -> Result<(), AllocError>
+    fn execute(&mut self, command: Command) -> Result<(), AllocError>
         ensures { OnOk result (Shows self.old command self.new) }
     {
         match command {
-            Command::Group(group) => self.story.set_group(group),
-            Command::Me(me) => self.story.set_me(me),
-            Command::Set(setting, value) => self.story.set(setting, value),
+            Command::Group(group) => self.session.set_group(group),
+            Command::Me(me) => self.session.set_me(me),
+            Command::Set(setting, value) => self.session.set(setting, value),
             Command::Start(first) => self.start(first)?,
             Command::Init(ceiling) => self.init(ceiling)?,
             Command::Open => self.open()?,
@@ -251,7 +251,7 @@ impl Player {
             Command::Kill => self.kill()?,
             Command::Crash(choice) => self.crash(choice)?,
             Command::Overwrite(patch) => self.overwrite(patch)?,
-            Command::Slots => write_slots(&mut self.text, self.story.image())?,
+            Command::Slots => write_slots(&mut self.text, self.session.image())?,
             Command::Rebase => self.rebase()?,
         }
         Ok(())
@@ -266,12 +266,12 @@ impl Player {
     {
         let Player {
             alloc: _,
-            story,
+            session,
             plan: _,
             link: _,
             text,
         } = self;
-        let lives = story.finish()?;
+        let lives = session.finish()?;
         Ok(Transcript { text, lives })
     }
 }
@@ -282,7 +282,7 @@ fn run(alloc: Global, commands: Vec<Command>) -> Result<Transcript, AllocError>
 {
     let mut player = Player::new(alloc);
     for command in commands {
-        player.obey(command)?;
+        player.execute(command)?;
     }
     player.finish()
 }

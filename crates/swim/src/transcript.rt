@@ -5,7 +5,7 @@ ghost use Rattle.swim_wire.specs.Spelling.{HasText};
 ghost use Rattle.swim_node.specs.Sending.{HasTexts};
 ghost use Rattle.swim.specs.Text.{outcome_word, save_word};
 
-use crate::story::Opening;
+use crate::session::Opening;
 use std::alloc::{AllocError, Global};
 use std::fmt;
 use std::fmt::Write;

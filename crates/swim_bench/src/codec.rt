@@ -2,7 +2,7 @@
 
 ghost use Rattle.std.specs.Prelude.{◌≡◌, ◌≤◌, ◌<◌, length, take, IsOk, IsErr};
 ghost use Rattle.swim_wire.specs.declared.datagram.TheConstants.{DATAGRAM_MAX};
-ghost use Rattle.swim_wire.specs.Decoding.{reading};
+ghost use Rattle.swim_wire.specs.Decoding.{decoded};
 ghost use Rattle.swim_wire.specs.Spelling.{HasText, Spells};
 
 use swim_wire::{Datagram, decode, encode};
@@ -22,8 +22,8 @@ pub(crate) fn write(datagram: &Datagram, out: &mut [u8]) -> usize
 /// Decodes the text in each turn, and answers in how many it was a datagram.
 #[unsafe(no_mangle)]
 pub extern "C" fn swim_bench_decode(text: &[u8], turns: u32) -> u64
-    ensures good { IsOk (reading text.now) → result ≡ turns }
-    ensures bad { IsErr (reading text.now) → result ≡ 0 }
+    ensures good { IsOk (decoded text.now) → result ≡ turns }
+    ensures bad { IsErr (decoded text.now) → result ≡ 0 }
 {
     let mut good = 0;
     for _ in 0..turns {
@@ -44,7 +44,7 @@ pub extern "C" fn swim_bench_encode(text: &[u8], turns: u32, out: &mut [u8]) -> 
     match decode(text) {
         Err(_) => 0,
         Ok(datagram) => {
-            if !datagram.has_text() {
+            if !datagram.is_encodable() {
                 return 0;
             }
             encode_turns(&datagram, turns, out)

@@ -16,9 +16,9 @@ struct SummingLink {
 
 impl Link for SummingLink {
     ghost use Rattle.std.specs.Prelude.{[]};
-    ghost use Rattle.swim_node.specs.Link.{numbered};
+    ghost use Rattle.swim_node.specs.Link.{link_number};
 
-    ghost name = { λ _. numbered 0 };
+    ghost name = { λ _. link_number 0 };
 
     ghost tells = { ⊥ };
 

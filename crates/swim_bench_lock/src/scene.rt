@@ -63,7 +63,7 @@ fn ping_with(updates: &[Update]) -> Option<Event> {
         subject: Cursor::at(endpoint(1)?),
         updates: carried,
     };
-    if !datagram.has_text() {
+    if !datagram.is_encodable() {
         return None;
     }
     let mut bytes = ArrayVec::new();
@@ -101,9 +101,9 @@ impl<'a, C: Clock> SlowLink<'a, C> {
 
 impl<'a, C: Clock> Link for SlowLink<'a, C> {
     ghost use Rattle.std.specs.Prelude.{[]};
-    ghost use Rattle.swim_node.specs.Link.{numbered};
+    ghost use Rattle.swim_node.specs.Link.{link_number};
 
-    ghost name = { λ _. numbered 0 };
+    ghost name = { λ _. link_number 0 };
 
     ghost tells = { ⊥ };
 

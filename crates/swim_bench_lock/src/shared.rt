@@ -1,7 +1,7 @@
 //! A shared member for the time of one load.
 
 ghost use Rattle.std.specs.Prelude.{◌≡◌, ◌<◌, ◌≤◌, []};
-ghost use Rattle.swim_node.specs.Link.{numbered};
+ghost use Rattle.swim_node.specs.Link.{link_number};
 
 use crate::calls::{Calls, time_calls};
 use crate::reads::{time_beside_calls, time_beside_save, time_reads};

@@ -1,7 +1,7 @@
 -- What a call beside some bytes leaves of them.
 use Rattle.std.proofs.Common.{◌≡◌, ◌⊎◌, inl, inr, ⊎_elim, ℕ, ◌+◌, ◌-◌, ◌≤◌, List, ◌++◌, Result, length, take, drop, get_or, ◌∙◌, ap, arith, length-append}
 use Rattle.std.proofs.lemmas.List.{get_or_append_left, get_or-append_right}
-use Rattle.swim_disk.specs.Disk.{State, Torn, padded, overlaid, Rests, Writes}
+use Rattle.swim_disk.specs.Disk.{DiskState, Torn, padded, overlaid, Rests, Writes}
 use Rattle.swim_disk.specs.Part.{Has, KeepsPart}
 use Rattle.swim_disk.specs.Machinery.Torn.{length-front}
 
@@ -26,10 +26,10 @@ overlaid_has old at bytes =
           ∙ ap (λ j. get_or bytes j 0) (let same : at + i - at ≡ i = omega arith in same);
     }
 
-pub write_keeps : {T E : Type 0} (at n p : ℕ) (written : List ℕ) (result : Result T E) (old new : State) → (p + length written ≤ at) ⊎ (at + n ≤ p) → Writes p written result old new → KeepsPart at n old new
+pub write_keeps : {T E : Type 0} (at n p : ℕ) (written : List ℕ) (result : Result T E) (old new : DiskState) → (p + length written ≤ at) ⊎ (at + n ≤ p) → Writes p written result old new → KeepsPart at n old new
 write_keeps at n p written result old new apart writes = λ bytes size was c left.
     let from = writes.images c left in
     torn_has at bytes p (length written) from.0 c from.2 (⊎_elim (λ low. inl low) (λ high. inr (omega (arith, size, high))) apart) (was from.0 from.1)
 
-pub rest_keeps : (at n : ℕ) (old new : State) → Rests old new → KeepsPart at n old new
+pub rest_keeps : (at n : ℕ) (old new : DiskState) → Rests old new → KeepsPart at n old new
 rest_keeps at n old new rests = λ bytes size was c left. was c (rests.images c left)

@@ -1,7 +1,7 @@
 //! The trait that every disk meets, and why a call of one fails.
 
 ghost use Rattle.std.specs.Prelude.{◌≡◌, ◌+◌, ◌≤◌, length, take, drop, IfOk, OnOk};
-ghost use Rattle.swim_disk.specs.Disk.{State, Rests, Writes, Syncs, Counts};
+ghost use Rattle.swim_disk.specs.Disk.{DiskState, Rests, Writes, Syncs, Counts};
 
 use thiserror::Error;
 
@@ -30,7 +30,7 @@ pub enum DiskFault {
 /// one, and no other call does.
 pub trait Disk {
     /// The disk at this moment.
-    ghost state: { Self → State };
+    ghost state: { Self → DiskState };
 
     /// Whether the disk keeps the model, so that its answers are those of `state` and a crash leaves an image.
     ghost keeps_model: { Type 0 };

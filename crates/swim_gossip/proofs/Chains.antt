@@ -2,13 +2,13 @@
 use Rattle.std.proofs.Common.{◌≡◌, ℕ, ◌+◌, ◌<◌, ◌≤◌, ◌==◌, true, refl, sym, subst, ◌∙◌, ap, inl, inr, List, [], ◌∷◌, ◌++◌, length, take, drop, zero, suc, get_or, set, replicate, arith}
 use Rattle.std.proofs.lemmas.Bool.{cases_Bool, eqb-true, eqb-false, eq-eqb, ne_eqb, lt-ltb, le-ltb, or_left, or_right}
 use Rattle.std.proofs.lemmas.List.{get_or-set_same, get_or-set_other, drop_more, append_assoc, append-nil, take-append-le, take_all}
-use Rattle.swim_wire.specs.Blank.{blank}
+use Rattle.swim_wire.specs.Filler.{filler}
 use Rattle.swim_gossip.specs.declared.buffer.Waiting.{Waiting}
 use Rattle.swim_gossip.specs.Buckets.{at, below, spots, IsChain}
 use Rattle.swim_gossip.proofs.Rises.{stands}
 
 abbrev none : Waiting
-none = record { update = blank; count = 0 }
+none = record { update = filler; count = 0 }
 
 -- an earlier place is linked
 chain-set : (links : List ℕ) (p v head c i : ℕ) (queue : List Waiting) → p < i → IsChain links head (spots c i queue) → IsChain (set links p v) head (spots c i queue)

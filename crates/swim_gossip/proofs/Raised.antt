@@ -4,7 +4,7 @@ use Rattle.std.specs.List.{All}
 use Rattle.std.proofs.lemmas.Bool.{cases_Bool, eqb-true, eqb-false, eq-eqb, ne_eqb, ltb-true, or_left, or_right, cond-false}
 use Rattle.std.proofs.lemmas.List.{get_or_default, get_or-set_same, get_or-set_other, length-set, length-map, ext_get_or, get_or-map}
 use Rattle.std.proofs.lemmas.List.Folds.{list_any_at}
-use Rattle.swim_wire.specs.Blank.{blank}
+use Rattle.swim_wire.specs.Filler.{filler}
 use Rattle.swim_wire.specs.declared.update.Update.{Update}
 use Rattle.swim_gossip.specs.declared.buffer.Waiting.{Waiting}
 use Rattle.swim_gossip.specs.Queue.{is_about_any, raise_all, without, AreApart}
@@ -15,7 +15,7 @@ use Rattle.swim_gossip.proofs.Rises.{rank, stands, RiseFrom, rise-take, rise-onc
 use Rattle.swim_gossip.proofs.Runs.{rise-runs, low-runs}
 
 abbrev none : Waiting
-none = record { update = blank; count = 0 }
+none = record { update = filler; count = 0 }
 
 pub at-read : (queue : List Waiting) (x : ℕ) (d : Waiting) → x < length queue → get_or queue x d ≡ at queue x
 at-read queue x d l = get_or_default queue x d none l

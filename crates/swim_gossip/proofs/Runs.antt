@@ -5,7 +5,7 @@ use Rattle.std.proofs.lemmas.List.{append-nil, append_assoc, map-append, take-ap
 use Rattle.std.proofs.lemmas.List.Folds.{list_any-append}
 use Rattle.swim_wire.specs.declared.update.Update.{Update}
 use Rattle.swim_gossip.specs.declared.buffer.Waiting.{Waiting}
-use Rattle.swim_gossip.specs.Queue.{sent_times, in_turn, update_of, picked}
+use Rattle.swim_gossip.specs.Queue.{sent_times, in_turn, update_of, picked_updates}
 use Rattle.swim_gossip.specs.Buckets.{at, below, spots, runs, AreWithin}
 use Rattle.swim_gossip.proofs.Rises.{rank, stands, RiseFrom, rise-weaker, rise-append, stands-parts}
 
@@ -146,7 +146,7 @@ higher limit (suc n) queue l =
           }
     ]
 
-pub picked-runs : (limit room : ℕ) (queue : List Waiting) → map (λ x. (at queue x).update) (take room (runs limit queue)) ≡ picked limit room queue
+pub picked-runs : (limit room : ℕ) (queue : List Waiting) → map (λ x. (at queue x).update) (take room (runs limit queue)) ≡ picked_updates limit room queue
 picked-runs limit room queue =
     sym (take-map (λ x. (at queue x).update) room (runs limit queue))
     ∙ ap (take room) (both (runs limit queue) ∙ ap (map update_of) (runs-at limit queue))

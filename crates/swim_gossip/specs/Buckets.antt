@@ -1,12 +1,12 @@
 -- The buckets of a buffer: the places of its updates, bucket after bucket, in each by who began to wait earlier.
 use Rattle.std.specs.Prelude.{◌≡◌, ℕ, ◌+◌, ◌<◌, ◌≤◌, ◌==◌, nat_lt, List, [], ◌∷◌, ◌++◌, cond, slice_index_or, slice_set, zero, suc}
-use Rattle.swim_wire.specs.Blank.{blank}
+use Rattle.swim_wire.specs.Filler.{filler}
 use Rattle.swim_gossip.specs.declared.buffer.Waiting.{Waiting}
 use Rattle.swim_gossip.specs.Queue.{AreApart}
 
 -- what stands at a place of the queue
 abbrev pub at : List Waiting → ℕ → Waiting
-at queue x = slice_index_or queue x (record { update = blank; count = 0 })
+at queue x = slice_index_or queue x (record { update = filler; count = 0 })
 
 -- each count is at most this
 abbrev pub AreWithin : ℕ → List Waiting → Type 0

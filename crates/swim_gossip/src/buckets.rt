@@ -3,7 +3,7 @@
 //! counts what it looks at: updates, heads of buckets and links.
 
 ghost use Rattle.std.specs.Prelude.{◌≡◌, ℕ, ◌+◌, ◌<◌, ◌≤◌, List, [], ◌++◌, length, map, take, slice_index_or, All};
-ghost use Rattle.swim_gossip.specs.Queue.{picked, raise_all, AreApart};
+ghost use Rattle.swim_gossip.specs.Queue.{picked_updates, raise_all, AreApart};
 ghost use Rattle.swim_gossip.specs.Buckets.{at, below, spots, runs, raised_at, AreChains, IsChain, AreWithin};
 
 use crate::buffer::{BUCKETS_MAX, WAITING_MAX, Waiting};
@@ -183,8 +183,8 @@ pub(crate) fn pick_from(
     requires limit { limit ≤ 144 }
     requires empty { updates.old.items ≡ [] }
     requires begun { visits.old ≡ 0 }
-    ensures picked { updates.new.items ≡ picked limit room queue.old }
-    ensures counted { queue.new ≡ map (raise_all (picked limit room queue.old)) queue.old }
+    ensures picked { updates.new.items ≡ picked_updates limit room queue.old }
+    ensures counted { queue.new ≡ map (raise_all (picked_updates limit room queue.old)) queue.old }
     ensures visits { visits.new ≤ 748 }
 {
     let places = next_places(queue, limit, room, links, visits);

@@ -1,8 +1,8 @@
 //! The buffer.
 
 ghost use Rattle.std.specs.Prelude.{◌≡◌, ℕ, ◌+◌, ◌<◌, ◌≤◌, List, [], ◌∷◌, ◌++◌, length, map};
-ghost use Rattle.swim_wire.specs.Blank.{blank};
-ghost use Rattle.swim_gossip.specs.Queue.{without, offered, place, picked, raise_all, AreApart};
+ghost use Rattle.swim_wire.specs.Filler.{filler};
+ghost use Rattle.swim_gossip.specs.Queue.{without, offered_queue, queue_place, picked_updates, raise_all, AreApart};
 ghost use Rattle.swim_gossip.specs.Buckets.{AreWithin};
 
 use crate::buckets::pick_from;
@@ -23,7 +23,7 @@ pub struct Waiting {
 
 impl Default for Waiting {
     fn default() -> Waiting
-        ensures { result ≡ record { update = blank; count = 0 } }
+        ensures { result ≡ record { update = filler; count = 0 } }
     {
         Waiting {
             update: Update::default(),
@@ -62,7 +62,7 @@ fn place_of(queue: &[Waiting], who: Endpoint, visits: &mut Visits) -> usize
     requires apart { AreApart queue.now }
     requires few { length queue.now ≤ 257 }
     requires begun { visits.old ≡ 0 }
-    ensures place { result ≡ place who queue.now }
+    ensures place { result ≡ queue_place who queue.now }
     ensures visits { visits.new ≤ 258 }
 {
     let half = queue.len() - queue.len() / 2;
@@ -100,7 +100,7 @@ fn offer_in(queue: &mut ArrayVec<Waiting, WAITING_MAX>, update: Update, visits: 
     requires apart { AreApart queue.old.items }
     requires room { length (without update.who queue.old.items) < 257 }
     requires begun { visits.old ≡ 0 }
-    ensures queue { queue.new.items ≡ offered queue.old.items update }
+    ensures queue { queue.new.items ≡ offered_queue queue.old.items update }
     ensures visits { visits.new ≤ 516 }
 {
     remove_about(queue, update.who, visits);
@@ -124,8 +124,8 @@ fn pick_in(
     requires limit { limit ≤ 144 }
     requires empty { updates.old.items ≡ [] }
     requires begun { visits.old ≡ 0 }
-    ensures picked { updates.new.items ≡ picked limit room queue.old.items }
-    ensures counted { queue.new.items ≡ map (raise_all (picked limit room queue.old.items)) queue.old.items }
+    ensures picked { updates.new.items ≡ picked_updates limit room queue.old.items }
+    ensures counted { queue.new.items ≡ map (raise_all (picked_updates limit room queue.old.items)) queue.old.items }
     ensures visits { visits.new ≤ 748 }
 {
     pick_from(queue, limit, room, links, updates, visits);
@@ -165,7 +165,7 @@ impl Buffer {
     pub fn offer(&mut self, update: Update, visits: &mut Visits)
         requires room { length (without update.who self.old.queue) < 257 }
         requires begun { visits.old ≡ 0 }
-        ensures queue { self.new ≡ record self.old { queue = offered self.old.queue update } }
+        ensures queue { self.new ≡ record self.old { queue = offered_queue self.old.queue update } }
         ensures kept { AreApart self.new.queue }
         ensures visits { visits.new ≤ 1000 }
     {
@@ -194,10 +194,10 @@ impl Buffer {
         requires room { room ≤ 30 }
         requires limit { limit ≤ self.old.most }
         requires begun { visits.old ≡ 0 }
-        ensures picked { result.items ≡ picked limit room self.old.queue }
+        ensures picked { result.items ≡ picked_updates limit room self.old.queue }
         ensures counted { self.new
             ≡ record self.old {
-              queue = map (raise_all (picked limit room self.old.queue)) self.old.queue;
+              queue = map (raise_all (picked_updates limit room self.old.queue)) self.old.queue;
             } }
         ensures kept { AreApart self.new.queue }
         ensures visits { visits.new ≤ 1000 }

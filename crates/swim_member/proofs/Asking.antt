@@ -7,9 +7,9 @@ use Rattle.swim_rules.specs.Rows.{is_eligible}
 use Rattle.swim_wire.specs.declared.datagram.Kind.TheVariants.{PingReq}
 use Rattle.swim_member.specs.declared.state.Probe.{Probe}
 use Rattle.swim_member.specs.declared.answer.Out.{Out}
-use Rattle.swim_member.specs.State.{State, Happening}
-use Rattle.swim_member.specs.Events.{Ask, perform, ask, ask_one, helpers_about, each_from, is_at, is_eligible_name, name, outs, send, datagram, carried}
-use Rattle.swim_member.specs.Machinery.Steps.{apply, apply_all, after, outs_by, after_asks, outs_of_asks, open_probe, asking, is_helper}
+use Rattle.swim_member.specs.State.{State, Change}
+use Rattle.swim_member.specs.Events.{Ask, perform, ask, ask_one, helpers_about, each_from, is_at, is_eligible_name, row_name, outs, send, datagram, carried_updates}
+use Rattle.swim_member.specs.Machinery.Steps.{apply, apply_all, after, outs_by, after_asks, outs_of_asks, open_probe, asked_probe, is_helper}
 
 rest-some : (xs : List ℕ) (k y : ℕ) (ys : List ℕ) → drop k xs ≡ y ∷ ys → (slice_get xs k ≡ Some y) × (drop (suc k) xs ≡ ys)
 rest-some [] zero y ys e = absurd (cc)
@@ -23,11 +23,11 @@ rest-none (x ∷ xs) zero e = absurd (cc)
 rest-none (x ∷ xs) (suc k) e = rest-none xs k e
 
 -- the k-th ping-req about this probe, if there is one
-abbrev ask_about : State → Option Probe → ℕ → List Happening
+abbrev ask_about : State → Option Probe → ℕ → List Change
 ask_about s None k = []
 ask_about s (Some q) k = ask_one s q (slice_get (helpers_about s q.target) k)
 
-ask-is : (s : State) (k : ℕ) → perform s (Ask k) ≡ ask_about s (asking s) k
+ask-is : (s : State) (k : ℕ) → perform s (Ask k) ≡ ask_about s (asked_probe s) k
 ask-is s k = by_probe (is_at s s.settings.direct) s.probe
   where
     by_test : (q : Probe) (b : Bool) → cond b (ask_one s q (slice_get (helpers_about s q.target) k)) [] ≡ ask_about s (cond b (Some q) None) k
@@ -40,18 +40,18 @@ ask-is s k = by_probe (is_at s s.settings.direct) s.probe
     by_probe true (Some q) = by_test q (not q.answered && is_eligible_name s q.target)
 
 -- no member is asked
-pub asks-none-state : (n k : ℕ) (s : State) → asking s ≡ None → after s (each_from k n (λ j. Ask j)) ≡ s
+pub asks-none-state : (n k : ℕ) (s : State) → asked_probe s ≡ None → after s (each_from k n (λ j. Ask j)) ≡ s
 asks-none-state zero k s e = refl
 asks-none-state (suc n) k s e =
     ap (λ p. after (apply_all p s) (each_from (k + 1) n (λ j. Ask j))) (ask-is s k ∙ ap (λ o. ask_about s o k) e) ∙ asks-none-state n (k + 1) s e
 
-pub asks-none-outs : (n k : ℕ) (s : State) → asking s ≡ None → outs_by s (each_from k n (λ j. Ask j)) ≡ []
+pub asks-none-outs : (n k : ℕ) (s : State) → asked_probe s ≡ None → outs_by s (each_from k n (λ j. Ask j)) ≡ []
 asks-none-outs zero k s e = refl
 asks-none-outs (suc n) k s e =
     ap (λ p. outs p ++ outs_by (apply_all p s) (each_from (k + 1) n (λ j. Ask j))) (ask-is s k ∙ ap (λ o. ask_about s o k) e) ∙ asks-none-outs n (k + 1) s e
 
 -- the members from the k-th on are asked
-pub asks-state : (n k : ℕ) (s : State) (q : Probe) (rest : List ℕ) → asking s ≡ Some q → drop k (helpers_about s q.target) ≡ rest → after s (each_from k n (λ j. Ask j)) ≡ after_asks s q (take n rest)
+pub asks-state : (n k : ℕ) (s : State) (q : Probe) (rest : List ℕ) → asked_probe s ≡ Some q → drop k (helpers_about s q.target) ≡ rest → after s (each_from k n (λ j. Ask j)) ≡ after_asks s q (take n rest)
 asks-state zero k s q rest e d = refl
 asks-state (suc n) k s q [] e d =
     let past : (slice_get (helpers_about s q.target) k ≡ None) × (drop (suc k) (helpers_about s q.target) ≡ []) = rest-none (helpers_about s q.target) k d in
@@ -64,7 +64,7 @@ asks-state (suc n) k s q (x ∷ rest) e d =
     ∙ ap (λ j. after (apply (send s x PingReq q.seq q.target) s) (each_from j n (λ i. Ask i))) (add-one k)
     ∙ asks-state n (suc k) (apply (send s x PingReq q.seq q.target) s) q rest e here.1
 
-pub asks-outs : (n k : ℕ) (s : State) (q : Probe) (rest : List ℕ) → asking s ≡ Some q → drop k (helpers_about s q.target) ≡ rest → outs_by s (each_from k n (λ j. Ask j)) ≡ outs_of_asks s q (take n rest)
+pub asks-outs : (n k : ℕ) (s : State) (q : Probe) (rest : List ℕ) → asked_probe s ≡ Some q → drop k (helpers_about s q.target) ≡ rest → outs_by s (each_from k n (λ j. Ask j)) ≡ outs_of_asks s q (take n rest)
 asks-outs zero k s q rest e d = refl
 asks-outs (suc n) k s q [] e d =
     let past : (slice_get (helpers_about s q.target) k ≡ None) × (drop (suc k) (helpers_about s q.target) ≡ []) = rest-none (helpers_about s q.target) k d in
@@ -73,7 +73,7 @@ asks-outs (suc n) k s q [] e d =
     ∙ asks-outs n (suc k) s q [] e past.1 ∙ ap (outs_of_asks s q) (take_all n [] (omega arith))
 asks-outs (suc n) k s q (x ∷ rest) e d =
     let here : (slice_get (helpers_about s q.target) k ≡ Some x) × (drop (suc k) (helpers_about s q.target) ≡ rest) = rest-some (helpers_about s q.target) k x rest d in
-    let one : Out = record { to = x; datagram = datagram s PingReq q.seq q.target (carried s) } in
+    let one : Out = record { to = x; datagram = datagram s PingReq q.seq q.target (carried_updates s) } in
     ap (λ p. outs p ++ outs_by (apply_all p s) (each_from (k + 1) n (λ j. Ask j))) (ask-is s k ∙ ap (λ o. ask_about s o k) e ∙ ap (ask_one s q) here.0)
     ∙ ap (λ j. one ∷ outs_by (apply (send s x PingReq q.seq q.target) s) (each_from j n (λ i. Ask i))) (add-one k)
     ∙ ap (λ os. one ∷ os) (asks-outs n (suc k) (apply (send s x PingReq q.seq q.target) s) q rest e here.1)
@@ -93,16 +93,16 @@ take-take_append zero xs ys = refl
 take-take_append (suc n) [] ys = refl
 take-take_append (suc n) (x ∷ xs) ys = ap (λ rest. x ∷ rest) (take-take_append n xs ys)
 
-pub helpers-passes : (n x : ℕ) (rows : List Row) → take n (take n (map name (filter (is_helper x true) rows)) ++ map name (filter (is_helper x false) rows)) ≡ take n (map name (filter (λ r. nat_lt x (name r)) (filter is_eligible rows) ++ filter (λ r. nat_lt (name r) x) (filter is_eligible rows)))
+pub helpers-passes : (n x : ℕ) (rows : List Row) → take n (take n (map row_name (filter (is_helper x true) rows)) ++ map row_name (filter (is_helper x false) rows)) ≡ take n (map row_name (filter (λ r. nat_lt x (row_name r)) (filter is_eligible rows) ++ filter (λ r. nat_lt (row_name r) x) (filter is_eligible rows)))
 helpers-passes n x rows =
-    take-take_append n (map name (filter (is_helper x true) rows)) (map name (filter (is_helper x false) rows))
-    ∙ ap (take n) (sym (map-append name (filter (is_helper x true) rows) (filter (is_helper x false) rows))
-    ∙ ap (λ rs. map name (rs ++ filter (is_helper x false) rows)) (sym (filter-both (λ r. nat_lt x (name r)) is_eligible rows))
-    ∙ ap (λ rs. map name (filter (λ r. nat_lt x (name r)) (filter is_eligible rows) ++ rs)) (sym (filter-both (λ r. nat_lt (name r) x) is_eligible rows)))
+    take-take_append n (map row_name (filter (is_helper x true) rows)) (map row_name (filter (is_helper x false) rows))
+    ∙ ap (take n) (sym (map-append row_name (filter (is_helper x true) rows) (filter (is_helper x false) rows))
+    ∙ ap (λ rs. map row_name (rs ++ filter (is_helper x false) rows)) (sym (filter-both (λ r. nat_lt x (row_name r)) is_eligible rows))
+    ∙ ap (λ rs. map row_name (filter (λ r. nat_lt x (row_name r)) (filter is_eligible rows) ++ rs)) (sym (filter-both (λ r. nat_lt (row_name r) x) is_eligible rows)))
 
 -- all helpers are asked
-pub asks-all-state : (s : State) (q : Probe) (helpers : List ℕ) → asking s ≡ Some q → helpers ≡ helpers_about s q.target → length helpers ≤ 8 → after s (each_from 0 8 (λ j. Ask j)) ≡ after_asks s q helpers
+pub asks-all-state : (s : State) (q : Probe) (helpers : List ℕ) → asked_probe s ≡ Some q → helpers ≡ helpers_about s q.target → length helpers ≤ 8 → after s (each_from 0 8 (λ j. Ask j)) ≡ after_asks s q helpers
 asks-all-state s q helpers e h l = asks-state 8 0 s q helpers e (sym h) ∙ ap (after_asks s q) (take_all 8 helpers l)
 
-pub asks-all-outs : (s : State) (q : Probe) (helpers : List ℕ) → asking s ≡ Some q → helpers ≡ helpers_about s q.target → length helpers ≤ 8 → outs_by s (each_from 0 8 (λ j. Ask j)) ≡ outs_of_asks s q helpers
+pub asks-all-outs : (s : State) (q : Probe) (helpers : List ℕ) → asked_probe s ≡ Some q → helpers ≡ helpers_about s q.target → length helpers ≤ 8 → outs_by s (each_from 0 8 (λ j. Ask j)) ≡ outs_of_asks s q helpers
 asks-all-outs s q helpers e h l = asks-outs 8 0 s q helpers e (sym h) ∙ ap (outs_of_asks s q) (take_all 8 helpers l)

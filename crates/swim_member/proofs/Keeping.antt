@@ -9,10 +9,10 @@ use Rattle.swim_wire.specs.declared.update.UpdateKind.TheVariants.{Alive, Suspec
 use Rattle.swim_rules.specs.declared.table.Row.{Row}
 use Rattle.swim_rules.specs.declared.table.Heard.TheVariants.{Accepted, Kept}
 use Rattle.swim_rules.specs.Rules.{beats}
-use Rattle.swim_rules.specs.Rows.{Members, IsTable, AreInOrder, answer_to, heard_as, rows_after, hear_rows, put_row, remove_row, row_of, is_due, is_kind, confirmed, expired, forgotten, heard_row, remove_option}
+use Rattle.swim_rules.specs.Rows.{Members, IsTable, AreInOrder, answer_to, heard_as, rows_after, hear_rows, put_row, remove_row, row_of, is_due, is_kind, confirm_of, due_confirm, due_to_forget, heard_row, remove_option}
 use Rattle.swim_rules.proofs.Changes.{found_here, found_other, hear-found}
 use Rattle.swim_gossip.specs.declared.buffer.Waiting.{Waiting}
-use Rattle.swim_gossip.specs.Queue.{Gossip, offered, without, raise_all}
+use Rattle.swim_gossip.specs.Queue.{Gossip, offered_queue, without, raise_all}
 use Rattle.swim_member.specs.declared.settings.Settings.{Settings}
 use Rattle.swim_member.specs.declared.state.Relay.{Relay}
 use Rattle.swim_member.specs.State.{State}
@@ -28,7 +28,7 @@ pub keep-queue : (s : Settings) (n t : ℕ) (members : Members) (b : Gossip) (p 
 keep-queue s n t members b p made h w low = record { me = h.me; suspect = h.suspect; forget = h.forget; sound = h.sound; table = h.table; wait = w; most = h.most; number = h.number; time = h.time; stand = h.stand; say = low; live = h.live }
 
 -- the own update begins to wait, with the own number as it then is
-pub keep-own : (s : Settings) (n m t : ℕ) (members : Members) (b : Gossip) (made : List Relay) (u : Update) → u.who ≡ s.me → u.number ≡ m → m ≤ 2 ^ 62 → IsKept s n t members b made → IsKept s m t members (record b { queue = offered b.queue u }) made
+pub keep-own : (s : Settings) (n m t : ℕ) (members : Members) (b : Gossip) (made : List Relay) (u : Update) → u.who ≡ s.me → u.number ≡ m → m ≤ 2 ^ 62 → IsKept s n t members b made → IsKept s m t members (record b { queue = offered_queue b.queue u }) made
 keep-own s n m t members b made u e same l h = record { me = h.me; suspect = h.suspect; forget = h.forget; sound = h.sound; table = h.table; wait = wait-own s.me members.rows b.queue u e h.wait; most = h.most; number = l; time = h.time; stand = h.stand; say = say-spoken s.me n m b.queue u e same l h.say; live = h.live }
 
 pub room-own : (s : Settings) (n t : ℕ) (members : Members) (b : Gossip) (made : List Relay) (u : Update) → u.who ≡ s.me → IsKept s n t members b made → length (without u.who b.queue) < 257
@@ -39,7 +39,7 @@ pub keep-raised : (s : Settings) (n t : ℕ) (members : Members) (b : Gossip) (m
 keep-raised s n t members b made sent h = keep-queue s n t members b (map (raise_all sent) b.queue) made h (wait-raised s.me members.rows b.queue sent h.wait) (all-raised (may_say s.me n) sent b.queue h.say)
 
 -- an update is accepted
-pub keep-heard : (s : Settings) (n t : ℕ) (members after : Members) (b : Gossip) (made : List Relay) (u : Update) (now : ℕ) → u.who ≢ s.me → u.number ≤ 2 ^ 62 → answer_to members.rows u ≡ Accepted → after ≡ record members { rows = hear_rows members.rows u now } → IsTable after → IsKept s n t members b made → IsKept s n t after (record b { queue = offered b.queue u }) made
+pub keep-heard : (s : Settings) (n t : ℕ) (members after : Members) (b : Gossip) (made : List Relay) (u : Update) (now : ℕ) → u.who ≢ s.me → u.number ≤ 2 ^ 62 → answer_to members.rows u ≡ Accepted → after ≡ record members { rows = hear_rows members.rows u now } → IsTable after → IsKept s n t members b made → IsKept s n t after (record b { queue = offered_queue b.queue u }) made
 keep-heard s n t members after b made u now other l e k table h =
     let rows : after.rows ≡ put_row members.rows (record { update = u; since = now }) =
     ap (λ (m : Members). m.rows) k ∙ ap (λ a. rows_after a members.rows (record { update = u; since = now })) e in
@@ -75,9 +75,9 @@ find-passes test (x ∷ rows) r e = at (test x) refl e (λ k. find-passes test r
     at false t k f = f k
 
 -- a Suspect that is due is overridden by its Confirm
-pub due-accepted : (ticks now : ℕ) (rows : List Row) (r : Row) → AreInOrder rows → find (is_due Suspect ticks now) rows ≡ Some r → answer_to rows (confirmed r) ≡ Accepted
+pub due-accepted : (ticks now : ℕ) (rows : List Row) (r : Row) → AreInOrder rows → find (is_due Suspect ticks now) rows ≡ Some r → answer_to rows (confirm_of r) ≡ Accepted
 due-accepted ticks now rows r order e =
-    ap (λ o. heard_as o (length rows == 256) (confirmed r)) (found_here (is_due Suspect ticks now) rows r order e)
+    ap (λ o. heard_as o (length rows == 256) (confirm_of r)) (found_here (is_due Suspect ticks now) rows r order e)
     ∙ ap (λ b. cond b Accepted Kept) (over r.update.kind (due_kind rows e))
   where
     over : (k : UpdateKind) → is_kind Suspect k ≡ true → beats Confirm r.update.number k r.update.number ≡ true
@@ -95,27 +95,27 @@ due-accepted ticks now rows r order e =
 pub record ExpiredRow (members : Members) (now : ℕ) (u : Update) : Type 0 where
   pub row : Row
   pub found : find (is_due Suspect members.suspect now) members.rows ≡ Some row
-  pub update : confirmed row ≡ u
+  pub update : confirm_of row ≡ u
 
-pub expired-row : (members : Members) (now : ℕ) (u : Update) → expired members now ≡ Some u → ExpiredRow members now u
+pub expired-row : (members : Members) (now : ℕ) (u : Update) → due_confirm members now ≡ Some u → ExpiredRow members now u
 expired-row members now u e = by_row (find (is_due Suspect members.suspect now) members.rows) refl e
   where
-    by_row : (o : Option Row) → find (is_due Suspect members.suspect now) members.rows ≡ o → option_map confirmed o ≡ Some u → ExpiredRow members now u
+    by_row : (o : Option Row) → find (is_due Suspect members.suspect now) members.rows ≡ o → option_map confirm_of o ≡ Some u → ExpiredRow members now u
     by_row None f k = absurd (cc)
     by_row (Some r) f k = record { row = r; found = f; update = cc }
 
-pub expired-accepted : (members : Members) (now : ℕ) (u : Update) → IsTable members → expired members now ≡ Some u → answer_to members.rows u ≡ Accepted
+pub expired-accepted : (members : Members) (now : ℕ) (u : Update) → IsTable members → due_confirm members now ≡ Some u → answer_to members.rows u ≡ Accepted
 expired-accepted members now u h e =
     let x : ExpiredRow members now u = expired-row members now u e in
     ap (answer_to members.rows) (sym x.update) ∙ due-accepted members.suspect now members.rows x.row h.order x.found
 
-pub expired-other : (members : Members) (now : ℕ) (u : Update) → IsTable members → expired members now ≡ Some u → u.who ≢ members.me
+pub expired-other : (members : Members) (now : ℕ) (u : Update) → IsTable members → due_confirm members now ≡ Some u → u.who ≢ members.me
 expired-other members now u h e k =
     let x : ExpiredRow members now u = expired-row members now u e in
     found_other (is_due Suspect members.suspect now) members.me members.rows x.row x.found h.others (ap (λ (v : Update). v.who) x.update ∙ k)
 
 -- its number is that of the row
-pub expired-low : (me : ℕ) (members : Members) (now : ℕ) (u : Update) → list_all (may_stand me) members.rows ≡ true → expired members now ≡ Some u → u.number ≤ 2 ^ 62
+pub expired-low : (me : ℕ) (members : Members) (now : ℕ) (u : Update) → list_all (may_stand me) members.rows ≡ true → due_confirm members now ≡ Some u → u.number ≤ 2 ^ 62
 expired-low me members now u h e =
     let x : ExpiredRow members now u = expired-row members now u e in
     let low : x.row.update.number ≤ 2 ^ 62 = low-found me (is_due Suspect members.suspect now) members.rows x.row h x.found in
@@ -123,17 +123,17 @@ expired-low me members now u h e =
     omega arith
 
 -- the state after a Suspect expired
-pub expired-state : (s : State) (members after : Members) (queue : List Waiting) (u : Update) → members.rows ≡ s.rows → members.suspect ≡ s.settings.suspect → IsTable members → expired members s.time ≡ Some u → after.rows ≡ hear_rows members.rows u s.time → queue ≡ offered s.queue u → record s { rows = after.rows; queue = queue } ≡ apply_all (expire_first (find (is_due Suspect s.settings.suspect s.time) s.rows)) s
+pub expired-state : (s : State) (members after : Members) (queue : List Waiting) (u : Update) → members.rows ≡ s.rows → members.suspect ≡ s.settings.suspect → IsTable members → due_confirm members s.time ≡ Some u → after.rows ≡ hear_rows members.rows u s.time → queue ≡ offered_queue s.queue u → record s { rows = after.rows; queue = queue } ≡ apply_all (expire_first (find (is_due Suspect s.settings.suspect s.time) s.rows)) s
 expired-state s members after queue u same ticks h e k q =
     let x : ExpiredRow members s.time u = expired-row members s.time u e in
     let found : find (is_due Suspect s.settings.suspect s.time) s.rows ≡ Some x.row =
     ap (λ n. find (is_due Suspect n s.time) s.rows) (sym ticks) ∙ ap (λ rows. find (is_due Suspect members.suspect s.time) rows) (sym same) ∙ x.found in
-    let heard : after.rows ≡ heard_row (row_of s.rows x.row.update.who) s.rows (record { update = confirmed x.row; since = s.time }) =
+    let heard : after.rows ≡ heard_row (row_of s.rows x.row.update.who) s.rows (record { update = confirm_of x.row; since = s.time }) =
     k ∙ ap (λ v. hear_rows members.rows v s.time) (sym x.update)
     ∙ hear-found (is_due Suspect members.suspect s.time) members.rows x.row s.time h.order x.found
-    ∙ ap (λ rows. heard_row (row_of rows x.row.update.who) rows (record { update = confirmed x.row; since = s.time })) same in
+    ∙ ap (λ rows. heard_row (row_of rows x.row.update.who) rows (record { update = confirm_of x.row; since = s.time })) same in
     ap (λ rows. record s { rows = rows; queue = queue }) heard
-    ∙ ap (λ w. record s { rows = heard_row (row_of s.rows x.row.update.who) s.rows (record { update = confirmed x.row; since = s.time }); queue = w }) (q ∙ ap (offered s.queue) (sym x.update))
+    ∙ ap (λ w. record s { rows = heard_row (row_of s.rows x.row.update.who) s.rows (record { update = confirm_of x.row; since = s.time }); queue = w }) (q ∙ ap (offered_queue s.queue) (sym x.update))
     ∙ ap (λ o. apply_all (expire_first o) s) (sym found)
 
 -- the row that was forgotten
@@ -142,14 +142,14 @@ pub record ForgottenRow (members : Members) (now x : ℕ) : Type 0 where
   pub found : find (is_due Confirm members.forget now) members.rows ≡ Some row
   pub name : row.update.who ≡ x
 
-pub forgotten-row : (members : Members) (now x : ℕ) → forgotten members now ≡ Some x → ForgottenRow members now x
+pub forgotten-row : (members : Members) (now x : ℕ) → due_to_forget members now ≡ Some x → ForgottenRow members now x
 forgotten-row members now x e = by_row (find (is_due Confirm members.forget now) members.rows) refl e
   where
     by_row : (o : Option Row) → find (is_due Confirm members.forget now) members.rows ≡ o → option_map (λ (r : Row). r.update.who) o ≡ Some x → ForgottenRow members now x
     by_row None f k = absurd (cc)
     by_row (Some r) f k = record { row = r; found = f; name = cc }
 
-pub keep-forgotten : (s : Settings) (n t : ℕ) (members after : Members) (b : Gossip) (made : List Relay) (now x : ℕ) → forgotten members now ≡ Some x → after ≡ record members { rows = remove_option members.rows (forgotten members now) } → IsTable after → IsKept s n t members b made → IsKept s n t after (record b { queue = without x b.queue }) made
+pub keep-forgotten : (s : Settings) (n t : ℕ) (members after : Members) (b : Gossip) (made : List Relay) (now x : ℕ) → due_to_forget members now ≡ Some x → after ≡ record members { rows = remove_option members.rows (due_to_forget members now) } → IsTable after → IsKept s n t members b made → IsKept s n t after (record b { queue = without x b.queue }) made
 keep-forgotten s n t members after b made now x e k table h =
     let f : ForgottenRow members now x = forgotten-row members now x e in
     let rows : after.rows ≡ remove_row members.rows x = ap (λ (m : Members). m.rows) k ∙ ap (remove_option members.rows) e in

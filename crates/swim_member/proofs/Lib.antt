@@ -1,6 +1,6 @@
 pub mod Lows
 pub mod Logs
-pub mod Moves
+pub mod Actions
 pub mod Waits
 pub mod Keeping
 pub mod Pages

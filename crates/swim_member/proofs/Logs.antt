@@ -11,15 +11,15 @@ use Rattle.swim_gossip.specs.Queue.{is_about_any, raise_all, without}
 use Rattle.swim_wire.specs.declared.datagram.Datagram.{Datagram}
 use Rattle.swim_member.specs.declared.state.Relay.{Relay}
 use Rattle.swim_member.specs.declared.event.Event.{Event}
-use Rattle.swim_member.specs.Machinery.Steps.{is_live, queue_after, apply, apply_all, news_from, step_news}
-use Rattle.swim_member.specs.State.{State, Happening, Heard, Forgot, Began, Sent, Numbered, Became, Ticked, Took, Probed, Relayed, Unrelayed, Joined, Paged, Noted}
-use Rattle.swim_member.specs.Readings.{time, told, begun, sent, queue, state, apart, gossips, is_relay, without_relay, open_relays}
-use Rattle.swim_member.specs.Events.{Move, perform, news, moves, Step, log_after, log_of, news_of, state_of, answer, answer_in}
+use Rattle.swim_member.specs.Machinery.Steps.{is_live, queue_after, apply, apply_all, changes_from, step_news}
+use Rattle.swim_member.specs.State.{State, Change, Heard, Forgot, Queued, Sent, NumberRaised, Became, Ticked, SequenceTaken, Probed, Relayed, Unrelayed, Joined, Paged, Noted}
+use Rattle.swim_member.specs.Readings.{time, told_to_table, waiting_updates, times_sent, queue, state, about_others, carries_updates, is_relay, without_relay, open_relays}
+use Rattle.swim_member.specs.Events.{Action, perform, changes_by, actions, Step, log_after, log_of, changes_of, state_of, answer, answer_in}
 
 abbrev counted : (ℕ → ℕ) → List Update → List Waiting
 counted f updates = map (λ (u : Update). record { update = u; count = f u.who }) updates
 
-counted-apart : (f : ℕ → ℕ) (n : ℕ) (u : Update) (updates : List Update) → counted (λ y. cond (u.who == y) n (f y)) (apart u.who updates ++ u ∷ []) ≡ without u.who (counted f updates) ++ record { update = u; count = n } ∷ []
+counted-apart : (f : ℕ → ℕ) (n : ℕ) (u : Update) (updates : List Update) → counted (λ y. cond (u.who == y) n (f y)) (about_others u.who updates ++ u ∷ []) ≡ without u.who (counted f updates) ++ record { update = u; count = n } ∷ []
 counted-apart f n u [] = rw (eq-eqb u.who u.who refl) refl
 counted-apart f n u (v ∷ updates) =
     elim (cases_Bool (v.who == u.who)) [
@@ -27,7 +27,7 @@ counted-apart f n u (v ∷ updates) =
       | inr k ↦ rw (k, ne_eqb u.who v.who (λ e. eqb-false v.who u.who k (sym e)), counted-apart f n u updates) refl
     ]
 
-without-counted : (f : ℕ → ℕ) (x : ℕ) (updates : List Update) → counted f (apart x updates) ≡ without x (counted f updates)
+without-counted : (f : ℕ → ℕ) (x : ℕ) (updates : List Update) → counted f (about_others x updates) ≡ without x (counted f updates)
 without-counted f x [] = refl
 without-counted f x (u ∷ updates) =
     elim (cases_Bool (u.who == x)) [
@@ -35,12 +35,12 @@ without-counted f x (u ∷ updates) =
       | inr k ↦ rw (k, without-counted f x updates) refl
     ]
 
-raised-counted : (f : ℕ → ℕ) (sent : List Update) (updates : List Update) → counted (λ y. cond (is_about_any y sent) (f y + 1) (f y)) updates ≡ map (raise_all sent) (counted f updates)
-raised-counted f sent [] = refl
-raised-counted f sent (u ∷ updates) = ap (λ rest. record { update = u; count = cond (is_about_any u.who sent) (f u.who + 1) (f u.who) } ∷ rest) (raised-counted f sent updates)
+raised-counted : (f : ℕ → ℕ) (times_sent : List Update) (updates : List Update) → counted (λ y. cond (is_about_any y times_sent) (f y + 1) (f y)) updates ≡ map (raise_all times_sent) (counted f updates)
+raised-counted f times_sent [] = refl
+raised-counted f times_sent (u ∷ updates) = ap (λ rest. record { update = u; count = cond (is_about_any u.who times_sent) (f u.who + 1) (f u.who) } ∷ rest) (raised-counted f times_sent updates)
 
-sent-counted : (f : ℕ → ℕ) (p : Datagram) (updates : List Update) → counted (λ y. cond (gossips p.kind && is_about_any y p.updates.items) (f y + 1) (f y)) updates ≡ queue_after p (counted f updates)
-sent-counted f p updates = by_kind (gossips p.kind)
+sent-counted : (f : ℕ → ℕ) (p : Datagram) (updates : List Update) → counted (λ y. cond (carries_updates p.kind && is_about_any y p.updates.items) (f y + 1) (f y)) updates ≡ queue_after p (counted f updates)
+sent-counted f p updates = by_kind (carries_updates p.kind)
   where
     by_kind : (b : Bool) → counted (λ y. cond (b && is_about_any y p.updates.items) (f y + 1) (f y)) updates ≡ cond b (map (raise_all p.updates.items) (counted f updates)) (counted f updates)
     by_kind true = raised-counted f p.updates.items updates
@@ -91,19 +91,19 @@ without-filter now period r (q ∷ made) = at (is_relay r q) (is_live now period
     at false false e k h = rw k h
 
 -- the state read off changes by each happening as `apply` says
-pub state-happening : (base : State) (log : List Happening) (h : Happening) → state base (h ∷ log) ≡ apply h (state base log)
-state-happening base log (Heard u) = ap (λ r. record (state base log) { rows = r }) (rows-heard base.rows (told base log) u (time base log))
+pub state-happening : (base : State) (log : List Change) (h : Change) → state base (h ∷ log) ≡ apply h (state base log)
+state-happening base log (Heard u) = ap (λ r. record (state base log) { rows = r }) (rows-heard base.rows (told_to_table base log) u (time base log))
 state-happening base log (Forgot x) =
-    ap (λ r. record (state base log) { rows = r; queue = queue base (Forgot x ∷ log) }) (rows-forget base.rows (told base log) x)
-    ∙ ap (λ q. record (state base log) { rows = remove_row (rows base.rows (told base log)) x; queue = q }) (without-counted (sent base log) x (begun base log))
-state-happening base log (Began u) = ap (λ q. record (state base log) { queue = q }) (counted-apart (sent base log) 0 u (begun base log))
-state-happening base log (Sent to p) = ap (λ q. record (state base log) { queue = q }) (sent-counted (sent base log) p (begun base log))
-state-happening base log (Numbered n) = refl
+    ap (λ r. record (state base log) { rows = r; queue = queue base (Forgot x ∷ log) }) (rows-forget base.rows (told_to_table base log) x)
+    ∙ ap (λ q. record (state base log) { rows = remove_row (rows base.rows (told_to_table base log)) x; queue = q }) (without-counted (times_sent base log) x (waiting_updates base log))
+state-happening base log (Queued u) = ap (λ q. record (state base log) { queue = q }) (counted-apart (times_sent base log) 0 u (waiting_updates base log))
+state-happening base log (Sent to p) = ap (λ q. record (state base log) { queue = q }) (sent-counted (times_sent base log) p (waiting_updates base log))
+state-happening base log (NumberRaised n) = refl
 state-happening base log (Became p) = refl
 state-happening base log Ticked =
     ap (λ r. record (state base log) { time = time base log + 1; relays = r })
     (sym (filter-twice (is_live (time base log + 1) base.settings.period) (is_live (time base log) base.settings.period) (still-live (time base log) base.settings.period) (open_relays base log)))
-state-happening base log Took = refl
+state-happening base log SequenceTaken = refl
 state-happening base log (Probed p) = refl
 state-happening base log (Relayed r) = ap (λ q. record (state base log) { relays = q }) (filter-append (is_live (time base log) base.settings.period) (open_relays base log) (r ∷ []))
 state-happening base log (Unrelayed r) = ap (λ q. record (state base log) { relays = q }) (without-filter (time base log) base.settings.period r (open_relays base log))
@@ -111,29 +111,29 @@ state-happening base log (Joined j) = refl
 state-happening base log (Paged updates) = refl
 state-happening base log (Noted n) = refl
 
-pub state-append : (base : State) (happened log : List Happening) → state base (happened ++ log) ≡ apply_all happened (state base log)
+pub state-append : (base : State) (happened log : List Change) → state base (happened ++ log) ≡ apply_all happened (state base log)
 state-append base [] log = refl
 state-append base (h ∷ happened) log = state-happening base (happened ++ log) h ∙ ap (apply h) (state-append base happened log)
 
-pub news-news_from : (base : State) (log : List Happening) (moves : List Move) → news base log moves ≡ news_from (state base log) moves
+pub news-news_from : (base : State) (log : List Change) (actions : List Action) → changes_by base log actions ≡ changes_from (state base log) actions
 news-news_from base log [] = refl
-news-news_from base log (m ∷ moves) =
+news-news_from base log (m ∷ actions) =
     ap (λ n. n ++ perform (state base log) m)
-    (news-news_from base (perform (state base log) m ++ log) moves ∙ ap (λ s. news_from s moves) (state-append base (perform (state base log) m) log))
+    (news-news_from base (perform (state base log) m ++ log) actions ∙ ap (λ s. changes_from s actions) (state-append base (perform (state base log) m) log))
 
-pub news_of-step : (base : State) (steps : List Step) (event : Event) (granted : ℕ) (s : State) → state_of base steps ≡ s → news_of base (log_of base steps) event granted ≡ step_news s event granted
+pub news_of-step : (base : State) (steps : List Step) (event : Event) (granted : ℕ) (s : State) → state_of base steps ≡ s → changes_of base (log_of base steps) event granted ≡ step_news s event granted
 news_of-step base steps event granted s h =
-    news-news_from base (log_of base steps) (moves (state_of base steps) event granted) ∙ ap (λ t. step_news t event granted) h
+    news-news_from base (log_of base steps) (actions (state_of base steps) event granted) ∙ ap (λ t. step_news t event granted) h
 
-pub log_after-snoc : (base : State) (log : List Happening) (steps : List Step) (e : Step) → log_after base log (steps ++ e ∷ []) ≡ news_of base (log_after base log steps) e.event e.granted ++ log_after base log steps
+pub log_after-snoc : (base : State) (log : List Change) (steps : List Step) (e : Step) → log_after base log (steps ++ e ∷ []) ≡ changes_of base (log_after base log steps) e.event e.granted ++ log_after base log steps
 log_after-snoc base log [] e = refl
-log_after-snoc base log (f ∷ steps) e = log_after-snoc base (news_of base log f.event f.granted ++ log) steps e
+log_after-snoc base log (f ∷ steps) e = log_after-snoc base (changes_of base log f.event f.granted ++ log) steps e
 
 -- the state after one more step
 pub state_of-snoc : (base : State) (steps : List Step) (e : Step) (s : State) → state_of base steps ≡ s → state_of base (steps ++ e ∷ []) ≡ apply_all (step_news s e.event e.granted) s
 state_of-snoc base steps e s h =
     ap (state base) (log_after-snoc base [] steps e)
-    ∙ state-append base (news_of base (log_of base steps) e.event e.granted) (log_of base steps)
+    ∙ state-append base (changes_of base (log_of base steps) e.event e.granted) (log_of base steps)
     ∙ ap (λ n. apply_all n (state_of base steps)) (news_of-step base steps e.event e.granted s h)
     ∙ ap (apply_all (step_news s e.event e.granted)) h
 

@@ -13,7 +13,7 @@ use Rattle.swim_wire.specs.declared.update.Update.{Update}
 use Rattle.swim_rules.specs.declared.table.Row.{Row}
 use Rattle.swim_rules.specs.Rows.{put_row, remove_row}
 use Rattle.swim_gossip.specs.declared.buffer.Waiting.{Waiting}
-use Rattle.swim_gossip.specs.Queue.{is_of, without, offered, raise_all, in_turn, sent_times, update_of, picked}
+use Rattle.swim_gossip.specs.Queue.{is_of, without, offered_queue, raise_all, in_turn, sent_times, update_of, picked_updates}
 use Rattle.swim_wire.specs.Reading.{numbers_about}
 use Rattle.swim_member.specs.Fit.{is_low, may_say, may_wait, may_stand, may_be_zero, is_fit, AreAll, own_numbers_in}
 
@@ -65,7 +65,7 @@ waiting p w = p w.update
 pub all-without : (p : Update → Bool) (x : ℕ) (queue : List Waiting) → list_all (λ w. p w.update) queue ≡ true → list_all (λ w. p w.update) (without x queue) ≡ true
 all-without p x queue h = all-filter (waiting p) (λ w. not (is_of x w)) queue h
 
-pub all-offered : (p : Update → Bool) (queue : List Waiting) (u : Update) → p u ≡ true → list_all (λ w. p w.update) (without u.who queue) ≡ true → list_all (λ w. p w.update) (offered queue u) ≡ true
+pub all-offered : (p : Update → Bool) (queue : List Waiting) (u : Update) → p u ≡ true → list_all (λ w. p w.update) (without u.who queue) ≡ true → list_all (λ w. p w.update) (offered_queue queue u) ≡ true
 all-offered p queue u e h =
     all-append (waiting p) (without u.who queue) (record { update = u; count = 0 } ∷ []) h (and-both (p u) true e refl)
 
@@ -87,7 +87,7 @@ all-updates p (w ∷ queue) h =
     and-both (p w.update) (list_all p (map update_of queue)) parts.0 (all-updates p queue parts.1)
 
 -- what is carried
-pub all-picked : (p : Update → Bool) (limit room : ℕ) (queue : List Waiting) → list_all (λ w. p w.update) queue ≡ true → list_all p (picked limit room queue) ≡ true
+pub all-picked : (p : Update → Bool) (limit room : ℕ) (queue : List Waiting) → list_all (λ w. p w.update) queue ≡ true → list_all p (picked_updates limit room queue) ≡ true
 all-picked p limit room queue h = all-take p room (map update_of (in_turn limit queue)) (all-updates p (in_turn limit queue) (all-in_turn p limit queue h))
 
 -- What may be said
@@ -113,11 +113,11 @@ say-without me n m (w ∷ queue) h =
         and-both (may_wait me m w) (list_all (may_wait me m) (without me queue)) (and-both (is_low w.update) (not (w.update.who == me) || (w.update.number == m)) low (ap (λ b. not b || (w.update.number == m)) e)) k
 
 -- an update about another member begins to wait
-pub say-offered : (me n : ℕ) (queue : List Waiting) (u : Update) → u.who ≢ me → u.number ≤ 2 ^ 62 → list_all (may_wait me n) queue ≡ true → list_all (may_wait me n) (offered queue u) ≡ true
+pub say-offered : (me n : ℕ) (queue : List Waiting) (u : Update) → u.who ≢ me → u.number ≤ 2 ^ 62 → list_all (may_wait me n) queue ≡ true → list_all (may_wait me n) (offered_queue queue u) ≡ true
 say-offered me n queue u ne l h = all-offered (may_say me n) queue u (say-other me n u ne l) (all-without (may_say me n) u.who queue h)
 
 -- the own update with another number begins to wait
-pub say-spoken : (me n m : ℕ) (queue : List Waiting) (u : Update) → u.who ≡ me → u.number ≡ m → m ≤ 2 ^ 62 → list_all (may_wait me n) queue ≡ true → list_all (may_wait me m) (offered queue u) ≡ true
+pub say-spoken : (me n m : ℕ) (queue : List Waiting) (u : Update) → u.who ≡ me → u.number ≡ m → m ≤ 2 ^ 62 → list_all (may_wait me n) queue ≡ true → list_all (may_wait me m) (offered_queue queue u) ≡ true
 say-spoken me n m queue u who e l h =
     all-offered (may_say me m) queue u (say-own me m u e l) (ap (λ x. list_all (may_wait me m) (without x queue)) who ∙ say-without me n m queue h)
 
@@ -194,9 +194,9 @@ zero-allowed Ack e = absurd (false≢true e)
 zero-allowed Join e = tt
 zero-allowed Page e = tt
 
-fit-has_text : (me n : ℕ) (out : Out) → is_fit me n out ≡ true → HasText out.datagram
+fit-is_encodable : (me n : ℕ) (out : Out) → is_fit me n out ≡ true → HasText out.datagram
 unfolding is_fit
-fit-has_text me n out h =
+fit-is_encodable me n out h =
     let parts : ((may_be_zero out.datagram.kind || not (out.datagram.subject == 0)) ≡ true) × (list_all (may_say me n) out.datagram.updates.items ≡ true) = and_parts (may_be_zero out.datagram.kind || not (out.datagram.subject == 0)) (list_all (may_say me n) out.datagram.updates.items) h in
     let each : AllPass (may_say me n) out.datagram.updates.items = AllPass-from_list_all (may_say me n) out.datagram.updates.items parts.1 in (
       λ zero_subject. zero-allowed out.datagram.kind (ap (λ b. may_be_zero out.datagram.kind || not b) (sym (eq-eqb out.datagram.subject 0 zero_subject)) ∙ parts.0),
@@ -204,7 +204,7 @@ fit-has_text me n out h =
     )
 
 pub fit-texts : (me n : ℕ) (outs : List Out) → list_all (is_fit me n) outs ≡ true → All (λ out. HasText out.datagram) outs
-fit-texts me n outs h k d lt = fit-has_text me n (slice_index_or outs k d) (AllPass-from_list_all (is_fit me n) outs h k d lt)
+fit-texts me n outs h k d lt = fit-is_encodable me n (slice_index_or outs k d) (AllPass-from_list_all (is_fit me n) outs h k d lt)
 
 all-numbers : (me n : ℕ) (us : List Update) → list_all (may_say me n) us ≡ true → AreAll n (map (λ (u : Update). u.number) (filter (λ (u : Update). u.who == me) us))
 all-numbers me n [] h = tt

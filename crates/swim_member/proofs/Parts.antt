@@ -8,7 +8,7 @@ use Rattle.swim_rules.proofs.Tables.{order-above}
 use Rattle.std.specs.Option.{option_to_list}
 use Rattle.swim_member.specs.declared.answer.Out.{Out}
 use Rattle.swim_member.specs.declared.state.Relay.{Relay}
-use Rattle.swim_member.specs.Events.{name}
+use Rattle.swim_member.specs.Events.{row_name}
 use Rattle.swim_member.specs.Readings.{is_relay, without_relay}
 use Rattle.swim_member.specs.Machinery.Steps.{relay_place}
 
@@ -16,21 +16,21 @@ abbrev pub is_eligible_row : Option Row → Bool
 is_eligible_row None = false
 is_eligible_row (Some r) = is_eligible r
 
-none-eligible : (x y : ℕ) (rows : List Row) → AreAbove y rows → x ≤ y → list_any (λ r. name r == x) (filter is_eligible rows) ≡ false
+none-eligible : (x y : ℕ) (rows : List Row) → AreAbove y rows → x ≤ y → list_any (λ r. row_name r == x) (filter is_eligible rows) ≡ false
 none-eligible x y [] h l = refl
 none-eligible x y (s ∷ rows) h l = at (is_eligible s) (ne_eqb s.update.who x (λ e. omega arith)) (none-eligible x s.update.who rows h.1 (omega arith))
   where
-    at : (b : Bool) → (s.update.who == x) ≡ false → list_any (λ r. name r == x) (filter is_eligible rows) ≡ false → list_any (λ r. name r == x) (cond b (s ∷ filter is_eligible rows) (filter is_eligible rows)) ≡ false
+    at : (b : Bool) → (s.update.who == x) ≡ false → list_any (λ r. row_name r == x) (filter is_eligible rows) ≡ false → list_any (λ r. row_name r == x) (cond b (s ∷ filter is_eligible rows) (filter is_eligible rows)) ≡ false
     at true f k = rw f k
     at false f k = k
 
 -- an eligible row of x is the row of x
-pub eligible-row_of : (rows : List Row) (x : ℕ) → AreInOrder rows → list_any (λ r. name r == x) (filter is_eligible rows) ≡ is_eligible_row (row_of rows x)
+pub eligible-row_of : (rows : List Row) (x : ℕ) → AreInOrder rows → list_any (λ r. row_name r == x) (filter is_eligible rows) ≡ is_eligible_row (row_of rows x)
 eligible-row_of [] x h = refl
 eligible-row_of (s ∷ rows) x h =
     at (is_eligible s) (s.update.who == x) refl refl (eligible-row_of rows x (order-above s.update.who rows h))
   where
-    at : (a b : Bool) → is_eligible s ≡ a → (s.update.who == x) ≡ b → list_any (λ r. name r == x) (filter is_eligible rows) ≡ is_eligible_row (row_of rows x) → list_any (λ r. name r == x) (cond a (s ∷ filter is_eligible rows) (filter is_eligible rows)) ≡ is_eligible_row (cond b (Some s) (row_of rows x))
+    at : (a b : Bool) → is_eligible s ≡ a → (s.update.who == x) ≡ b → list_any (λ r. row_name r == x) (filter is_eligible rows) ≡ is_eligible_row (row_of rows x) → list_any (λ r. row_name r == x) (cond a (s ∷ filter is_eligible rows) (filter is_eligible rows)) ≡ is_eligible_row (cond b (Some s) (row_of rows x))
     at true true p q k = rw q (sym p)
     at true false p q k = rw q k
     at false true p q k = none-eligible x s.update.who rows h (let e : s.update.who ≡ x = eqb-true s.update.who x q in omega arith) ∙ sym p

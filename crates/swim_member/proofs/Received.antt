@@ -10,10 +10,10 @@ use Rattle.swim_member.specs.declared.state.Phase.TheVariants.{Expelled}
 use Rattle.swim_member.specs.declared.note.Note.{Note}
 use Rattle.swim_member.specs.declared.note.Note.TheVariants as note
 use Rattle.swim_member.specs.declared.answer.Out.{Out}
-use Rattle.swim_member.specs.State.{State, Began, Became, Numbered, Noted}
-use Rattle.swim_member.specs.Events.{Move, Hear, Settle, Reply, perform, own_with, hear_own, heard_with, confirms, wanted_by, outs, notes, datagram_moves}
+use Rattle.swim_member.specs.State.{State, Queued, Became, NumberRaised, Noted}
+use Rattle.swim_member.specs.Events.{Action, Hear, Settle, Reply, perform, own_with, hear_own, heard_with, has_confirm, wanted_by, outs, notes, datagram_actions}
 use Rattle.swim_member.specs.Machinery.Steps.{apply_all, after, notes_by, outs_by}
-use Rattle.swim_member.proofs.Moves.{after-append, notes_by-append, outs_by-append}
+use Rattle.swim_member.proofs.Actions.{after-append, notes_by-append, outs_by-append}
 use Rattle.swim_wire.specs.declared.update.TheConstants.{LEAP, NUMBER_MAX}
 
 -- hearing sends nothing
@@ -43,10 +43,10 @@ pub outs_by-hear : (s : State) (us : List Update) → outs_by s (map (λ u. Hear
 outs_by-hear s [] = refl
 outs_by-hear s (u ∷ us) = rw (outs-hear s u) (outs_by-hear (apply_all (perform s (Hear u)) s) us)
 
-outs-settle : (s : State) (us : List Update) (granted : ℕ) → outs (perform s (Settle us granted)) ≡ []
-outs-settle s us granted = pick (confirms s.settings.me us) (wanted_by s us == 0) (nat_le (wanted_by s us) granted)
+outs-settle_number : (s : State) (us : List Update) (granted : ℕ) → outs (perform s (Settle us granted)) ≡ []
+outs-settle_number s us granted = pick (has_confirm s.settings.me us) (wanted_by s us == 0) (nat_le (wanted_by s us) granted)
   where
-    pick : (a b c : Bool) → outs (cond a (Noted note.Expelled ∷ Began (own_with s Confirm s.number) ∷ Became Expelled ∷ []) (cond b [] (cond c (Began (own_with s Alive (wanted_by s us)) ∷ Numbered (wanted_by s us) ∷ []) (Noted note.SaveFailed ∷ [])))) ≡ []
+    pick : (a b c : Bool) → outs (cond a (Noted note.Expelled ∷ Queued (own_with s Confirm s.number) ∷ Became Expelled ∷ []) (cond b [] (cond c (Queued (own_with s Alive (wanted_by s us)) ∷ NumberRaised (wanted_by s us) ∷ []) (Noted note.SaveFailed ∷ [])))) ≡ []
     pick true b c = refl
     pick false true c = refl
     pick false false true = refl
@@ -57,25 +57,25 @@ pub record ReceivedBy (s0 s1 s2 s3 : State) (p : Datagram) (granted : ℕ) : Typ
   pub settled : s2 ≡ apply_all (perform s1 (Settle p.updates.items granted)) s1
   pub replied : s3 ≡ apply_all (perform s2 (Reply p)) s2
 
-abbrev last_two : Datagram → ℕ → List Move
+abbrev last_two : Datagram → ℕ → List Action
 last_two p granted = Settle p.updates.items granted ∷ Reply p ∷ []
 
-pub received-state : (s0 s1 s2 s3 : State) (p : Datagram) (granted : ℕ) → ReceivedBy s0 s1 s2 s3 p granted → s3 ≡ after s0 (datagram_moves p granted)
+pub received-state : (s0 s1 s2 s3 : State) (p : Datagram) (granted : ℕ) → ReceivedBy s0 s1 s2 s3 p granted → s3 ≡ after s0 (datagram_actions p granted)
 received-state s0 s1 s2 s3 p granted h =
     h.replied ∙ ap (λ s. apply_all (perform s (Reply p)) s) h.settled
     ∙ ap (λ s. after s (last_two p granted)) h.heard
     ∙ sym (after-append s0 (map (λ u. Hear u) p.updates.items) (last_two p granted))
 
-pub received-outs : (s0 s1 s2 s3 : State) (p : Datagram) (granted : ℕ) (sent : List Out) → ReceivedBy s0 s1 s2 s3 p granted → sent ≡ outs (perform s2 (Reply p)) → sent ≡ outs_by s0 (datagram_moves p granted)
+pub received-outs : (s0 s1 s2 s3 : State) (p : Datagram) (granted : ℕ) (sent : List Out) → ReceivedBy s0 s1 s2 s3 p granted → sent ≡ outs (perform s2 (Reply p)) → sent ≡ outs_by s0 (datagram_actions p granted)
 received-outs s0 s1 s2 s3 p granted sent h e =
     e ∙ sym (append-nil (outs (perform s2 (Reply p))))
     ∙ ap (λ s. outs (perform s (Reply p)) ++ []) h.settled
-    ∙ ap (λ o. o ++ (outs (perform (apply_all (perform s1 (Settle p.updates.items granted)) s1) (Reply p)) ++ [])) (sym (outs-settle s1 p.updates.items granted))
+    ∙ ap (λ o. o ++ (outs (perform (apply_all (perform s1 (Settle p.updates.items granted)) s1) (Reply p)) ++ [])) (sym (outs-settle_number s1 p.updates.items granted))
     ∙ ap (λ s. outs_by s (last_two p granted)) h.heard
     ∙ ap (λ o. o ++ outs_by (after s0 (map (λ u. Hear u) p.updates.items)) (last_two p granted)) (sym (outs_by-hear s0 p.updates.items))
     ∙ sym (outs_by-append s0 (map (λ u. Hear u) p.updates.items) (last_two p granted))
 
-pub received-notes : (s0 s1 s2 s3 : State) (p : Datagram) (granted : ℕ) (n1 n2 n3 noted : List Note) → ReceivedBy s0 s1 s2 s3 p granted → n1 ≡ notes_by s0 (map (λ u. Hear u) p.updates.items) → n2 ≡ notes (perform s1 (Settle p.updates.items granted)) → n3 ≡ notes (perform s2 (Reply p)) → noted ≡ (n1 ++ n2) ++ n3 → noted ≡ notes_by s0 (datagram_moves p granted)
+pub received-notes : (s0 s1 s2 s3 : State) (p : Datagram) (granted : ℕ) (n1 n2 n3 noted : List Note) → ReceivedBy s0 s1 s2 s3 p granted → n1 ≡ notes_by s0 (map (λ u. Hear u) p.updates.items) → n2 ≡ notes (perform s1 (Settle p.updates.items granted)) → n3 ≡ notes (perform s2 (Reply p)) → noted ≡ (n1 ++ n2) ++ n3 → noted ≡ notes_by s0 (datagram_actions p granted)
 received-notes s0 s1 s2 s3 p granted n1 n2 n3 noted h e1 e2 e3 e =
     e ∙ append_assoc n1 n2 n3
     ∙ ap (λ n. n ++ (n2 ++ n3)) e1

@@ -6,9 +6,9 @@ use Rattle.swim_rules.specs.Rows.{answer_to, is_kind, is_due, row_of}
 use Rattle.swim_wire.specs.declared.update.UpdateKind.TheVariants.{Alive, Suspect, Confirm}
 use Rattle.swim_member.specs.declared.state.Probe.{Probe}
 use Rattle.swim_member.specs.State.{State}
-use Rattle.swim_member.specs.Events.{Move, Advance, Expire, Forget, Blame, Probe_next, Ask, Bye, perform, outs, notes, expire_first, forget_first, blame, suspected, suspect_of, probe_row, chosen, ask, ask_one, helpers_about, is_eligible_name, bye, eligible, is_at, heard_with, each_from, tick_moves}
+use Rattle.swim_member.specs.Events.{Action, Advance, Expire, Forget, Blame, Probe_next, Ask, Bye, perform, outs, notes, expire_first, forget_first, blame, suspect_target, suspect_of, probe_row, chosen_row, ask, ask_one, helpers_about, is_eligible_name, bye, eligible, is_at, heard_with, each_from, tick_actions}
 use Rattle.swim_member.specs.Machinery.Steps.{apply_all, after, notes_by, outs_by}
-use Rattle.swim_member.proofs.Moves.{after-append, notes_by-append, outs_by-append, settings-apply_all, settings-after}
+use Rattle.swim_member.proofs.Actions.{after-append, notes_by-append, outs_by-append, settings-apply_all, settings-after}
 use Rattle.swim_member.proofs.Received.{outs-heard_with}
 use Rattle.std.proofs.Common.{nat_le, not, ◌&&◌}
 
@@ -47,11 +47,11 @@ outs-blame s = at (is_at s 0) s.probe
     of_kind r true = outs-heard_with (answer_to s.rows (suspect_of r)) (suspect_of r)
     of_kind r false = refl
 
-    of_row : (o : Option Row) → outs (suspected s o) ≡ []
+    of_row : (o : Option Row) → outs (suspect_target s o) ≡ []
     of_row None = refl
     of_row (Some r) = of_kind r (is_kind Alive r.update.kind)
 
-    of_answer : (q : Probe) (b : Bool) → outs (cond b [] (suspected s (row_of s.rows q.target))) ≡ []
+    of_answer : (q : Probe) (b : Bool) → outs (cond b [] (suspect_target s (row_of s.rows q.target))) ≡ []
     of_answer q true = refl
     of_answer q false = of_row (row_of s.rows q.target)
 
@@ -61,7 +61,7 @@ outs-blame s = at (is_at s 0) s.probe
     at true (Some q) = of_answer q q.answered
 
 notes-probe_next : (s : State) (word : ℕ) → notes (perform s (Probe_next word)) ≡ []
-notes-probe_next s word = at (is_at s 0) (chosen s word)
+notes-probe_next s word = at (is_at s 0) (chosen_row s word)
   where
     at : (b : Bool) (o : Option Row) → notes (cond b (probe_row s o) []) ≡ []
     at false o = refl
@@ -92,33 +92,33 @@ notes-bye s k = at (nat_le k s.settings.helpers) (slice_get (eligible s) k)
     at true None = refl
     at true (Some r) = refl
 
-outs-replicate : (m : Move) → ((s : State) → outs (perform s m) ≡ []) → (n : ℕ) (s : State) → outs_by s (replicate n m) ≡ []
+outs-replicate : (m : Action) → ((s : State) → outs (perform s m) ≡ []) → (n : ℕ) (s : State) → outs_by s (replicate n m) ≡ []
 outs-replicate m h zero s = refl
 outs-replicate m h (suc n) s = ap (λ o. o ++ outs_by (apply_all (perform s m) s) (replicate n m)) (h s) ∙ outs-replicate m h n (apply_all (perform s m) s)
 
-notes-replicate : (m : Move) → ((s : State) → notes (perform s m) ≡ []) → (n : ℕ) (s : State) → notes_by s (replicate n m) ≡ []
+notes-replicate : (m : Action) → ((s : State) → notes (perform s m) ≡ []) → (n : ℕ) (s : State) → notes_by s (replicate n m) ≡ []
 notes-replicate m h zero s = refl
 notes-replicate m h (suc n) s = ap (λ o. o ++ notes_by (apply_all (perform s m) s) (replicate n m)) (h s) ∙ notes-replicate m h n (apply_all (perform s m) s)
 
-pub notes-each : (f : ℕ → Move) → ((s : State) (k : ℕ) → notes (perform s (f k)) ≡ []) → (n k : ℕ) (s : State) → notes_by s (each_from k n f) ≡ []
+pub notes-each : (f : ℕ → Action) → ((s : State) (k : ℕ) → notes (perform s (f k)) ≡ []) → (n k : ℕ) (s : State) → notes_by s (each_from k n f) ≡ []
 notes-each f h zero k s = refl
 notes-each f h (suc n) k s =
     ap (λ o. o ++ notes_by (apply_all (perform s (f k)) s) (each_from (k + 1) n f)) (h s k) ∙ notes-each f h n (k + 1) (apply_all (perform s (f k)) s)
 
 -- moves that send nothing, and then others
-outs-then : (s t : State) (ms tail : List Move) → t ≡ after s ms → outs_by s ms ≡ [] → outs_by t tail ≡ outs_by s (ms ++ tail)
+outs-then : (s t : State) (ms tail : List Action) → t ≡ after s ms → outs_by s ms ≡ [] → outs_by t tail ≡ outs_by s (ms ++ tail)
 outs-then s t ms tail e z =
     ap (λ u. outs_by u tail) e ∙ ap (λ o. o ++ outs_by (after s ms) tail) (sym z) ∙ sym (outs_by-append s ms tail)
 
-notes-then : (s t : State) (ms tail : List Move) → t ≡ after s ms → notes_by s ms ≡ [] → notes_by t tail ≡ notes_by s (ms ++ tail)
+notes-then : (s t : State) (ms tail : List Action) → t ≡ after s ms → notes_by s ms ≡ [] → notes_by t tail ≡ notes_by s (ms ++ tail)
 notes-then s t ms tail e z =
     ap (λ u. notes_by u tail) e ∙ ap (λ o. o ++ notes_by (after s ms) tail) (sym z) ∙ sym (notes_by-append s ms tail)
 
-after-then : (s t : State) (ms tail : List Move) → t ≡ after s ms → after t tail ≡ after s (ms ++ tail)
+after-then : (s t : State) (ms tail : List Action) → t ≡ after s ms → after t tail ≡ after s (ms ++ tail)
 after-then s t ms tail e = ap (λ u. after u tail) e ∙ sym (after-append s ms tail)
 
 -- a tick is first the moves as and bs, and then the rest
-pub record TickedBy (s0 s1 s2 s3 s4 s5 s6 : State) (as_due bs_due asks : List Move) (word : ℕ) : Type 0 where
+pub record TickedBy (s0 s1 s2 s3 s4 s5 s6 : State) (as_due bs_due asks : List Action) (word : ℕ) : Type 0 where
   pub advanced : s1 ≡ apply_all (perform s0 Advance) s0
   pub expired : s2 ≡ after s1 as_due
   pub forgotten : s3 ≡ after s2 bs_due
@@ -126,7 +126,7 @@ pub record TickedBy (s0 s1 s2 s3 s4 s5 s6 : State) (as_due bs_due asks : List Mo
   pub probed : s5 ≡ apply_all (perform s4 (Probe_next word)) s4
   pub asked : s6 ≡ after s5 asks
 
-parts-state : (s0 s1 s2 s3 s4 s5 s6 : State) (as_due bs_due asks : List Move) (word : ℕ) → TickedBy s0 s1 s2 s3 s4 s5 s6 as_due bs_due asks word → s6 ≡ after s0 (Advance ∷ as_due ++ bs_due ++ Blame ∷ Probe_next word ∷ asks)
+parts-state : (s0 s1 s2 s3 s4 s5 s6 : State) (as_due bs_due asks : List Action) (word : ℕ) → TickedBy s0 s1 s2 s3 s4 s5 s6 as_due bs_due asks word → s6 ≡ after s0 (Advance ∷ as_due ++ bs_due ++ Blame ∷ Probe_next word ∷ asks)
 parts-state s0 s1 s2 s3 s4 s5 s6 as_due bs_due asks word h =
     h.asked
     ∙ after-then s4 s5 (Probe_next word ∷ []) asks h.probed
@@ -136,7 +136,7 @@ parts-state s0 s1 s2 s3 s4 s5 s6 as_due bs_due asks word h =
     ∙ ap (λ ms. after s1 ms) (sym (append_assoc as_due bs_due (Blame ∷ Probe_next word ∷ asks)))
     ∙ after-then s0 s1 (Advance ∷ []) (as_due ++ bs_due ++ Blame ∷ Probe_next word ∷ asks) h.advanced
 
-parts-outs : (s0 s1 s2 s3 s4 s5 s6 : State) (as_due bs_due asks : List Move) (word : ℕ) → TickedBy s0 s1 s2 s3 s4 s5 s6 as_due bs_due asks word → outs_by s1 as_due ≡ [] → outs_by s2 bs_due ≡ [] → outs (perform s4 (Probe_next word)) ++ outs_by s5 asks ≡ outs_by s0 (Advance ∷ as_due ++ bs_due ++ Blame ∷ Probe_next word ∷ asks)
+parts-outs : (s0 s1 s2 s3 s4 s5 s6 : State) (as_due bs_due asks : List Action) (word : ℕ) → TickedBy s0 s1 s2 s3 s4 s5 s6 as_due bs_due asks word → outs_by s1 as_due ≡ [] → outs_by s2 bs_due ≡ [] → outs (perform s4 (Probe_next word)) ++ outs_by s5 asks ≡ outs_by s0 (Advance ∷ as_due ++ bs_due ++ Blame ∷ Probe_next word ∷ asks)
 parts-outs s0 s1 s2 s3 s4 s5 s6 as_due bs_due asks word h za zb =
     ap (λ u. outs (perform s4 (Probe_next word)) ++ outs_by u asks) h.probed
     ∙ outs-then s3 s4 (Blame ∷ []) (Probe_next word ∷ asks) h.blamed (ap (λ o. o ++ []) (outs-blame s3))
@@ -145,7 +145,7 @@ parts-outs s0 s1 s2 s3 s4 s5 s6 as_due bs_due asks word h za zb =
     ∙ ap (λ ms. outs_by s1 ms) (sym (append_assoc as_due bs_due (Blame ∷ Probe_next word ∷ asks)))
     ∙ outs-then s0 s1 (Advance ∷ []) (as_due ++ bs_due ++ Blame ∷ Probe_next word ∷ asks) h.advanced refl
 
-parts-notes : (s0 s1 s2 s3 s4 s5 s6 : State) (as_due bs_due asks : List Move) (word : ℕ) → TickedBy s0 s1 s2 s3 s4 s5 s6 as_due bs_due asks word → notes_by s1 as_due ≡ [] → notes_by s2 bs_due ≡ [] → notes_by s5 asks ≡ [] → notes (perform s3 Blame) ≡ notes_by s0 (Advance ∷ as_due ++ bs_due ++ Blame ∷ Probe_next word ∷ asks)
+parts-notes : (s0 s1 s2 s3 s4 s5 s6 : State) (as_due bs_due asks : List Action) (word : ℕ) → TickedBy s0 s1 s2 s3 s4 s5 s6 as_due bs_due asks word → notes_by s1 as_due ≡ [] → notes_by s2 bs_due ≡ [] → notes_by s5 asks ≡ [] → notes (perform s3 Blame) ≡ notes_by s0 (Advance ∷ as_due ++ bs_due ++ Blame ∷ Probe_next word ∷ asks)
 parts-notes s0 s1 s2 s3 s4 s5 s6 as_due bs_due asks word h za zb zc =
     sym (append-nil (notes (perform s3 Blame)))
     ∙ ap (λ n. notes (perform s3 Blame) ++ n) (sym zc ∙ notes-then s4 s5 (Probe_next word ∷ []) asks h.probed (ap (λ n. n ++ []) (notes-probe_next s4 word)))
@@ -158,14 +158,14 @@ parts-notes s0 s1 s2 s3 s4 s5 s6 as_due bs_due asks word h za zb zc =
 abbrev pub Ticked : State → State → State → State → State → State → State → ℕ → Type 0
 Ticked s0 s1 s2 s3 s4 s5 s6 word = TickedBy s0 s1 s2 s3 s4 s5 s6 (replicate 256 Expire) (replicate 256 Forget) (each_from 0 8 (λ k. Ask k)) word
 
-pub ticked-state : (s0 s1 s2 s3 s4 s5 s6 : State) (word : ℕ) → Ticked s0 s1 s2 s3 s4 s5 s6 word → s6 ≡ after s0 (tick_moves word)
+pub ticked-state : (s0 s1 s2 s3 s4 s5 s6 : State) (word : ℕ) → Ticked s0 s1 s2 s3 s4 s5 s6 word → s6 ≡ after s0 (tick_actions word)
 ticked-state s0 s1 s2 s3 s4 s5 s6 word h = parts-state s0 s1 s2 s3 s4 s5 s6 (replicate 256 Expire) (replicate 256 Forget) (each_from 0 8 (λ k. Ask k)) word h
 
-pub ticked-outs : (s0 s1 s2 s3 s4 s5 s6 : State) (word : ℕ) → Ticked s0 s1 s2 s3 s4 s5 s6 word → outs (perform s4 (Probe_next word)) ++ outs_by s5 (each_from 0 8 (λ k. Ask k)) ≡ outs_by s0 (tick_moves word)
+pub ticked-outs : (s0 s1 s2 s3 s4 s5 s6 : State) (word : ℕ) → Ticked s0 s1 s2 s3 s4 s5 s6 word → outs (perform s4 (Probe_next word)) ++ outs_by s5 (each_from 0 8 (λ k. Ask k)) ≡ outs_by s0 (tick_actions word)
 ticked-outs s0 s1 s2 s3 s4 s5 s6 word h =
     parts-outs s0 s1 s2 s3 s4 s5 s6 (replicate 256 Expire) (replicate 256 Forget) (each_from 0 8 (λ k. Ask k)) word h (outs-replicate Expire outs-expire 256 s1) (outs-replicate Forget outs-forget 256 s2)
 
-pub ticked-notes : (s0 s1 s2 s3 s4 s5 s6 : State) (word : ℕ) → Ticked s0 s1 s2 s3 s4 s5 s6 word → notes (perform s3 Blame) ≡ notes_by s0 (tick_moves word)
+pub ticked-notes : (s0 s1 s2 s3 s4 s5 s6 : State) (word : ℕ) → Ticked s0 s1 s2 s3 s4 s5 s6 word → notes (perform s3 Blame) ≡ notes_by s0 (tick_actions word)
 ticked-notes s0 s1 s2 s3 s4 s5 s6 word h =
     parts-notes s0 s1 s2 s3 s4 s5 s6 (replicate 256 Expire) (replicate 256 Forget) (each_from 0 8 (λ k. Ask k)) word h (notes-replicate Expire notes-expire 256 s1) (notes-replicate Forget notes-forget 256 s2) (notes-each (λ k. Ask k) notes-ask 8 0 s5)
 

@@ -1,7 +1,7 @@
 -- The numbers, names and texts of notes and of faults of settings.
 use Rattle.std.specs.Prelude.{ℕ, List, [], ◌++◌, codes}
 use Rattle.std.specs.Fmt.{decimal}
-use Rattle.swim_wire.specs.Codes.{fault_text, numbered}
+use Rattle.swim_wire.specs.Codes.{fault_text, number_and_name}
 use Rattle.swim_member.specs.declared.note.Note.{Note}
 use Rattle.swim_member.specs.declared.note.Note.TheVariants as note
 use Rattle.swim_member.specs.declared.settings.SettingsFault.{SettingsFault}
@@ -25,7 +25,7 @@ setting_name setting.Forget = codes "Forget"
 setting_name setting.Helpers = codes "Helpers"
 
 abbrev pub setting_text : SettingsFault → List ℕ
-setting_text fault = numbered (setting_number fault) (setting_name fault)
+setting_text fault = number_and_name (setting_number fault) (setting_name fault)
 
 -- the number and the name of each note, as PROTOCOL.md has them
 abbrev pub note_number : Note → ℕ
@@ -74,4 +74,4 @@ note_rest _ = []
 
 -- the text of a note: number and name, and what it is about
 abbrev pub note_text : Note → List ℕ
-note_text said = numbered (note_number said) (note_name said) ++ note_rest said
+note_text said = number_and_name (note_number said) (note_name said) ++ note_rest said

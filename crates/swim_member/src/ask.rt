@@ -4,8 +4,8 @@ ghost use Rattle.std.specs.Prelude.{◌≡◌, ◌≤◌, ◌+◌, ◌++◌, nat
 ghost use Rattle.std.specs.List.{filter, list_all};
 ghost use Rattle.swim_member.specs.Fit.{is_fit};
 ghost use Rattle.swim_rules.specs.Rows.{is_eligible};
-ghost use Rattle.swim_member.specs.Events.{name, Ask, each_from};
-ghost use Rattle.swim_member.specs.Machinery.Steps.{after, outs_by, is_helper, after_asks, outs_of_asks, asking};
+ghost use Rattle.swim_member.specs.Events.{row_name, Ask, each_from};
+ghost use Rattle.swim_member.specs.Machinery.Steps.{after, outs_by, is_helper, after_asks, outs_of_asks, asked_probe};
 
 use crate::answer::{OUTS_MAX, Out};
 use crate::member::Member;
@@ -40,7 +40,7 @@ fn add_helpers(
     requires most { most ≤ HELPERS_MAX }
     requires room { length helpers.old.items ≤ most }
     ensures items { helpers.new.items
-        ≡ take most (helpers.old.items ++ map name (filter (is_helper target later) rows.now)) }
+        ≡ take most (helpers.old.items ++ map row_name (filter (is_helper target later) rows.now)) }
     ensures room { length helpers.new.items ≤ most }
 {
     for row in rows {
@@ -55,8 +55,8 @@ fn add_helpers(
 fn helpers_about(rows: &[Row], target: Endpoint, most: usize) -> ArrayVec<Endpoint, HELPERS_MAX>
     requires { most ≤ HELPERS_MAX }
     ensures helpers { result.items
-        ≡ take most (map name (filter (λ r. nat_lt target (name r)) (filter is_eligible rows.now)
-        ++ filter (λ r. nat_lt (name r) target) (filter is_eligible rows.now))) }
+        ≡ take most (map row_name (filter (λ r. nat_lt target (row_name r)) (filter is_eligible rows.now)
+        ++ filter (λ r. nat_lt (row_name r) target) (filter is_eligible rows.now))) }
     ensures room { length result.items ≤ most }
 {
     let mut helpers = ArrayVec::new();
@@ -84,7 +84,7 @@ impl Member {
     /// The probe about which others are asked now, if there is one: `direct` ticks into a period, and
     /// not answered.
     fn asking(&self) -> Option<Probe>
-        ensures { result ≡ asking self.now }
+        ensures { result ≡ asked_probe self.now }
     {
         if self.time % self.settings.period != self.settings.direct {
             return None;

@@ -34,7 +34,7 @@ impl Member {
     }
 
     /// Hears an update about itself, and takes a note of one that asks for too much.
-    fn hear_itself(&self, update: &Update) -> Option<Note>
+    fn hear_own(&self, update: &Update) -> Option<Note>
         ensures { option_to_list result ≡ notes (hear_own self.now.number update.now) }
     {
         if update.kind != UpdateKind::Suspect || update.number < self.number {
@@ -56,7 +56,7 @@ impl Member {
         ensures note { option_to_list result ≡ notes (perform self.old (Hear update.now)) }
     {
         if update.who == self.settings.me {
-            self.hear_itself(update)
+            self.hear_own(update)
         } else {
             self.hear_other(update)
         }

@@ -73,7 +73,7 @@ impl Member {
     }
 
     /// Takes the wish to join by a member.
-    pub(crate) fn on_wish_to_join(&mut self, peer: Endpoint, answer: &mut Answer)
+    pub(crate) fn start_join(&mut self, peer: Endpoint, answer: &mut Answer)
         requires { answer.old ≡ no_answer }
         ensures state { self.new ≡ after self.old (Join_peer peer ∷ []) }
         ensures answer { answer.new ≡ answer_by self.old (Join_peer peer ∷ []) }

@@ -24,7 +24,7 @@ impl Member {
         ensures { self.new ≡ apply_all (perform self.old Depart) self.old }
     {
         self.phase = Phase::Left;
-        self.speak(UpdateKind::Confirm, self.number);
+        self.announce(UpdateKind::Confirm, self.number);
     }
 
     /// Tells the eligible member with this number, from 0, that this one left, as far as `helpers`

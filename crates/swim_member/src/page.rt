@@ -6,7 +6,7 @@ ghost use Rattle.swim_member.specs.Fit.{may_say, is_fit};
 ghost use Rattle.std.specs.Option.{option_to_list};
 ghost use Rattle.swim_rules.specs.Rows.{AreInOrder, LacksRow};
 ghost use Rattle.swim_member.specs.Events.{updates_with, page_after, is_update_after, last_name, on_page, outs, notes};
-ghost use Rattle.swim_member.specs.Machinery.Steps.{apply_all, earlier};
+ghost use Rattle.swim_member.specs.Machinery.Steps.{apply_all, earlier_update};
 
 use crate::answer::{OUTS_MAX, Out};
 use crate::member::Member;
@@ -27,7 +27,7 @@ fn last_of(updates: &[Update]) -> Cursor
 
 /// The own update where it comes at all and before a row, else that of the row.
 fn earlier(own: &Update, comes: bool, row: &Row) -> Update
-    ensures { result ≡ earlier own.now comes row.now }
+    ensures { result ≡ earlier_update own.now comes row.now }
 {
     if comes && own.who.number() < row.update.who.number() {
         *own

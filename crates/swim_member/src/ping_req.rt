@@ -6,7 +6,7 @@ ghost use Rattle.swim_member.specs.declared.member.TheConstants.{RELAYS_MAX};
 ghost use Rattle.swim_member.specs.Fit.{is_fit};
 ghost use Rattle.std.specs.Option.{option_to_list};
 ghost use Rattle.swim_rules.specs.Rows.{is_eligible};
-ghost use Rattle.swim_member.specs.Events.{name, on_ping_req, is_eligible_name, relayed, outs, notes};
+ghost use Rattle.swim_member.specs.Events.{row_name, on_ping_req, is_eligible_name, relay_ping, outs, notes};
 ghost use Rattle.swim_member.specs.Machinery.Steps.{apply_all};
 
 use crate::answer::{OUTS_MAX, Out};
@@ -19,7 +19,7 @@ use swim_wire::{Datagram, Endpoint, Kind, UpdateKind};
 
 /// Whether a member has a row that is Alive or Suspect.
 fn has_eligible(table: &Table, who: Endpoint) -> bool
-    ensures { result ≡ list_any (λ r. name r == who) (filter is_eligible table.now.rows) }
+    ensures { result ≡ list_any (λ r. row_name r == who) (filter is_eligible table.now.rows) }
 {
     match table.get(who) {
         Some(row) => row.update.kind != UpdateKind::Confirm,
@@ -45,9 +45,9 @@ impl Member {
         requires subject { target ≡ request.now.subject }
         requires room { length self.old.relays < RELAYS_MAX }
         requires empty { sent.old.items ≡ [] }
-        ensures state { self.new ≡ apply_all (relayed self.old request.now) self.old }
-        ensures sent { sent.new.items ≡ outs (relayed self.old request.now) }
-        ensures note { option_to_list result ≡ notes (relayed self.old request.now) }
+        ensures state { self.new ≡ apply_all (relay_ping self.old request.now) self.old }
+        ensures sent { sent.new.items ≡ outs (relay_ping self.old request.now) }
+        ensures note { option_to_list result ≡ notes (relay_ping self.old request.now) }
         ensures fit { list_all (is_fit self.new.settings.me self.new.number) sent.new.items ≡ true }
         ensures few { length sent.new.items ≤ 1 }
     {

@@ -2,12 +2,12 @@
 
 ghost use Rattle.std.specs.Prelude.{◌≡◌, ◌≤◌, ◌^◌, ◌==◌, Some, None, IfSome, if◌then◌else◌};
 ghost use Rattle.swim_wire.specs.declared.update.TheConstants.{NUMBER_MAX};
-ghost use Rattle.swim_wire.specs.Decoding.{reading};
-ghost use Rattle.swim_member.specs.Events.{wanted, wanted_in, wanted_by, refused};
+ghost use Rattle.swim_wire.specs.Decoding.{decoded};
+ghost use Rattle.swim_member.specs.Events.{wanted, wanted_in, wanted_by, refusal_of};
 
 use crate::event::Event;
 use crate::member::Member;
-use crate::refute::{has_confirm, most_asked_by};
+use crate::refute::{has_confirm, greatest_asked};
 use crate::state::Phase;
 use swim_wire::{Endpoint, Update, decode};
 
@@ -23,15 +23,15 @@ impl Member {
         if has_confirm(updates, self.settings.me) {
             return None;
         }
-        let most = most_asked_by(updates, self.settings.me, self.number);
+        let most = greatest_asked(updates, self.settings.me, self.number);
         (most != 0).then_some(most)
     }
 
     /// The number that a received datagram wants, or none.
     fn wanted_in(&self, from: Endpoint, bytes: &[u8]) -> Option<u64>
         ensures value { result ≡ wanted_in
-            (refused self.now.settings from (reading bytes.now))
-            self.now.phase self.now (reading bytes.now) }
+            (refusal_of self.now.settings from (decoded bytes.now))
+            self.now.phase self.now (decoded bytes.now) }
         ensures bound { IfSome result (λ n. n ≤ NUMBER_MAX) }
     {
         if self.phase != Phase::Running {
@@ -40,7 +40,7 @@ impl Member {
         match decode(bytes) {
             Err(_) => None,
             Ok(datagram) => {
-                if self.refuse(from, &datagram).is_some() {
+                if self.refusal_of(from, &datagram).is_some() {
                     return None;
                 }
                 self.wanted_by(&datagram.updates)

@@ -6,9 +6,9 @@ ghost use Rattle.swim_member.specs.Fit.{is_fit};
 ghost use Rattle.std.specs.Option.{option_to_list};
 ghost use Rattle.swim_wire.specs.declared.update.TheConstants.{NUMBER_MAX};
 ghost use Rattle.swim_wire.specs.Codes.{MayHaveZero};
-ghost use Rattle.swim_member.specs.Events.{Reply, perform, datagram_moves, moves_of_datagram, refused, outs, notes};
+ghost use Rattle.swim_member.specs.Events.{Reply, perform, datagram_actions, actions_of_datagram, refusal_of, outs, notes};
 ghost use Rattle.swim_member.specs.Machinery.Steps.{apply_all, after, notes_by, outs_by, answer_by, no_answer};
-ghost use Rattle.swim_wire.specs.Decoding.{reading};
+ghost use Rattle.swim_wire.specs.Decoding.{decoded};
 
 use crate::answer::{Answer, OUTS_MAX, Out, note_down};
 use crate::member::Member;
@@ -46,25 +46,25 @@ impl Member {
         requires subject { datagram.now.subject ≡ 0 → MayHaveZero datagram.now.kind }
         requires numbers { All (λ u. u.number ≤ NUMBER_MAX) datagram.now.updates.items }
         requires nothing { answer.old ≡ no_answer }
-        ensures state { self.new ≡ after self.old (datagram_moves datagram.now granted) }
+        ensures state { self.new ≡ after self.old (datagram_actions datagram.now granted) }
         ensures outs { answer.new.outs.items
-            ≡ outs_by self.old (datagram_moves datagram.now granted) }
+            ≡ outs_by self.old (datagram_actions datagram.now granted) }
         ensures notes { answer.new.notes.items
-            ≡ notes_by self.old (datagram_moves datagram.now granted) }
+            ≡ notes_by self.old (datagram_actions datagram.now granted) }
         ensures page { answer.new.page.items ≡ [] }
         ensures fit { list_all (is_fit self.new.settings.me self.new.number) answer.new.outs.items
             ≡ true }
         ensures few { length answer.new.outs.items ≤ 1 }
     {
         self.hear_all(&datagram.updates, &mut answer.notes);
-        note_down(&mut answer.notes, self.settle(&datagram.updates, granted));
+        note_down(&mut answer.notes, self.settle_number(&datagram.updates, granted));
         let replied = self.reply(datagram, &mut answer.outs);
         note_down(&mut answer.notes, replied);
     }
 
     /// Why a datagram that came from here is not accepted, if it is not.
-    pub(crate) fn refuse(&self, from: Endpoint, datagram: &Datagram) -> Option<Note>
-        ensures { result ≡ refused self.now.settings from (Ok datagram.now) }
+    pub(crate) fn refusal_of(&self, from: Endpoint, datagram: &Datagram) -> Option<Note>
+        ensures { result ≡ refusal_of self.now.settings from (Ok datagram.now) }
     {
         if datagram.group != self.settings.group {
             Some(Note::OtherGroup)
@@ -87,16 +87,16 @@ impl Member {
     )
         requires { answer.old ≡ no_answer }
         ensures state { self.new
-            ≡ after self.old (moves_of_datagram self.old from bytes.now granted) }
+            ≡ after self.old (actions_of_datagram self.old from bytes.now granted) }
         ensures answer { answer.new
-            ≡ answer_by self.old (moves_of_datagram self.old from bytes.now granted) }
+            ≡ answer_by self.old (actions_of_datagram self.old from bytes.now granted) }
         ensures fit { list_all (is_fit self.new.settings.me self.new.number) answer.new.outs.items
             ≡ true }
         ensures few { length answer.new.outs.items ≤ self.old.settings.helpers + 2 }
     {
         match decode(bytes) {
             Err(fault) => answer.take_note(Note::BadDatagram(fault)),
-            Ok(datagram) => match self.refuse(from, &datagram) {
+            Ok(datagram) => match self.refusal_of(from, &datagram) {
                 Some(note) => answer.take_note(note),
                 None => self.receive(&datagram, granted, answer),
             },

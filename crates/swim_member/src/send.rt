@@ -5,9 +5,9 @@ ghost use Rattle.std.specs.List.{filter, list_all};
 ghost use Rattle.swim_member.specs.Fit.{may_say, is_fit};
 ghost use Rattle.swim_rules.specs.Rows.{is_eligible};
 ghost use Rattle.swim_gossip.specs.Queue.{raise_all};
-ghost use Rattle.swim_member.specs.State.{Took};
-ghost use Rattle.swim_member.specs.Readings.{gossips};
-ghost use Rattle.swim_member.specs.Events.{bits, limit, carried, datagram, send};
+ghost use Rattle.swim_member.specs.State.{SequenceTaken};
+ghost use Rattle.swim_member.specs.Readings.{carries_updates};
+ghost use Rattle.swim_member.specs.Events.{bits, limit, carried_updates, datagram, send};
 ghost use Rattle.swim_member.specs.Machinery.Steps.{apply};
 
 use crate::answer::Out;
@@ -54,10 +54,10 @@ impl Member {
 
     /// Gives what the next datagram carries, and counts the send.
     fn carry(&mut self) -> ArrayVec<Update, UPDATES_MAX>
-        ensures carried { result.items ≡ carried self.old }
+        ensures carried { result.items ≡ carried_updates self.old }
         ensures said { list_all (may_say self.new.settings.me self.new.number) result.items ≡ true }
         ensures state { self.new
-            ≡ record self.old { queue = map (raise_all (carried self.old)) self.old.queue } }
+            ≡ record self.old { queue = map (raise_all (carried_updates self.old)) self.old.queue } }
     {
         let limit = self.limit();
         self.buffer.pick(limit, UPDATES_MAX, &mut Visits::new())
@@ -66,7 +66,7 @@ impl Member {
     /// Takes the next sequence.
     pub(crate) fn take_seq(&mut self) -> u32
         ensures seq { result ≡ self.old.seq }
-        ensures state { self.new ≡ apply Took self.old }
+        ensures state { self.new ≡ apply SequenceTaken self.old }
     {
         let seq = self.seq;
         self.seq = seq.wrapping_add(1);
@@ -75,9 +75,9 @@ impl Member {
 
     /// A ping, a ping-req or an ack, with what waits.
     pub(crate) fn send(&mut self, to: Endpoint, kind: Kind, seq: u32, subject: Endpoint) -> Out
-        requires { gossips kind ≡ true }
+        requires { carries_updates kind ≡ true }
         ensures out { result
-            ≡ record { to = to; datagram = datagram self.old kind seq subject (carried self.old) } }
+            ≡ record { to = to; datagram = datagram self.old kind seq subject (carried_updates self.old) } }
         ensures state { self.new ≡ apply (send self.old to kind seq subject) self.old }
         ensures fit { is_fit self.new.settings.me self.new.number result ≡ true }
     {

@@ -4,7 +4,7 @@ ghost use Rattle.std.specs.Prelude.{◌≡◌, ◌≤◌, ◌+◌, ◌++◌, ◌
 ghost use Rattle.std.specs.List.{list_all};
 ghost use Rattle.swim_wire.specs.Spelling.{HasText};
 ghost use Rattle.swim_member.specs.State.{State};
-ghost use Rattle.swim_member.specs.Events.{Step, state_of, answer, number_after, wanted, moves, running_moves, stopped_moves, Show};
+ghost use Rattle.swim_member.specs.Events.{Step, state_of, answer, number_after, wanted, actions, running_actions, stopped_actions, Show};
 ghost use Rattle.swim_member.specs.Fit.{is_fit, AreAll, own_numbers_in};
 ghost use Rattle.swim_member.specs.Machinery.Steps.{after, answer_by, no_answer};
 
@@ -27,9 +27,9 @@ impl Member {
     /// Takes an event while running.
     fn act_running(&mut self, event: &Event, granted: u64, answer: &mut Answer)
         requires { answer.old ≡ no_answer }
-        ensures state { self.new ≡ after self.old (running_moves self.old event.now granted) }
+        ensures state { self.new ≡ after self.old (running_actions self.old event.now granted) }
         ensures answer { answer.new
-            ≡ answer_by self.old (running_moves self.old event.now granted) }
+            ≡ answer_by self.old (running_actions self.old event.now granted) }
         ensures fit { list_all (is_fit self.new.settings.me self.new.number) answer.new.outs.items
             ≡ true }
         ensures few { length answer.new.outs.items ≤ self.old.settings.helpers + 2 }
@@ -39,7 +39,7 @@ impl Member {
             Event::Datagram { from, bytes } => self.on_datagram(*from, bytes, granted, answer),
             Event::ReceiveFailed => answer.take_note(Note::ReceiveFailed),
             Event::SendFailed { count } => answer.take_note(Note::SendFailed(*count)),
-            Event::Join { peer } => self.on_wish_to_join(*peer, answer),
+            Event::Join { peer } => self.start_join(*peer, answer),
             Event::Leave => self.leave(answer),
             Event::Members { after } => self.show(*after, answer),
         }
@@ -48,7 +48,7 @@ impl Member {
     /// Takes an event after running: shows members, and nothing else.
     fn act_stopped(&self, event: &Event, answer: &mut Answer)
         requires { answer.old ≡ no_answer }
-        ensures answer { answer.new ≡ answer_by self.now (stopped_moves event.now) }
+        ensures answer { answer.new ≡ answer_by self.now (stopped_actions event.now) }
         ensures fit { list_all (is_fit self.now.settings.me self.now.number) answer.new.outs.items
             ≡ true }
         ensures few { length answer.new.outs.items ≤ self.now.settings.helpers + 2 }
@@ -62,8 +62,8 @@ impl Member {
     /// Takes an event.
     fn act(&mut self, event: &Event, granted: u64, answer: &mut Answer)
         requires { answer.old ≡ no_answer }
-        ensures state { self.new ≡ after self.old (moves self.old event.now granted) }
-        ensures answer { answer.new ≡ answer_by self.old (moves self.old event.now granted) }
+        ensures state { self.new ≡ after self.old (actions self.old event.now granted) }
+        ensures answer { answer.new ≡ answer_by self.old (actions self.old event.now granted) }
         ensures fit { list_all (is_fit self.new.settings.me self.new.number) answer.new.outs.items
             ≡ true }
         ensures few { length answer.new.outs.items ≤ self.old.settings.helpers + 2 }

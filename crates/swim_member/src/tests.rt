@@ -101,7 +101,7 @@ fn sends(member: &mut Member, event: &Event, wanted: Option<&Sent>) -> bool {
     };
     let mut as_wanted = answer.outs.len() == 1;
     for out in &answer.outs {
-        if out.datagram.has_text() {
+        if out.datagram.is_encodable() {
             let bytes = encode(&out.datagram);
             as_wanted = as_wanted
                 && out.to == endpoint(*to)

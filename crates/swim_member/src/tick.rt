@@ -5,7 +5,7 @@ ghost use Rattle.std.specs.List.{list_all};
 ghost use Rattle.swim_member.specs.Fit.{is_fit};
 ghost use Rattle.std.specs.Option.{option_to_list};
 ghost use Rattle.swim_rules.specs.Rows.{row_of};
-ghost use Rattle.swim_member.specs.Events.{Advance, Expire, Forget, Blame, Probe_next, moves_of_tick, tick_moves, perform, outs, notes, suspect_of, suspected, chosen, probe_of};
+ghost use Rattle.swim_member.specs.Events.{Advance, Expire, Forget, Blame, Probe_next, actions_of_tick, tick_actions, perform, outs, notes, suspect_of, suspect_target, chosen_row, probe_of};
 ghost use Rattle.swim_member.specs.Machinery.Steps.{apply_all, after, answer_by, no_answer};
 
 use crate::answer::{Answer, Out, note_down, send_out};
@@ -104,9 +104,9 @@ impl Member {
     /// Suspects a member whose row is Alive.
     fn suspect(&mut self, who: Endpoint) -> Option<Note>
         ensures state { self.new
-            ≡ apply_all (suspected self.old (row_of self.old.rows who)) self.old }
+            ≡ apply_all (suspect_target self.old (row_of self.old.rows who)) self.old }
         ensures note { option_to_list result
-            ≡ notes (suspected self.old (row_of self.old.rows who)) }
+            ≡ notes (suspect_target self.old (row_of self.old.rows who)) }
     {
         match self.table.get(who) {
             None => None,
@@ -121,7 +121,7 @@ impl Member {
 
     /// The eligible row that a word chooses, or none where there is none.
     fn chosen(&self, word: u32) -> Option<Row>
-        ensures { result ≡ chosen self.now word }
+        ensures { result ≡ chosen_row self.now word }
     {
         let count = self.table.count();
         if count == 0 {
@@ -187,8 +187,8 @@ impl Member {
     fn tick(&mut self, word: u32, answer: &mut Answer)
         requires time { self.old.time < LAST_TIME }
         requires nothing { answer.old ≡ no_answer }
-        ensures state { self.new ≡ after self.old (tick_moves word) }
-        ensures answer { answer.new ≡ answer_by self.old (tick_moves word) }
+        ensures state { self.new ≡ after self.old (tick_actions word) }
+        ensures answer { answer.new ≡ answer_by self.old (tick_actions word) }
         ensures fit { list_all (is_fit self.new.settings.me self.new.number) answer.new.outs.items
             ≡ true }
         ensures few { length answer.new.outs.items ≤ self.old.settings.helpers + 2 }
@@ -204,8 +204,8 @@ impl Member {
     /// Takes a tick, unless time is over.
     pub(crate) fn on_tick(&mut self, word: u32, answer: &mut Answer)
         requires { answer.old ≡ no_answer }
-        ensures state { self.new ≡ after self.old (moves_of_tick self.old word) }
-        ensures answer { answer.new ≡ answer_by self.old (moves_of_tick self.old word) }
+        ensures state { self.new ≡ after self.old (actions_of_tick self.old word) }
+        ensures answer { answer.new ≡ answer_by self.old (actions_of_tick self.old word) }
         ensures fit { list_all (is_fit self.new.settings.me self.new.number) answer.new.outs.items
             ≡ true }
         ensures few { length answer.new.outs.items ≤ self.old.settings.helpers + 2 }

@@ -12,7 +12,7 @@ use Rattle.swim_node.specs.declared.memory_link.Taken.{Taken as TakenBytes}
 use Rattle.swim_node.specs.Link.{took_by}
 use Rattle.swim_node.specs.History.{calls_by, is_by, steps, step_of, granted_from, lost_in}
 use Rattle.swim_node.specs.Sending.{taken_by, taken_of, lost_of, Sends, SendsAll}
-use Rattle.swim_node.specs.Owns.{owns_in, AreAtMost, AreAtLeast, greatest_with, more}
+use Rattle.swim_node.specs.Owns.{owns_in, AreAtMost, AreAtLeast, greatest_with, greater_of}
 
 pub calls_by-append : (c : ℕ) (xs ys : List Entry) → calls_by c (xs ++ ys) ≡ calls_by c xs ++ calls_by c ys
 calls_by-append c xs ys = filter-append (is_by c) xs ys
@@ -58,18 +58,18 @@ all-at_least n f (m ∷ ns) le h = let same = h.0 in (omega arith, all-at_least 
 
 pub greatest_with-append : (most : Option ℕ) (xs ys : List ℕ) → greatest_with most (xs ++ ys) ≡ greatest_with (greatest_with most xs) ys
 greatest_with-append most [] ys = refl
-greatest_with-append most (x ∷ xs) ys = greatest_with-append (more most x) xs ys
+greatest_with-append most (x ∷ xs) ys = greatest_with-append (greater_of most x) xs ys
 
 pub took_by-append : (xs ys : List TakenBytes) → took_by (xs ++ ys) ≡ took_by xs ++ took_by ys
 took_by-append [] ys = refl
 took_by-append (x ∷ xs) ys = ap (λ w. (x.to, x.bytes.items) ∷ w) (took_by-append xs ys)
 
-taken_by-append : (outs : List Out) (os : List Outcome) (more : List Out) (ps : List Outcome) → length os ≡ length outs → taken_by (outs ++ more) (os ++ ps) ≡ taken_by outs os ++ taken_by more ps
-taken_by-append [] [] more ps h = refl
-taken_by-append [] (o ∷ os) more ps h = absurd (omega (arith, h))
-taken_by-append (out ∷ outs) [] more ps h = absurd (omega (arith, h))
-taken_by-append (out ∷ outs) (Taken ∷ os) more ps h = ap (λ w. (out.to, spelling out.datagram) ∷ w) (taken_by-append outs os more ps (omega (arith, h)))
-taken_by-append (out ∷ outs) (Lost ∷ os) more ps h = taken_by-append outs os more ps (omega (arith, h))
+taken_by-append : (outs : List Out) (os : List Outcome) (greater_of : List Out) (ps : List Outcome) → length os ≡ length outs → taken_by (outs ++ greater_of) (os ++ ps) ≡ taken_by outs os ++ taken_by greater_of ps
+taken_by-append [] [] greater_of ps h = refl
+taken_by-append [] (o ∷ os) greater_of ps h = absurd (omega (arith, h))
+taken_by-append (out ∷ outs) [] greater_of ps h = absurd (omega (arith, h))
+taken_by-append (out ∷ outs) (Taken ∷ os) greater_of ps h = ap (λ w. (out.to, spelling out.datagram) ∷ w) (taken_by-append outs os greater_of ps (omega (arith, h)))
+taken_by-append (out ∷ outs) (Lost ∷ os) greater_of ps h = taken_by-append outs os greater_of ps (omega (arith, h))
 
 lost-append : (os ps : List Outcome) → lost_in (os ++ ps) ≡ lost_in os + lost_in ps
 lost-append [] ps = omega arith

@@ -1,18 +1,18 @@
 -- A life that goes on, and one that ends.
 use Rattle.std.proofs.Common.{◌≡◌, ℕ, List, [], ◌∷◌, ◌++◌, Option, refl, arith}
 use Rattle.std.specs.Option.{option_to_list}
-use Rattle.swim_disk.specs.Disk.{State}
+use Rattle.swim_disk.specs.Disk.{DiskState}
 use Rattle.swim_state.specs.Held.{Held}
 use Rattle.swim_member.specs.State.{State as Member}
 use Rattle.swim_node.specs.History.{Base, IsLegal}
 use Rattle.swim_node.specs.Owns.{owns, owns_in, AreAtLeast}
-use Rattle.swim_node.specs.Node.{NodeView, IsNode, rebased}
+use Rattle.swim_node.specs.Node.{NodeView, IsNode, next_base}
 use Rattle.swim_node.specs.Lives.{Era, AreJoined, numbers_in, era_of, GoesOn, EndsEra, MayEnd}
 use Rattle.swim_node.proofs.Lists.{at_least-append}
 
-joined-snoc : (start : Base) (eras : List Era) (era : Era) → AreJoined start eras era.base → IsLegal era.base era.entries → AreJoined start (eras ++ era ∷ []) (rebased era.base era.entries)
+joined-snoc : (start : Base) (eras : List Era) (era : Era) → AreJoined start eras era.base → IsLegal era.base era.entries → AreJoined start (eras ++ era ∷ []) (next_base era.base era.entries)
 joined-snoc start [] era joined legal = (joined, legal, refl)
-joined-snoc start (first ∷ eras) era joined legal = (joined.0, joined.1, joined-snoc (rebased first.base first.entries) eras era joined.2 legal)
+joined-snoc start (first ∷ eras) era joined legal = (joined.0, joined.1, joined-snoc (next_base first.base first.entries) eras era joined.2 legal)
 
 at_least-parts : (f : ℕ) (ms ns : List ℕ) → AreAtLeast f (ms ++ ns) → AreAtLeast f ms × AreAtLeast f ns
 at_least-parts f [] ns h = (tt {0}, h)
@@ -28,7 +28,7 @@ numbers-snoc f (first ∷ eras) era h k =
     at_least-append f (owns_in first.base.state.settings.me first.entries) _ parts.0 (numbers-snoc f eras era parts.1 k)
 
 -- a call that leaves base, owner and first number as they were
-pub goes_on : {D : Type 0} (state : D → State) (old new : NodeView D) → new.base ≡ old.base → new.owner ≡ old.owner → new.first ≡ old.first → GoesOn state old new
+pub goes_on : {D : Type 0} (state : D → DiskState) (old new : NodeView D) → new.base ≡ old.base → new.owner ≡ old.owner → new.first ≡ old.first → GoesOn state old new
 goes_on state old new base owner first settings limit opened eras h = record {
   same_owner = rw owner h.same_owner;
   joined = rw (base, first) h.joined;
@@ -37,7 +37,7 @@ goes_on state old new base owner first settings limit opened eras h = record {
 }
 
 -- a call that begins an era with what is now
-pub ends_era : {D : Type 0} (state : D → State) (old new : NodeView D) → new.base ≡ rebased old.base old.entries → new.owner ≡ old.owner → new.first ≡ old.first → IsLegal old.base old.entries → AreAtLeast old.first (owns old.base old.entries) → EndsEra state old new
+pub ends_era : {D : Type 0} (state : D → DiskState) (old new : NodeView D) → new.base ≡ next_base old.base old.entries → new.owner ≡ old.owner → new.first ≡ old.first → IsLegal old.base old.entries → AreAtLeast old.first (owns old.base old.entries) → EndsEra state old new
 ends_era state old new base owner first legal begun settings limit opened eras h = record {
   same_owner = rw owner h.same_owner;
   joined = rw (base, first) (joined-snoc _ eras (era_of old) h.joined legal);
@@ -46,7 +46,7 @@ ends_era state old new base owner first legal begun settings limit opened eras h
 }
 
 -- what a node keeps makes a life that ends one that was lived
-pub may_end : {D : Type 0} (state : D → State) (node : NodeView D) (member : Member) (ceiling : ℕ) (top : Option ℕ) → IsNode node.base node.entries node.first member ceiling top → Held node.owner (state node.disk) ceiling → MayEnd state node
+pub may_end : {D : Type 0} (state : D → DiskState) (node : NodeView D) (member : Member) (ceiling : ℕ) (top : Option ℕ) → IsNode node.base node.entries node.first member ceiling top → Held node.owner (state node.disk) ceiling → MayEnd state node
 may_end state node member ceiling top n held settings limit opened eras h = record {
   same_owner = h.same_owner;
   joined = h.joined;

@@ -14,7 +14,7 @@ use Rattle.swim_node.specs.declared.entry.Save.TheVariants.{Failed}
 use Rattle.swim_node.specs.History.{Base, IsLegal, IsNext, AreNext, Saves, steps, granted_of, state_after, status_at, answer_in, taken_in, lost_in}
 use Rattle.swim_node.specs.Machinery.Entering.{Steps}
 use Rattle.swim_node.specs.Sending.{HasTexts}
-use Rattle.swim_node.specs.Owns.{owns, owns_in, AreAtMost, AreAtLeast, greatest, greatest_with, more}
+use Rattle.swim_node.specs.Owns.{owns, owns_in, AreAtMost, AreAtLeast, greatest_of, greatest_with, greater_of}
 use Rattle.swim_node.specs.Node.{IsNode, IsTurn}
 use Rattle.swim_node.proofs.Wants.{number-grown}
 use Rattle.swim_node.proofs.Lists.{steps-append, granted_from-append, owns_in-append, at_most-append, at_most-more, at_least-append, all-at_most, all-at_least, greatest_with-append}
@@ -104,28 +104,28 @@ module _ (base : Base) (xs : List Entry) (e : Entry) (first : ℕ) (old new : St
         high = over;
         covers = rw owns-snoc (at_most-append high (owns base xs) _ (at_most-more low high (owns base xs) h.grows n.covers) (all-at_most new.number high _ under said));
         begun = rw owns-snoc (at_least-append first (owns base xs) _ n.begun (all-at_least new.number first _ over said));
-        most = ap greatest owns-snoc ∙ greatest_with-append None (owns base xs) (own_numbers_in base.state.settings.me e.outs.items) ∙ rw (n.most, you) refl;
+        most = ap greatest_of owns-snoc ∙ greatest_with-append None (owns base xs) (own_numbers_in base.state.settings.me e.outs.items) ∙ rw (n.most, you) refl;
         texts = All-append HasTexts xs (e ∷ []) n.texts (All-cons HasTexts e [] h.texts (All-nil HasTexts));
         short = n.short;
       }
 
-more-at_most : (g : ℕ) (o : Option ℕ) (n : ℕ) → AreAtMost g (option_to_list o) → n ≤ g → AreAtMost g (option_to_list (more o n))
+more-at_most : (g : ℕ) (o : Option ℕ) (n : ℕ) → AreAtMost g (option_to_list o) → n ≤ g → AreAtMost g (option_to_list (greater_of o n))
 more-at_most g None n h k = (k, tt {0})
 more-at_most g (Some m) n h k = let low = h.0 in (omega arith, tt {0})
 
 greatest-at_most : (g : ℕ) (o : Option ℕ) (ns : List ℕ) → AreAtMost g (option_to_list o) → AreAtMost g ns → AreAtMost g (option_to_list (greatest_with o ns))
 greatest-at_most g o [] h k = h
-greatest-at_most g o (n ∷ ns) h k = greatest-at_most g (more o n) ns (more-at_most g o n h k.0) k.1
+greatest-at_most g o (n ∷ ns) h k = greatest-at_most g (greater_of o n) ns (more-at_most g o n h k.0) k.1
 
-more-at_least : (f : ℕ) (o : Option ℕ) (n : ℕ) → f ≤ n → AreAtLeast f (option_to_list (more o n))
+more-at_least : (f : ℕ) (o : Option ℕ) (n : ℕ) → f ≤ n → AreAtLeast f (option_to_list (greater_of o n))
 more-at_least f None n k = (k, tt {0})
 more-at_least f (Some m) n k = (omega arith, tt {0})
 
 greatest-at_least : (f : ℕ) (o : Option ℕ) (ns : List ℕ) → AreAtLeast f (option_to_list o) → AreAtLeast f ns → AreAtLeast f (option_to_list (greatest_with o ns))
 greatest-at_least f o [] h k = h
-greatest-at_least f o (n ∷ ns) h k = greatest-at_least f (more o n) ns (more-at_least f o n k.0) k.1
+greatest-at_least f o (n ∷ ns) h k = greatest-at_least f (greater_of o n) ns (more-at_least f o n k.0) k.1
 
-greatest-one : (o : Option ℕ) → greatest (option_to_list o ++ []) ≡ o
+greatest-one : (o : Option ℕ) → greatest_of (option_to_list o ++ []) ≡ o
 greatest-one None = refl
 greatest-one (Some n) = refl
 

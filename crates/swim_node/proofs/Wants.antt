@@ -6,7 +6,7 @@ use Rattle.swim_wire.specs.declared.update.Update.{Update}
 use Rattle.swim_wire.specs.declared.update.UpdateKind.TheVariants.{Suspect}
 use Rattle.swim_wire.specs.declared.datagram.Datagram.{Datagram}
 use Rattle.swim_wire.specs.declared.fault.WireFault.{WireFault}
-use Rattle.swim_wire.specs.Decoding.{reading}
+use Rattle.swim_wire.specs.Decoding.{decoded}
 use Rattle.swim_rules.specs.Rows.{is_kind}
 use Rattle.swim_member.specs.declared.event.Event.{Event}
 use Rattle.swim_member.specs.declared.event.Event.TheVariants as event
@@ -14,14 +14,14 @@ use Rattle.swim_member.specs.declared.note.Note.{Note}
 use Rattle.swim_member.specs.declared.state.Phase.{Phase}
 use Rattle.swim_member.specs.declared.state.Phase.TheVariants.{Running, Left, Expelled}
 use Rattle.swim_member.specs.State.{State}
-use Rattle.swim_member.specs.Events.{asked, most_asked, confirms, wanted, wanted_in, wanted_by, refused, number_after}
+use Rattle.swim_member.specs.Events.{number_asked, greatest_asked, has_confirm, wanted, wanted_in, wanted_by, refusal_of, number_after}
 use Rattle.swim_wire.specs.declared.update.TheConstants.{LEAP, NUMBER_MAX}
 
 -- nothing, or above n
 abbrev IsAbove : ℕ → ℕ → Type 0
 IsAbove n w = (w ≡ 0) ⊎ (n < w)
 
-asked-above : (me n : ℕ) (u : Update) → IsAbove n (asked me n u)
+asked-above : (me n : ℕ) (u : Update) → IsAbove n (number_asked me n u)
 asked-above me n u =
     at (u.who == me && is_kind Suspect u.kind) (nat_le n u.number) (nat_le (u.number - n) LEAP) (nat_lt u.number NUMBER_MAX) refl
   where
@@ -38,12 +38,12 @@ max-above n v w (inl a) (inl b) = inl (omega arith)
 max-above n v w (inl a) (inr b) = inr (omega arith)
 max-above n v w (inr a) k = inr (omega arith)
 
-most-above : (me n : ℕ) (us : List Update) → IsAbove n (most_asked me n us)
+most-above : (me n : ℕ) (us : List Update) → IsAbove n (greatest_asked me n us)
 most-above me n [] = inl refl
-most-above me n (u ∷ us) = max-above n (asked me n u) (most_asked me n us) (asked-above me n u) (most-above me n us)
+most-above me n (u ∷ us) = max-above n (number_asked me n u) (greatest_asked me n us) (asked-above me n u) (most-above me n us)
 
 by-above : (s : State) (us : List Update) → IsAbove s.number (wanted_by s us)
-by-above s us = elim (cases_Bool (confirms s.settings.me us)) [ inl t ↦ rw t (inl refl) | inr f ↦ rw f (most-above s.settings.me s.number us) ]
+by-above s us = elim (cases_Bool (has_confirm s.settings.me us)) [ inl t ↦ rw t (inl refl) | inr f ↦ rw f (most-above s.settings.me s.number us) ]
 
 -- what is granted is not below
 grown : (n g w : ℕ) → IsAbove n w → n ≤ number_after (cond (w == 0) None (Some w)) g n
@@ -66,7 +66,7 @@ in-grown (Some n) phase s read g = omega arith
 -- the own number does not fall
 pub number-grown : (s : State) (e : Event) (g : ℕ) → s.number ≤ number_after (wanted s e) g s.number
 number-grown s (event.Tick word) g = omega arith
-number-grown s (event.Datagram from bytes) g = in-grown (refused s.settings from (reading bytes.items)) s.phase s (reading bytes.items) g
+number-grown s (event.Datagram from bytes) g = in-grown (refusal_of s.settings from (decoded bytes.items)) s.phase s (decoded bytes.items) g
 number-grown s event.ReceiveFailed g = omega arith
 number-grown s (event.SendFailed count) g = omega arith
 number-grown s (event.Join peer) g = omega arith

@@ -1,6 +1,6 @@
 -- The numbers, names and texts of the faults.
 use Rattle.std.specs.Prelude.{ℕ, List, codes}
-use Rattle.swim_wire.specs.Codes.{numbered}
+use Rattle.swim_wire.specs.Codes.{number_and_name}
 use Rattle.swim_state.specs.Fault.{number_of_recover, name_of_recover}
 use Rattle.swim_node.specs.declared.fault.ApplyFault.{ApplyFault}
 use Rattle.swim_node.specs.declared.fault.ApplyFault.TheVariants as applying
@@ -19,7 +19,7 @@ name_of_apply applying.EraFull = codes "EraFull"
 name_of_apply applying.OutOfTurn = codes "OutOfTurn"
 
 abbrev pub text_of_apply : ApplyFault → List ℕ
-text_of_apply fault = numbered (number_of_apply fault) (name_of_apply fault)
+text_of_apply fault = number_and_name (number_of_apply fault) (name_of_apply fault)
 
 -- a recovery's fault keeps its number, 1 to 6
 abbrev pub number_of_open : OpenFault → ℕ
@@ -34,4 +34,4 @@ name_of_open opening.Limit = codes "Limit"
 name_of_open opening.NoMemory = codes "NoMemory"
 
 abbrev pub text_of_open : OpenFault → List ℕ
-text_of_open fault = numbered (number_of_open fault) (name_of_open fault)
+text_of_open fault = number_and_name (number_of_open fault) (name_of_open fault)

@@ -7,7 +7,7 @@ use Rattle.swim_rules.specs.Rows.{is_of_kind}
 use Rattle.swim_member.specs.declared.answer.Answer.{Answer}
 use Rattle.swim_member.specs.declared.settings.Settings.{Settings}
 use Rattle.swim_member.specs.State.{State}
-use Rattle.swim_member.specs.Events.{Step, state_of, answer, wanted, fresh}
+use Rattle.swim_member.specs.Events.{Step, state_of, answer, wanted, new_state}
 use Rattle.swim_node.specs.declared.entry.Entry.{Entry}
 use Rattle.swim_node.specs.declared.entry.Status.{Status}
 use Rattle.swim_node.specs.declared.entry.Save.{Save}
@@ -26,7 +26,7 @@ pub record Base : Type 0 where
 -- a base at an opening
 abbrev pub fresh_base : Settings → ℕ → ℕ → Base
 fresh_base settings first limit =
-    record { state = fresh settings first; granted = first; past = None; limit = limit }
+    record { state = new_state settings first; granted = first; past = None; limit = limit }
 
 -- the member's part of an entry
 abbrev pub step_of : Entry → Step

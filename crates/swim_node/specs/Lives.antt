@@ -1,13 +1,13 @@
 -- Lives one after another, each opened on what became of the disk that the one before left.
 use Rattle.std.specs.Prelude.{◌≡◌, ℕ, ◌+◌, ◌<◌, ◌≤◌, List, [], ◌∷◌, ◌++◌}
-use Rattle.swim_disk.specs.Disk.{State, IsSettled}
+use Rattle.swim_disk.specs.Disk.{DiskState, IsSettled}
 use Rattle.swim_state.specs.declared.owner.Owner.{Owner}
 use Rattle.swim_state.specs.Held.{Held, Through, Covers}
 use Rattle.swim_member.specs.declared.settings.Settings.{Settings}
 use Rattle.swim_node.specs.declared.entry.Entry.{Entry}
 use Rattle.swim_node.specs.History.{Base, IsLegal, granted_of, fresh_base}
 use Rattle.swim_node.specs.Owns.{owns, owns_in, AreAtMost, AreAtLeast}
-use Rattle.swim_node.specs.Node.{NodeView, owner_of, rebased}
+use Rattle.swim_node.specs.Node.{NodeView, owner_of, next_base}
 
 -- an era that a rebase ended
 pub record Era : Type 0 where
@@ -32,7 +32,7 @@ abbrev pub AreJoined : Base → List Era → Base → Type 0
 AreJoined start [] base = base ≡ start
 AreJoined start (era ∷ eras) base = (era.base ≡ start)
     × IsLegal era.base era.entries
-    × AreJoined (rebased era.base era.entries) eras base
+    × AreJoined (next_base era.base era.entries) eras base
 
 -- the own numbers in the datagrams of these eras, taken or lost
 abbrev pub numbers_in : List Era → List ℕ
@@ -66,21 +66,21 @@ life_of settings limit opened eras node = record {
 
 -- what holds of a life while it goes on, beside what its node keeps: it was opened above
 -- all that was held, its eras are joined, and no number of an ended one is below its first
-pub record IsLiving {D : Type 0} (state : D → State) (owner : Owner) (life : Life D) : Type 0 where
+pub record IsLiving {D : Type 0} (state : D → DiskState) (owner : Owner) (life : Life D) : Type 0 where
   pub same_owner : owner ≡ owner_of life.settings
   pub joined : AreJoined (fresh_base life.settings life.first life.limit) life.eras life.base
   pub above : (b : ℕ) → Held owner (state life.opened) b → b < life.first
   pub begun : AreAtLeast life.first (numbers_in life.eras)
 
 -- a call of a node that ends no era: its life goes on
-abbrev pub GoesOn : {D : Type 0} → (D → State) → NodeView D → NodeView D → Type 0
+abbrev pub GoesOn : {D : Type 0} → (D → DiskState) → NodeView D → NodeView D → Type 0
 GoesOn {D} state old new =
     (settings : Settings) → (limit : ℕ) → (opened : D) → (eras : List Era)
     → IsLiving state old.owner (life_of settings limit opened eras old)
     → IsLiving state new.owner (life_of settings limit opened eras new)
 
 -- a call that ends an era: its life goes on, with one ended era more
-abbrev pub EndsEra : {D : Type 0} → (D → State) → NodeView D → NodeView D → Type 0
+abbrev pub EndsEra : {D : Type 0} → (D → DiskState) → NodeView D → NodeView D → Type 0
 EndsEra {D} state old new =
     (settings : Settings) → (limit : ℕ) → (opened : D) → (eras : List Era)
     → IsLiving state old.owner (life_of settings limit opened eras old)
@@ -88,7 +88,7 @@ EndsEra {D} state old new =
 
 -- what the node of a life told of it: `open` of its first number, `disk` at the end
 -- of each era of the numbers sent, and `disk` or `into_disk` of the disk that it left
-pub record IsLived {D : Type 0} (state : D → State) (owner : Owner) (life : Life D) : Type 0 where
+pub record IsLived {D : Type 0} (state : D → DiskState) (owner : Owner) (life : Life D) : Type 0 where
   pub same_owner : owner ≡ owner_of life.settings
   pub joined : AreJoined (fresh_base life.settings life.first life.limit) life.eras life.base
   pub legal : IsLegal life.base life.entries
@@ -100,7 +100,7 @@ pub record IsLived {D : Type 0} (state : D → State) (owner : Owner) (life : Li
 
 -- whichever life it is that goes on with this node, it is one
 -- that was lived, if it ends now and leaves the disk as it is
-abbrev pub MayEnd : {D : Type 0} → (D → State) → NodeView D → Type 0
+abbrev pub MayEnd : {D : Type 0} → (D → DiskState) → NodeView D → Type 0
 MayEnd {D} state node =
     (settings : Settings) → (limit : ℕ) → (opened : D) → (eras : List Era)
     → IsLiving state node.owner (life_of settings limit opened eras node)
@@ -109,7 +109,7 @@ MayEnd {D} state node =
 -- what may become of a disk with a floor of at least b: it stays as it was
 -- when the process is killed, a crash leaves one of its images, or one of
 -- the images of a call that was cut short, or a recovery is refused
-pub data Then (D : Type 0) (state : D → State) (owner : Owner) (b : ℕ) : D → D → Type 0 where
+pub data Then (D : Type 0) (state : D → DiskState) (owner : Owner) (b : ℕ) : D → D → Type 0 where
   Killed : (d : D) → Then D state owner b d d
   Crashed : (d e : D)
       → (state d).images (state e).content
@@ -123,7 +123,7 @@ pub data Then (D : Type 0) (state : D → State) (owner : Owner) (b : ℕ) : D �
   Refused : (d e : D) → Through (Covers owner b) (state d) (state e) → Then D state owner b d e
 
 -- all that became of it, one after another
-pub data Reached (D : Type 0) (state : D → State) (owner : Owner) (b : ℕ) : D → D → Type 0 where
+pub data Reached (D : Type 0) (state : D → DiskState) (owner : Owner) (b : ℕ) : D → D → Type 0 where
   Here : (d : D) → Reached D state owner b d d
   Next : (d e f : D)
       → Then D state owner b d e
@@ -132,13 +132,13 @@ pub data Reached (D : Type 0) (state : D → State) (owner : Owner) (b : ℕ) : 
 
 -- the first of these lives, if there is one, was
 -- opened on what became of the disk that this one left
-abbrev pub IsFollowed : {D : Type 0} → (D → State) → Owner → Life D → List (Life D) → Type 0
+abbrev pub IsFollowed : {D : Type 0} → (D → DiskState) → Owner → Life D → List (Life D) → Type 0
 IsFollowed state owner life [] = Unit {0}
 IsFollowed {D} state owner life (next ∷ lives) =
     Reached D state owner (ceiling_of life) life.left next.opened
 
 -- lives of one owner, each opened after the one before
-abbrev pub AreLives : {D : Type 0} → (D → State) → Owner → List (Life D) → Type 0
+abbrev pub AreLives : {D : Type 0} → (D → DiskState) → Owner → List (Life D) → Type 0
 AreLives state owner [] = Unit {0}
 AreLives state owner (life ∷ lives) =
     IsLived state owner life × IsFollowed state owner life lives × AreLives state owner lives

@@ -1,7 +1,7 @@
 -- A node, as its callers see it and as it keeps itself.
 use Rattle.std.specs.Prelude.{◌≡◌, ℕ, ◌+◌, ◌<◌, ◌≤◌, List, [], ◌∷◌, ◌++◌, length, All, Bool, Result}
 use Rattle.std.specs.Prelude.{Ok, Err, Option}
-use Rattle.swim_disk.specs.Disk.{State as DiskState}
+use Rattle.swim_disk.specs.Disk.{DiskState as DiskState}
 use Rattle.swim_state.specs.declared.owner.Owner.{Owner}
 use Rattle.swim_member.specs.State.{State}
 use Rattle.swim_member.specs.declared.event.Event.{Event}
@@ -23,7 +23,7 @@ use Rattle.swim_node.specs.History.{Base, IsLegal, state_after, granted_of, call
 use Rattle.swim_node.specs.History.{lost_in}
 use Rattle.swim_node.specs.Saving.{Grants, Fails, broken_after}
 use Rattle.swim_node.specs.Sending.{HasTexts}
-use Rattle.swim_node.specs.Owns.{owns, greatest, AreAtMost, AreAtLeast}
+use Rattle.swim_node.specs.Owns.{owns, greatest_of, AreAtMost, AreAtLeast}
 
 -- what a contract sees of a node
 pub record NodeView (D : Type 0) : Type 0 where
@@ -53,7 +53,7 @@ pub record IsNode (base : Base) (entries : List Entry) (first : ℕ) (s : State)
   pub high : first ≤ s.number
   pub covers : AreAtMost ceiling (owns base entries)
   pub begun : AreAtLeast first (owns base entries)
-  pub most : greatest (owns base entries) ≡ top
+  pub most : greatest_of (owns base entries) ≡ top
   pub texts : All HasTexts entries
   pub short : base.limit ≤ LIMIT_MAX
 
@@ -93,8 +93,8 @@ disk_of (Ok node) = node.disk
 disk_of (Err refused) = refused.0
 
 -- the entry of a call that did this, with the status after it
-abbrev pub entered : Tag → Event → Done → Status → Entry
-entered tag event done status = record {
+abbrev pub entry_with : Tag → Event → Done → Status → Entry
+entry_with tag event done status = record {
   tag = tag;
   event = event;
   granted = done.granted;
@@ -130,10 +130,10 @@ pub record Added {D : Type 0} (keeps : Type 0) (state : D → DiskState) (old ne
       (own_numbers_in old.base.state.settings.me e.outs.items)
 
 -- the state after an era as the base of the next
-abbrev pub rebased : Base → List Entry → Base
-rebased base entries = record {
+abbrev pub next_base : Base → List Entry → Base
+next_base base entries = record {
   state = state_after base entries;
   granted = granted_of base entries;
-  past = greatest (owns base entries);
+  past = greatest_of (owns base entries);
   limit = base.limit;
 }

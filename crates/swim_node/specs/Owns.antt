@@ -24,15 +24,15 @@ AreAtLeast f [] = Unit {0}
 AreAtLeast f (n ∷ ns) = (f ≤ n) × AreAtLeast f ns
 
 -- the greater of a number, if there is one, and another
-abbrev pub more : Option ℕ → ℕ → Option ℕ
-more None n = Some n
-more (Some m) n = Some (max n m)
+abbrev pub greater_of : Option ℕ → ℕ → Option ℕ
+greater_of None n = Some n
+greater_of (Some m) n = Some (max n m)
 
 -- the greatest of these numbers and of the one before, if there is one
 abbrev pub greatest_with : Option ℕ → List ℕ → Option ℕ
 greatest_with most [] = most
-greatest_with most (n ∷ ns) = greatest_with (more most n) ns
+greatest_with most (n ∷ ns) = greatest_with (greater_of most n) ns
 
 -- the greatest number, if there is one
-abbrev pub greatest : List ℕ → Option ℕ
-greatest ns = greatest_with None ns
+abbrev pub greatest_of : List ℕ → Option ℕ
+greatest_of ns = greatest_with None ns

@@ -1,6 +1,6 @@
 -- What a save does to a store.
 use Rattle.std.specs.Prelude.{◌≡◌, ◌≢◌, ◌⊎◌, ℕ, ◌+◌, ◌≤◌, ◌^◌, Bool, true, false, Option, Some}
-use Rattle.swim_disk.specs.Disk.{State as DiskState, Rests}
+use Rattle.swim_disk.specs.Disk.{DiskState as DiskState, Rests}
 use Rattle.swim_state.specs.File.{floor}
 use Rattle.swim_state.specs.Store.{StoreView}
 use Rattle.swim_state.specs.Held.{Held, HeldSince, Through, Covers}

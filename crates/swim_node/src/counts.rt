@@ -5,7 +5,7 @@ ghost use Rattle.std.specs.List.{filter};
 ghost use Rattle.swim_member.specs.declared.answer.TheConstants.{OUTS_MAX};
 ghost use Rattle.swim_member.specs.Fit.{own_numbers_in};
 ghost use Rattle.swim_node.specs.History.{lost_in, taken_in};
-ghost use Rattle.swim_node.specs.Owns.{greatest_with, more};
+ghost use Rattle.swim_node.specs.Owns.{greatest_with, greater_of};
 
 use crate::Outcome;
 use swim_member::Out;
@@ -39,7 +39,7 @@ pub(crate) fn count_lost(outcomes: &[Outcome]) -> usize
 
 /// The greater of a number, if there is one, and another.
 fn greater(most: Option<u64>, number: u64) -> Option<u64>
-    ensures { result ≡ more most number }
+    ensures { result ≡ greater_of most number }
 {
     match most {
         None => Some(number),

@@ -96,9 +96,9 @@ impl MemoryLink {
 
 impl Link for MemoryLink {
     ghost use Rattle.std.specs.Prelude.{length, map, true, IsErr, MatchResult};
-    ghost use Rattle.swim_node.specs.Link.{numbered, took_by};
+    ghost use Rattle.swim_node.specs.Link.{link_number, took_by};
 
-    ghost name = { λ l. numbered l.number };
+    ghost name = { λ l. link_number l.number };
 
     ghost tells = { Unit {0} };
 

@@ -6,7 +6,7 @@ ghost use Rattle.swim_node.specs.declared.opening.TheConstants.{LIMIT_MAX};
 ghost use Rattle.swim_node.specs.History.{calls_by, status_at, status_of, IsLegal, granted_of};
 ghost use Rattle.swim_node.specs.Owns.{owns, AreAtMost, AreAtLeast};
 ghost use Rattle.swim_node.specs.Lives.{EndsEra, GoesOn, MayEnd};
-ghost use Rattle.swim_node.specs.Node.{Added, IsTurn, Refused, base_of, entered, rebased};
+ghost use Rattle.swim_node.specs.Node.{Added, IsTurn, Refused, base_of, entry_with, next_base};
 ghost use Rattle.swim_node.specs.Sending.{Sends, HasTexts};
 ghost use Rattle.swim_member.specs.Events.{state_of};
 
@@ -84,7 +84,7 @@ fn base_at(member: &Member, granted: u64, past: Option<u64>, limit: u32) -> Base
 
 /// The entry of a call that did this, with the status after it.
 fn entry_of(tag: Tag, event: Event, done: Done, status: Status) -> Entry
-    ensures { result ≡ entered tag event done status }
+    ensures { result ≡ entry_with tag event done status }
 {
     let reply = Reply {
         status,
@@ -196,7 +196,7 @@ impl<D: Disk> Node<D> {
 
     /// Begins an era: what is now becomes the base, the journal is empty, and turns begin at 1 again.
     pub fn rebase(&mut self)
-        ensures base { self.new.base ≡ rebased self.old.base self.old.entries }
+        ensures base { self.new.base ≡ next_base self.old.base self.old.entries }
         ensures settings { self.new.base.state.settings ≡ self.old.base.state.settings }
         ensures entries { self.new.entries ≡ [] }
         ensures disk { self.new.disk ≡ self.old.disk }
@@ -219,7 +219,7 @@ impl<D: Disk> Node<D> {
         ensures era { result ≡ record { base = self.old.base; entries = self.old.entries } }
         ensures legal { IsLegal self.old.base self.old.entries }
         ensures begun { AreAtLeast self.old.first (owns self.old.base self.old.entries) }
-        ensures base { self.new.base ≡ rebased self.old.base self.old.entries }
+        ensures base { self.new.base ≡ next_base self.old.base self.old.entries }
         ensures settings { self.new.base.state.settings ≡ self.old.base.state.settings }
         ensures entries { self.new.entries ≡ [] }
         ensures disk { self.new.disk ≡ self.old.disk }

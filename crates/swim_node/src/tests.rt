@@ -68,7 +68,7 @@ fn ping(rt: &impl Abort, seq: u32, updates: &[Update]) -> Event {
         subject: Cursor::at(endpoint(rt, 1)),
         updates: carried,
     };
-    assert!(rt; datagram.has_text());
+    assert!(rt; datagram.is_encodable());
     let mut bytes = ArrayVec::new();
     assert!(rt; bytes.try_extend_from_slice(&encode(&datagram)).is_ok());
     Event::Datagram { from, bytes }

@@ -6,7 +6,7 @@ use Rattle.std.proofs.lemmas.Bool.{ne_eqb, eqb-true}
 use Rattle.swim_wire.specs.declared.update.UpdateKind.TheVariants.{Suspect, Confirm}
 use Rattle.swim_rules.specs.declared.table.Row.{Row}
 use Rattle.swim_rules.specs.Rules.{top, Told, is_about, row, rows}
-use Rattle.swim_rules.specs.Rows.{Members, AreAbove, AreInOrder, row_of, answer_to, hear_rows, hear_option, remove_option, confirmed, is_due, told_option, untold_option}
+use Rattle.swim_rules.specs.Rows.{Members, AreAbove, AreInOrder, row_of, answer_to, hear_rows, hear_option, remove_option, confirm_of, is_due, told_option, untold_option}
 use Rattle.swim_rules.specs.Calls.{Call, Hears, Expires, Forgets, table_after, told_after, table_after_all, told_after_all}
 use Rattle.swim_rules.proofs.Top.{top_by-best}
 use Rattle.swim_rules.proofs.Tables.{order-above, order-remove, same_rows}
@@ -33,9 +33,9 @@ pub rows-begin : (base : List Row) → AreInOrder base → rows base [] ≡ base
 rows-begin base h =
     same_rows (rows base []) base (order-rows base []) h (λ z. row_of-rows base [] z ∙ top-alone base z h)
 
-order-heard : (table : List Row) (o : Option Row) (now : ℕ) → AreInOrder table → AreInOrder (hear_option table (option_map confirmed o) now)
+order-heard : (table : List Row) (o : Option Row) (now : ℕ) → AreInOrder table → AreInOrder (hear_option table (option_map confirm_of o) now)
 order-heard table None now h = h
-order-heard table (Some r) now h = order-hear table (confirmed r) now h
+order-heard table (Some r) now h = order-hear table (confirm_of r) now h
 
 order-removed : (table : List Row) (o : Option Row) → AreInOrder table → AreInOrder (remove_option table (option_map (λ r. r.update.who) o))
 order-removed table None h = h
@@ -46,7 +46,7 @@ order-call table (Hears u now) h = order-hear table.rows u now h
 order-call table (Expires now) h = order-heard table.rows (find (is_due Suspect table.suspect now) table.rows) now h
 order-call table (Forgets now) h = order-removed table.rows (find (is_due Confirm table.forget now) table.rows) h
 
-tops-expired : (test : Row → Bool) (old : List Row) (now : ℕ) → AreInOrder old → (o : Option Row) → find test old ≡ o → (base : List Row) (told : List Told) → rows base told ≡ old → rows base (told_option told (option_map confirmed o) now) ≡ hear_option old (option_map confirmed o) now
+tops-expired : (test : Row → Bool) (old : List Row) (now : ℕ) → AreInOrder old → (o : Option Row) → find test old ≡ o → (base : List Row) (told : List Told) → rows base told ≡ old → rows base (told_option told (option_map confirm_of o) now) ≡ hear_option old (option_map confirm_of o) now
 tops-expired test old now h None e base told k = k
 tops-expired test old now h (Some r) e base told k = tops-found test old r now h e base told k
 

@@ -104,12 +104,12 @@ abbrev pub is_due : UpdateKind → ℕ → ℕ → Row → Bool
 is_due kind ticks now row = is_kind kind row.update.kind && nat_le ticks (now - row.since)
 
 -- the Confirm that a Suspect becomes
-abbrev pub confirmed : Row → Update
-confirmed row = record { kind = Confirm; who = row.update.who; number = row.update.number }
+abbrev pub confirm_of : Row → Update
+confirm_of row = record { kind = Confirm; who = row.update.who; number = row.update.number }
 
 -- the first Suspect that is due, as a Confirm
-abbrev pub expired : Members → ℕ → Option Update
-expired table now = option_map confirmed (find (is_due Suspect table.suspect now) table.rows)
+abbrev pub due_confirm : Members → ℕ → Option Update
+due_confirm table now = option_map confirm_of (find (is_due Suspect table.suspect now) table.rows)
 
 -- the rows after an update, if there is one
 abbrev pub hear_option : List Row → Option Update → ℕ → List Row
@@ -117,8 +117,8 @@ hear_option rows None now = rows
 hear_option rows (Some u) now = hear_rows rows u now
 
 -- the first member whose Confirm is due to be forgotten
-abbrev pub forgotten : Members → ℕ → Option ℕ
-forgotten table now =
+abbrev pub due_to_forget : Members → ℕ → Option ℕ
+due_to_forget table now =
     option_map (λ r. r.update.who) (find (is_due Confirm table.forget now) table.rows)
 
 -- the rows without those of this member, if there is one to remove

@@ -1,12 +1,12 @@
 //! The table of the other members.
 
 ghost use Rattle.std.specs.Prelude.{◌≡◌, ◌≢◌, ℕ, ◌+◌, ◌<◌, ◌≤◌, IsTrue, List, length, MatchResult, true, slice_get, slice_set, slice_index_or, nat_le, []};
-ghost use Rattle.swim_wire.specs.Blank.{blank};
+ghost use Rattle.swim_wire.specs.Filler.{filler};
 ghost use Rattle.std.specs.List.{find, filter, insert, remove, position_or_len};
 ghost use Rattle.std.specs.Option.{option_map, option_copied};
 ghost use Rattle.swim_rules.specs.Rules.{Told, row, rows};
-ghost use Rattle.swim_rules.specs.Rows.{AreInOrder, row_of, answer_to, hear_rows, told_with, is_due, is_eligible, is_of_kind, expired, hear_option, forgotten, remove_option, remove_row, confirmed, is_after, told_option, untold_option, IsTable};
-ghost use Rattle.swim_rules.specs.Machinery.Places.{IsRowAt, IsGapAt, place, is_there};
+ghost use Rattle.swim_rules.specs.Rows.{AreInOrder, row_of, answer_to, hear_rows, told_with, is_due, is_eligible, is_of_kind, due_confirm, hear_option, due_to_forget, remove_option, remove_row, confirm_of, is_after, told_option, untold_option, IsTable};
+ghost use Rattle.swim_rules.specs.Machinery.Places.{IsRowAt, IsGapAt, row_place, is_there};
 
 use crate::overriding::overrides;
 use arrayvec::ArrayVec;
@@ -27,7 +27,7 @@ pub struct Row {
 
 impl Default for Row {
     fn default() -> Row
-        ensures { result ≡ record { update = blank; since = 0 } }
+        ensures { result ≡ record { update = filler; since = 0 } }
     {
         Row {
             update: Update::default(),
@@ -82,7 +82,7 @@ impl Model for Table {
 /// How many rows stand before `who`.
 fn place_of(rows: &[Row], who: Endpoint) -> usize
     requires { AreInOrder rows.now }
-    ensures { result ≡ place who rows.now }
+    ensures { result ≡ row_place who rows.now }
 {
     rows.partition_point(|row| row.update.who < who)
 }
@@ -130,7 +130,7 @@ fn is_row_due(row: &Row, kind: UpdateKind, ticks: u64, now: u64) -> bool
 
 /// The Confirm that a Suspect becomes.
 fn confirm(row: &Row) -> Update
-    ensures { result ≡ confirmed row.now }
+    ensures { result ≡ confirm_of row.now }
 {
     Update {
         kind: UpdateKind::Confirm,
@@ -325,9 +325,9 @@ impl Table {
     /// Turns the first Suspect that is due at the tick `now`, in the order of the members, into a
     /// Confirm with its number, and gives that, or none where no Suspect is due.
     pub fn expire(&mut self, now: u64) -> Option<Update>
-        ensures answer { result ≡ expired self.old now }
+        ensures answer { result ≡ due_confirm self.old now }
         ensures rows { self.new
-            ≡ record self.old { rows = hear_option self.old.rows (expired self.old now) now } }
+            ≡ record self.old { rows = hear_option self.old.rows (due_confirm self.old now) now } }
         ensures kept { IsTable self.new }
         ensures tops { (base : List Row) (told : List Told) → rows base told ≡ self.old.rows
             → rows base (told_option told result now) ≡ self.new.rows }
@@ -344,9 +344,9 @@ impl Table {
     /// Forgets the first member whose Confirm is due at the tick `now`, in the order of the members,
     /// and gives it, or none where no Confirm is due.
     pub fn forget(&mut self, now: u64) -> Option<Endpoint>
-        ensures answer { result ≡ forgotten self.old now }
+        ensures answer { result ≡ due_to_forget self.old now }
         ensures rows { self.new
-            ≡ record self.old { rows = remove_option self.old.rows (forgotten self.old now) } }
+            ≡ record self.old { rows = remove_option self.old.rows (due_to_forget self.old now) } }
         ensures kept { IsTable self.new }
         ensures tops { (base : List Row) (told : List Told) → rows base told ≡ self.old.rows
             → rows base (untold_option told result) ≡ self.new.rows }

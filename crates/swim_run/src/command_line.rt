@@ -9,7 +9,7 @@ const NUMBER_LIMIT: u64 = 9_223_372_036_854_775_807;
 
 /// What the words ask for.
 #[derive(Clone, Copy, Debug, PartialEq, Eq)]
-pub enum Asked<'a> {
+pub enum Subcommand<'a> {
     /// A new state file.
     Init {
         /// Its path.
@@ -114,29 +114,29 @@ fn text<'a>(matches: &ArgMatches<'a>, id: &str) -> &'a str {
 }
 
 /// What the matched words ask for.
-fn chosen<'a>(matches: &ArgMatches<'a>) -> Option<Asked<'a>> {
+fn chosen<'a>(matches: &ArgMatches<'a>) -> Option<Subcommand<'a>> {
     match matches.subcommand()? {
-        ("init", words) => Some(Asked::Init {
+        ("init", words) => Some(Subcommand::Init {
             file: text(words, "file"),
             group: words.get_one::<u64>("group")?,
             me: text(words, "me"),
             ceiling: words.get_one::<u64>("ceiling")?,
         }),
-        ("run", words) => Some(Asked::Run {
+        ("run", words) => Some(Subcommand::Run {
             config: text(words, "config"),
         }),
-        ("ctl", words) => Some(Asked::Ctl {
+        ("ctl", words) => Some(Subcommand::Ctl {
             to: text(words, "addr"),
             line: text(words, "line"),
         }),
-        ("play", _) => Some(Asked::Play),
+        ("play", _) => Some(Subcommand::Play),
         _ => None,
     }
 }
 
 /// What the words ask for, the program's name among them; none where they ask for nothing that is known. An error is
 /// help, a version or a mistake, with its text; want of memory is of kind `OutOfMemory`.
-pub fn read_words<'a>(alloc: Global, words: &'a [String]) -> Result<Option<Asked<'a>>, Error> {
+pub fn read_words<'a>(alloc: Global, words: &'a [String]) -> Result<Option<Subcommand<'a>>, Error> {
     let command = command(alloc)?;
     let matches = command.try_get_matches_from(words)?;
     Ok(chosen(&matches))

@@ -20,7 +20,7 @@ mod sockets;
 mod stamped;
 
 pub use asking::ask;
-pub use command_line::{Asked, read_words};
+pub use command_line::{Subcommand, read_words};
 pub use ending::Ending;
 pub use making::make;
 pub use running::run;

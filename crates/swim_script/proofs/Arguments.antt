@@ -16,7 +16,7 @@ use Rattle.swim_script.specs.declared.keyword.Keyword.{Keyword}
 use Rattle.swim_script.specs.declared.keyword.Keyword.TheVariants as keyword
 use Rattle.swim_words.specs.Words.{No, Lacks, spaced, SaysEndpoint, SaysNumber, endpoint_text}
 use Rattle.swim_script.specs.Bytes.{IsBytes, IsCut}
-use Rattle.swim_script.specs.Commands.{BeginsWith, IsFailure, IsCall, IsKeyword, IsSetting, Says, SaysChoice, SaysFailure, keyword_text, line, setting_text}
+use Rattle.swim_script.specs.Commands.{BeginsWith, IsFailure, IsCall, IsKeyword, IsSetting, Says, SaysChoice, SaysFailure, keyword_text, line_of, setting_text}
 use Rattle.swim_script.proofs.Keywords.{keyword_lacks, not_alone, other_line, same_line, setting_lacks}
 use Rattle.swim_words.proofs.Splits.{lacks_byte, no_split, same_split}
 use Rattle.swim_words.proofs.Digits.{lacks_decimal}
@@ -54,12 +54,12 @@ Takes keyword.Overwrite args = IsOver args
 Takes _ args = Unit {0}
 
 -- what a line's own keyword takes is what another takes that the line begins with
-along : (j k : Keyword) (args others : List ℕ) → line j args ≡ line k others → Takes k others → Takes j args
+along : (j k : Keyword) (args others : List ℕ) → line_of j args ≡ line_of k others → Takes k others → Takes j args
 along j k args others is takes =
     let same = same_line j k args others is in
     subst (λ (i : Keyword). Takes i args) (sym same.0) (subst (Takes k) (sym same.1) takes)
 
-takes : (j : Keyword) (args : List ℕ) (command : Command) → Says (line j args) command → Takes j args
+takes : (j : Keyword) (args : List ℕ) (command : Command) → Says (line_of j args) command → Takes j args
 takes j args (Group n) says = along j keyword.Group args (decimal n) says.0 tt
 takes j args (Me e) says = along j keyword.Me args (endpoint_text e) says.0 tt
 takes j args (Set s n) says = along j keyword.Set args (spaced (setting_text s) (decimal n)) says.0 (record { setting = s; n = n; small = says.1; is = refl })
@@ -87,12 +87,12 @@ takes j args Slots says = absurd (not_alone j keyword.Slots args says)
 takes j args Rebase says = absurd (not_alone j keyword.Rebase args says)
 
 -- where the arguments have no space, or the word before it is none of those that may stand there, no command is said
-pub set_uncut : (args : List ℕ) → Lacks 32 args → No (Says (line keyword.Set args))
+pub set_uncut : (args : List ℕ) → Lacks 32 args → No (Says (line_of keyword.Set args))
 set_uncut args lacks command says =
     let is = takes keyword.Set args command says in
     no_split 32 (setting_text is.setting) (decimal is.n) args lacks is.is
 
-pub set_none : (args word number : List ℕ) → args ≡ spaced word number → Lacks 32 word → No (IsSetting word) → No (Says (line keyword.Set args))
+pub set_none : (args word number : List ℕ) → args ≡ spaced word number → Lacks 32 word → No (IsSetting word) → No (Says (line_of keyword.Set args))
 set_none args word number cut lacks none command says =
     let is = takes keyword.Set args command says in
     none is.setting (same_split 32 args word number (setting_text is.setting) (decimal is.n) lacks cut (setting_lacks is.setting) is.is).0
@@ -106,7 +106,7 @@ record IsFailing (args : List ℕ) (f : Failure) : Type 0 where
   call : IsCall k
   failure : IsFailure word k f
 
-failing : (args : List ℕ) (f : Failure) → SaysFailure (line keyword.Fail args) f → IsFailing args f
+failing : (args : List ℕ) (f : Failure) → SaysFailure (line_of keyword.Fail args) f → IsFailing args f
 failing args (failure.Read k) says = record { word = codes "read"; k = k; is = (same_line keyword.Fail keyword.Fail args _ says.0).1; one = lacks_byte 32 (codes "read") refl; call = says.1; failure = (refl, refl) }
 failing args (failure.Write k) says = record { word = codes "write"; k = k; is = (same_line keyword.Fail keyword.Fail args _ says.0).1; one = lacks_byte 32 (codes "write") refl; call = says.1; failure = (refl, refl) }
 failing args (failure.Sync k) says = record { word = codes "sync"; k = k; is = (same_line keyword.Fail keyword.Fail args _ says.0).1; one = lacks_byte 32 (codes "sync") refl; call = says.1; failure = (refl, refl) }
@@ -114,18 +114,18 @@ failing args (failure.Send k) says = record { word = codes "send"; k = k; is = (
 failing args (failure.TornWrite k) says = absurd (other_line keyword.Fail keyword.Tear args _ (λ same. cc) says.0)
 failing args (failure.Halt k) says = absurd (other_line keyword.Fail keyword.Halt args _ (λ same. cc) says.0)
 
-pub fail_uncut : (args : List ℕ) → Lacks 32 args → No (SaysFailure (line keyword.Fail args))
+pub fail_uncut : (args : List ℕ) → Lacks 32 args → No (SaysFailure (line_of keyword.Fail args))
 fail_uncut args lacks f says = let is = failing args f says in no_split 32 is.word (decimal is.k) args lacks is.is
 
 fail_parts : (args word number : List ℕ) (f : Failure) → args ≡ spaced word number → Lacks 32 word → (is : IsFailing args f) → (word ≡ is.word) × (number ≡ decimal is.k)
 fail_parts args word number f cut lacks is = same_split 32 args word number is.word (decimal is.k) lacks cut is.one is.is
 
-pub fail_number : (args word number : List ℕ) → args ≡ spaced word number → Lacks 32 word → No (SaysNumber number 1 1000000) → No (SaysFailure (line keyword.Fail args))
+pub fail_number : (args word number : List ℕ) → args ≡ spaced word number → Lacks 32 word → No (SaysNumber number 1 1000000) → No (SaysFailure (line_of keyword.Fail args))
 fail_number args word number cut lacks none f says =
     let is = failing args f says in
     none is.k (record { says = (fail_parts args word number f cut lacks is).1; at_least = is.call.0; at_most = is.call.1 })
 
-pub fail_other : (args word number : List ℕ) (k : ℕ) → args ≡ spaced word number → Lacks 32 word → SaysNumber number 1 1000000 k → k < 2 ^ 32 → No (IsFailure word k) → No (SaysFailure (line keyword.Fail args))
+pub fail_other : (args word number : List ℕ) (k : ℕ) → args ≡ spaced word number → Lacks 32 word → SaysNumber number 1 1000000 k → k < 2 ^ 32 → No (IsFailure word k) → No (SaysFailure (line_of keyword.Fail args))
 fail_other args word number k cut lacks is small none f says =
     let call = failing args f says in
     let parts = fail_parts args word number f cut lacks call in
@@ -134,7 +134,7 @@ fail_other args word number k cut lacks is small none f says =
     none f (subst (λ (n : ℕ). IsFailure word n f) (sym same) (subst (λ (w : List ℕ). IsFailure w call.k f) (sym parts.0) call.failure))
 
 -- the write that is to be torn
-torn : (args : List ℕ) (f : Failure) → SaysFailure (line keyword.Tear args) f → (k : ℕ) × (args ≡ spaced (codes "write") (decimal k))
+torn : (args : List ℕ) (f : Failure) → SaysFailure (line_of keyword.Tear args) f → (k : ℕ) × (args ≡ spaced (codes "write") (decimal k))
 torn args (failure.TornWrite k) says = (k, (same_line keyword.Tear keyword.Tear args _ says.0).1)
 torn args (failure.Read k) says = absurd (other_line keyword.Tear keyword.Fail args _ (λ same. cc) says.0)
 torn args (failure.Write k) says = absurd (other_line keyword.Tear keyword.Fail args _ (λ same. cc) says.0)
@@ -142,15 +142,15 @@ torn args (failure.Sync k) says = absurd (other_line keyword.Tear keyword.Fail a
 torn args (failure.Send k) says = absurd (other_line keyword.Tear keyword.Fail args _ (λ same. cc) says.0)
 torn args (failure.Halt k) says = absurd (other_line keyword.Tear keyword.Halt args _ (λ same. cc) says.0)
 
-pub tear_uncut : (args : List ℕ) → Lacks 32 args → No (SaysFailure (line keyword.Tear args))
+pub tear_uncut : (args : List ℕ) → Lacks 32 args → No (SaysFailure (line_of keyword.Tear args))
 tear_uncut args lacks f says = let is = torn args f says in no_split 32 (codes "write") (decimal is.0) args lacks is.1
 
-pub tear_other : (args word number : List ℕ) → args ≡ spaced word number → Lacks 32 word → word ≢ codes "write" → No (SaysFailure (line keyword.Tear args))
+pub tear_other : (args word number : List ℕ) → args ≡ spaced word number → Lacks 32 word → word ≢ codes "write" → No (SaysFailure (line_of keyword.Tear args))
 tear_other args word number cut lacks other f says =
     let is = torn args f says in
     other (same_split 32 args word number (codes "write") (decimal is.0) lacks cut (lacks_byte 32 (codes "write") refl) is.1).0
 
-pub received_uncut : (args : List ℕ) → Lacks 32 args → No (Says (line keyword.Receive args))
+pub received_uncut : (args : List ℕ) → Lacks 32 args → No (Says (line_of keyword.Receive args))
 received_uncut args lacks command says =
     let is = takes keyword.Receive args command says in
     no_split 32 (endpoint_text is.from) is.word args lacks is.is
@@ -159,17 +159,17 @@ received_parts : (args from word : List ℕ) → args ≡ spaced from word → L
 received_parts args from word cut lacks is =
     same_split 32 args from word (endpoint_text is.from) is.word lacks cut (endpoint_lacks is.from is.sender) is.is
 
-pub received_from : (args from word : List ℕ) → args ≡ spaced from word → Lacks 32 from → No (SaysEndpoint from) → No (Says (line keyword.Receive args))
+pub received_from : (args from word : List ℕ) → args ≡ spaced from word → Lacks 32 from → No (SaysEndpoint from) → No (Says (line_of keyword.Receive args))
 received_from args from word cut lacks none command says =
     let is = takes keyword.Receive args command says in
     none is.from (record { says = (received_parts args from word cut lacks is).0; endpoint = is.sender })
 
-pub received_hex : (args from word : List ℕ) → args ≡ spaced from word → Lacks 32 from → (command : Command) → Says (line keyword.Receive args) command → (bytes : List ℕ) × IsCut word bytes
+pub received_hex : (args from word : List ℕ) → args ≡ spaced from word → Lacks 32 from → (command : Command) → Says (line_of keyword.Receive args) command → (bytes : List ℕ) × IsCut word bytes
 received_hex args from word cut lacks command says =
     let is = takes keyword.Receive args command says in
     (is.bytes, subst (λ (w : List ℕ). IsCut w is.bytes) (sym (received_parts args from word cut lacks is).1) is.hex)
 
-pub over_uncut : (args : List ℕ) → Lacks 32 args → No (Says (line keyword.Overwrite args))
+pub over_uncut : (args : List ℕ) → Lacks 32 args → No (Says (line_of keyword.Overwrite args))
 over_uncut args lacks command says =
     let is = takes keyword.Overwrite args command says in
     no_split 32 (decimal is.at) is.word args lacks is.is
@@ -179,18 +179,18 @@ over_parts args at word cut lacks is =
     let fits = is.fits in
     same_split 32 args at word (decimal is.at) is.word lacks cut (lacks_decimal 32 is.at (omega arith) (inl (omega arith))) is.is
 
-pub over_at : (args at word : List ℕ) → args ≡ spaced at word → Lacks 32 at → ((n : ℕ) → n < 2 ^ 64 → at ≢ decimal n) → No (Says (line keyword.Overwrite args))
+pub over_at : (args at word : List ℕ) → args ≡ spaced at word → Lacks 32 at → ((n : ℕ) → n < 2 ^ 64 → at ≢ decimal n) → No (Says (line_of keyword.Overwrite args))
 over_at args at word cut lacks none command says =
     let is = takes keyword.Overwrite args command says in
     let fits = is.fits in
     none is.at (omega arith) (over_parts args at word cut lacks is).0
 
-pub over_hex : (args at word : List ℕ) → args ≡ spaced at word → Lacks 32 at → (command : Command) → Says (line keyword.Overwrite args) command → (bytes : List ℕ) × IsBytes word bytes
+pub over_hex : (args at word : List ℕ) → args ≡ spaced at word → Lacks 32 at → (command : Command) → Says (line_of keyword.Overwrite args) command → (bytes : List ℕ) × IsBytes word bytes
 over_hex args at word cut lacks command says =
     let is = takes keyword.Overwrite args command says in
     (is.bytes, subst (λ (w : List ℕ). IsBytes w is.bytes) (sym (over_parts args at word cut lacks is).1) is.hex)
 
-pub over_end : (args at word bytes : List ℕ) (n : ℕ) → args ≡ spaced at word → Lacks 32 at → at ≡ decimal n → n < 2 ^ 64 → IsBytes word bytes → 65536 < n + length bytes → No (Says (line keyword.Overwrite args))
+pub over_end : (args at word bytes : List ℕ) (n : ℕ) → args ≡ spaced at word → Lacks 32 at → at ≡ decimal n → n < 2 ^ 64 → IsBytes word bytes → 65536 < n + length bytes → No (Says (line_of keyword.Overwrite args))
 over_end args at word bytes n cut lacks number small hex past command says =
     let is = takes keyword.Overwrite args command says in
     let fits = is.fits in

@@ -7,7 +7,7 @@ use Rattle.swim_script.specs.declared.command.Setting.TheVariants as setting
 use Rattle.swim_script.specs.declared.keyword.Keyword.{Keyword}
 use Rattle.swim_script.specs.declared.keyword.Keyword.TheVariants as keyword
 use Rattle.swim_words.specs.Words.{Lacks}
-use Rattle.swim_script.specs.Commands.{keyword_text, line, setting_text}
+use Rattle.swim_script.specs.Commands.{keyword_text, line_of, setting_text}
 use Rattle.swim_words.proofs.Splits.{lacks_byte, no_split, same_split}
 
 pub keyword_lacks : (k : Keyword) → Lacks 32 (keyword_text k)
@@ -93,14 +93,14 @@ named-text keyword.Rebase = refl
 same_keyword : (j k : Keyword) → keyword_text j ≡ keyword_text k → j ≡ k
 same_keyword j k same = sym (named-text j) ∙ ap named same ∙ named-text k
 
-pub same_line : (j k : Keyword) (a b : List ℕ) → line j a ≡ line k b → (j ≡ k) × (a ≡ b)
+pub same_line : (j k : Keyword) (a b : List ℕ) → line_of j a ≡ line_of k b → (j ≡ k) × (a ≡ b)
 same_line j k a b same =
-    let parts = same_split 32 (line j a) (keyword_text j) a (keyword_text k) b (keyword_lacks j) refl (keyword_lacks k) same in
+    let parts = same_split 32 (line_of j a) (keyword_text j) a (keyword_text k) b (keyword_lacks j) refl (keyword_lacks k) same in
     (same_keyword j k parts.0, parts.1)
 
-pub other_line : (j k : Keyword) (a b : List ℕ) → (j ≡ k → ⊥) → line j a ≡ line k b → ⊥
+pub other_line : (j k : Keyword) (a b : List ℕ) → (j ≡ k → ⊥) → line_of j a ≡ line_of k b → ⊥
 other_line j k a b other same = other (same_line j k a b same).0
 
 -- a line with arguments is no keyword alone
-pub not_alone : (j k : Keyword) (a : List ℕ) → line j a ≡ keyword_text k → ⊥
+pub not_alone : (j k : Keyword) (a : List ℕ) → line_of j a ≡ keyword_text k → ⊥
 not_alone j k a same = no_split 32 (keyword_text j) a (keyword_text k) (keyword_lacks k) (sym same)

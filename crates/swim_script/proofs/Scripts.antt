@@ -5,7 +5,7 @@ use Rattle.std.specs.List.{filter}
 use Rattle.std.specs.Borrow.{Bor}
 use Rattle.std.proofs.lemmas.List.Elements.{All-push, All-weaker, filter-append}
 use Rattle.swim_script.specs.declared.command.Command.{Command}
-use Rattle.swim_script.specs.Commands.{AreSaid, IsScript, SaysLine, and_lines, is_said, judged, lines_of}
+use Rattle.swim_script.specs.Commands.{AreSaid, IsScript, SaysLine, and_lines, is_said, judged_line, lines_of}
 use Rattle.swim_script.specs.Faults.{IsGood}
 
 -- the lines that were read, which said these commands
@@ -31,7 +31,7 @@ said_one : (text : List ℕ) (said : Option Command) → SaysLine text said → 
 said_one text None says = subst (λ (b : Bool). AreSaid (cond b (text ∷ []) []) []) (sym says) tt
 said_one text (Some command) says = subst (λ (b : Bool). AreSaid (cond b (text ∷ []) []) (command ∷ [])) (sym says.0) (says.1, tt)
 
-pub read_more : (script line : List ℕ) (rest next : Option (Bor (List ℕ))) (commands : List Command) (count : ℕ) (said : Option Command) → AreRead script rest commands count → and_lines rest ≡ line ∷ and_lines next → judged line ≡ Ok tt → SaysLine line said → AreRead script next (commands ++ listed said) (count + 1)
+pub read_more : (script line : List ℕ) (rest next : Option (Bor (List ℕ))) (commands : List Command) (count : ℕ) (said : Option Command) → AreRead script rest commands count → and_lines rest ≡ line ∷ and_lines next → judged_line line ≡ Ok tt → SaysLine line said → AreRead script next (commands ++ listed said) (count + 1)
 read_more script line rest next commands count said read split bytes says = record {
   before = read.before ++ line ∷ [];
   lines = read.lines ∙ ap (λ (l : List (List ℕ)). read.before ++ l) split ∙ sym (append_assoc read.before (line ∷ []) (and_lines next));
@@ -44,7 +44,7 @@ pub read_all : (script : List ℕ) (commands : List Command) (count : ℕ) → A
 read_all script commands count read =
     let lines : lines_of script ≡ read.before = read.lines ∙ append-nil read.before in
     record {
-      bytes = rw lines (All-weaker IsGood (λ (text : List ℕ). judged text ≡ Ok tt) (λ text good. good.0) read.before read.good);
+      bytes = rw lines (All-weaker IsGood (λ (text : List ℕ). judged_line text ≡ Ok tt) (λ text good. good.0) read.before read.good);
       said = rw lines read.said;
     }
 

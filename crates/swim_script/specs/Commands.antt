@@ -72,13 +72,13 @@ abbrev pub IsSetting : List ℕ → Setting → Type 0
 IsSetting word setting = word ≡ setting_text setting
 
 -- a line that begins with a keyword and goes on with its arguments
-abbrev pub line : Keyword → List ℕ → List ℕ
-line keyword rest = spaced (keyword_text keyword) rest
+abbrev pub line_of : Keyword → List ℕ → List ℕ
+line_of keyword rest = spaced (keyword_text keyword) rest
 
 -- the line's first word is this keyword
 abbrev pub BeginsWith : List ℕ → Keyword → Type 0
 BeginsWith text keyword =
-    (text ≡ keyword_text keyword) ⊎ ((rest : List ℕ) × (text ≡ line keyword rest))
+    (text ≡ keyword_text keyword) ⊎ ((rest : List ℕ) × (text ≡ line_of keyword rest))
 
 -- the keywords whose arguments are read without memory
 abbrev pub IsPlain : Keyword → Type 0
@@ -92,20 +92,20 @@ pub record IsReceived (text : List ℕ) (from : ℕ) (bytes : List ℕ) : Type 0
   pub word : List ℕ
   pub sender : IsEndpoint from
   pub hex : IsCut word bytes
-  pub says : text ≡ line keyword.Receive (spaced (endpoint_text from) word)
+  pub says : text ≡ line_of keyword.Receive (spaced (endpoint_text from) word)
 
 -- the text is an event line, with its numbers in range
 abbrev pub SaysEvent : List ℕ → Event → Type 0
-SaysEvent text (event.Tick word) = (text ≡ line keyword.Tick (decimal word)) × (word < 2 ^ 32)
+SaysEvent text (event.Tick word) = (text ≡ line_of keyword.Tick (decimal word)) × (word < 2 ^ 32)
 SaysEvent text (event.Datagram from bytes) = IsReceived text from bytes.items
 SaysEvent text event.ReceiveFailed = text ≡ keyword_text keyword.ReceiveFailed
 SaysEvent text (event.SendFailed count) =
-    (text ≡ line keyword.SendFailed (decimal count)) × (count < 2 ^ 32)
-SaysEvent text (event.Join peer) = (text ≡ line keyword.Join (endpoint_text peer)) × IsEndpoint peer
+    (text ≡ line_of keyword.SendFailed (decimal count)) × (count < 2 ^ 32)
+SaysEvent text (event.Join peer) = (text ≡ line_of keyword.Join (endpoint_text peer)) × IsEndpoint peer
 SaysEvent text event.Leave = text ≡ keyword_text keyword.Leave
 SaysEvent text (event.Members after) =
     ((text ≡ keyword_text keyword.Members) × (after ≡ 0))
-    ⊎ ((text ≡ line keyword.Members (endpoint_text after)) × IsEndpoint after)
+    ⊎ ((text ≡ line_of keyword.Members (endpoint_text after)) × IsEndpoint after)
 
 -- the failure of the k-th call of the sort that the word names, of those with a word of their own
 abbrev pub IsFailure : List ℕ → ℕ → Failure → Type 0
@@ -122,16 +122,16 @@ IsCall k = (1 ≤ k) × (k ≤ COUNT_MAX)
 -- the text is a line that plans a failure of the k-th call
 abbrev pub SaysFailure : List ℕ → Failure → Type 0
 SaysFailure text (failure.Read k) =
-    (text ≡ line keyword.Fail (spaced (codes "read") (decimal k))) × IsCall k
+    (text ≡ line_of keyword.Fail (spaced (codes "read") (decimal k))) × IsCall k
 SaysFailure text (failure.Write k) =
-    (text ≡ line keyword.Fail (spaced (codes "write") (decimal k))) × IsCall k
+    (text ≡ line_of keyword.Fail (spaced (codes "write") (decimal k))) × IsCall k
 SaysFailure text (failure.TornWrite k) =
-    (text ≡ line keyword.Tear (spaced (codes "write") (decimal k))) × IsCall k
+    (text ≡ line_of keyword.Tear (spaced (codes "write") (decimal k))) × IsCall k
 SaysFailure text (failure.Sync k) =
-    (text ≡ line keyword.Fail (spaced (codes "sync") (decimal k))) × IsCall k
-SaysFailure text (failure.Halt k) = (text ≡ line keyword.Halt (decimal k)) × IsCall k
+    (text ≡ line_of keyword.Fail (spaced (codes "sync") (decimal k))) × IsCall k
+SaysFailure text (failure.Halt k) = (text ≡ line_of keyword.Halt (decimal k)) × IsCall k
 SaysFailure text (failure.Send k) =
-    (text ≡ line keyword.Fail (spaced (codes "send") (decimal k))) × IsCall k
+    (text ≡ line_of keyword.Fail (spaced (codes "send") (decimal k))) × IsCall k
 
 -- what a crash is to leave of what was not synced
 abbrev pub SaysChoice : List ℕ → Choice → Type 0
@@ -144,23 +144,23 @@ SaysChoice text (Fill byte) =
 pub record IsCrash (text : List ℕ) (choice : Choice) : Type 0 where
   pub word : List ℕ
   pub chosen : SaysChoice word choice
-  pub says : text ≡ line keyword.Crash word
+  pub says : text ≡ line_of keyword.Crash word
 
 -- an offset, and the bytes that go there in hex
 pub record IsOverwrite (text : List ℕ) (patch : Patch) : Type 0 where
   pub word : List ℕ
   pub hex : IsBytes word patch.bytes.items
-  pub says : text ≡ line keyword.Overwrite (spaced (decimal patch.at) word)
+  pub says : text ≡ line_of keyword.Overwrite (spaced (decimal patch.at) word)
 
 -- the line says the command
 abbrev pub Says : List ℕ → Command → Type 0
-Says text (Group number) = (text ≡ line keyword.Group (decimal number)) × (number < 2 ^ 64)
-Says text (Me endpoint) = (text ≡ line keyword.Me (endpoint_text endpoint)) × IsEndpoint endpoint
+Says text (Group number) = (text ≡ line_of keyword.Group (decimal number)) × (number < 2 ^ 64)
+Says text (Me endpoint) = (text ≡ line_of keyword.Me (endpoint_text endpoint)) × IsEndpoint endpoint
 Says text (Set setting number) =
-    (text ≡ line keyword.Set (spaced (setting_text setting) (decimal number)))
+    (text ≡ line_of keyword.Set (spaced (setting_text setting) (decimal number)))
     × (number ≤ COUNT_MAX)
-Says text (Start first) = text ≡ line keyword.Start (decimal first.value)
-Says text (Init ceiling) = (text ≡ line keyword.Init (decimal ceiling)) × (ceiling < 2 ^ 64)
+Says text (Start first) = text ≡ line_of keyword.Start (decimal first.value)
+Says text (Init ceiling) = (text ≡ line_of keyword.Init (decimal ceiling)) × (ceiling < 2 ^ 64)
 Says text Open = text ≡ keyword_text keyword.Open
 Says text (Happen event) = SaysEvent text event
 Says text (Plan failure) = SaysFailure text failure
@@ -194,15 +194,15 @@ abbrev pub is_printed : ℕ → Bool
 is_printed byte = nat_le 0x20 byte && nat_le byte 0x7e
 
 -- the first fault of a line's bytes, if they have one
-abbrev pub judged : List ℕ → Result (Unit {0}) FaultKind
-judged text =
+abbrev pub judged_line : List ℕ → Result (Unit {0}) FaultKind
+judged_line text =
     if not (list_all is_printed text)
     then Err fault.Text
     else (if nat_lt LINE_MAX (length text) then Err fault.Long else Ok tt)
 
 -- the script says these commands, in order, and its bytes have no fault
 pub record IsScript (script : List ℕ) (commands : List Command) : Type 0 where
-  pub bytes : All (λ text. judged text ≡ Ok tt) (lines_of script)
+  pub bytes : All (λ text. judged_line text ≡ Ok tt) (lines_of script)
   pub said : AreSaid (filter is_said (lines_of script)) commands
 
 -- what a line says, if it says a command

@@ -2,14 +2,14 @@
 use Rattle.std.specs.Prelude.{◌≡◌, ◌⊎◌, ℕ, ◌+◌, true, Option, List, ◌∷◌, ◌++◌, length, All, Ok, Err}
 use Rattle.std.specs.Prelude.{codes}
 use Rattle.std.specs.Fmt.{decimal}
-use Rattle.swim_wire.specs.Codes.{numbered}
+use Rattle.swim_wire.specs.Codes.{number_and_name}
 use Rattle.swim_script.specs.declared.command.Command.{Command}
 use Rattle.swim_script.specs.declared.fault.FaultKind.{FaultKind}
 use Rattle.swim_script.specs.declared.fault.FaultKind.TheVariants as fault
 use Rattle.swim_script.specs.declared.fault.ScriptFault.{ScriptFault}
 use Rattle.swim_script.specs.declared.keyword.Keyword.{Keyword}
 use Rattle.swim_words.specs.Words.{No}
-use Rattle.swim_script.specs.Commands.{BeginsWith, Says, SaysLine, is_said, judged, lines_of}
+use Rattle.swim_script.specs.Commands.{BeginsWith, Says, SaysLine, is_said, judged_line, lines_of}
 
 -- the first word is no keyword; or it is one, and no command is said
 abbrev pub IsWordFault : List ℕ → FaultKind → Type 0
@@ -20,12 +20,12 @@ IsWordFault text _ = ⊥
 -- a line's first fault: one of its bytes, or else one
 -- of its words where it isn't empty and no comment
 abbrev pub IsFaultOf : List ℕ → FaultKind → Type 0
-IsFaultOf text kind = (judged text ≡ Err kind)
-    ⊎ ((judged text ≡ Ok tt) × (is_said text ≡ true) × IsWordFault text kind)
+IsFaultOf text kind = (judged_line text ≡ Err kind)
+    ⊎ ((judged_line text ≡ Ok tt) × (is_said text ≡ true) × IsWordFault text kind)
 
 -- a line without a fault, which says a command or nothing
 abbrev pub IsGood : List ℕ → Type 0
-IsGood text = (judged text ≡ Ok tt) × (said : Option Command) × SaysLine text said
+IsGood text = (judged_line text ≡ Ok tt) × (said : Option Command) × SaysLine text said
 
 -- the lines before it are good, and it is the first fault of this line, which is counted from 1
 pub record IsFaultAt (script : List ℕ) (f : ScriptFault) : Type 0 where
@@ -61,7 +61,7 @@ kind_name fault.Argument = codes "Argument"
 kind_name fault.NoMemory = codes "NoMemory"
 
 abbrev pub kind_text : FaultKind → List ℕ
-kind_text kind = numbered (kind_number kind) (kind_name kind)
+kind_text kind = number_and_name (kind_number kind) (kind_name kind)
 
 -- the line, and what is wrong with it
 abbrev pub fault_text : ScriptFault → List ℕ

@@ -3,7 +3,7 @@
 ghost use Rattle.std.specs.Prelude.{◌≡◌, ◌⊎◌, IfSome, IfNone, IfOk, IfErr};
 ghost use Rattle.swim_words.specs.Words.{No, SaysNumber};
 ghost use Rattle.swim_script.specs.Bytes.{Refuses};
-ghost use Rattle.swim_script.specs.Commands.{keyword_text, setting_text, IsSetting, line, IsPlain, IsFailure, Says, SaysFailure, SaysChoice};
+ghost use Rattle.swim_script.specs.Commands.{keyword_text, setting_text, IsSetting, line_of, IsPlain, IsFailure, Says, SaysFailure, SaysChoice};
 ghost use Rattle.swim_script.specs.Faults.{IsWordFault};
 ghost use Rattle.swim_script.specs.declared.fault.FaultKind.TheVariants as kinds;
 
@@ -89,8 +89,8 @@ fn bare(keyword: Keyword) -> Option<Command>
 
 /// The setting that the arguments set.
 fn read_set(arguments: &[u8]) -> Option<Command>
-    ensures command { IfSome result (λ command. Says (line Keyword.Set arguments.now) command) }
-    ensures none { IfNone result (No (Says (line Keyword.Set arguments.now))) }
+    ensures command { IfSome result (λ command. Says (line_of Keyword.Set arguments.now) command) }
+    ensures none { IfNone result (No (Says (line_of Keyword.Set arguments.now))) }
 {
     let (word, number) = split_at_byte(arguments, b' ')?;
     let setting = Setting::of(word)?;
@@ -101,8 +101,8 @@ fn read_set(arguments: &[u8]) -> Option<Command>
 /// The call that the arguments make fail.
 fn read_failure(arguments: &[u8]) -> Option<Failure>
     ensures failure { IfSome result
-        (λ failure. SaysFailure (line Keyword.Fail arguments.now) failure) }
-    ensures none { IfNone result (No (SaysFailure (line Keyword.Fail arguments.now))) }
+        (λ failure. SaysFailure (line_of Keyword.Fail arguments.now) failure) }
+    ensures none { IfNone result (No (SaysFailure (line_of Keyword.Fail arguments.now))) }
 {
     let (word, number) = split_at_byte(arguments, b' ')?;
     let k = read_count(number, 1, COUNT_MAX)?;
@@ -112,8 +112,8 @@ fn read_failure(arguments: &[u8]) -> Option<Failure>
 /// The write that the arguments tear.
 fn read_torn(arguments: &[u8]) -> Option<Failure>
     ensures failure { IfSome result
-        (λ failure. SaysFailure (line Keyword.Tear arguments.now) failure) }
-    ensures none { IfNone result (No (SaysFailure (line Keyword.Tear arguments.now))) }
+        (λ failure. SaysFailure (line_of Keyword.Tear arguments.now) failure) }
+    ensures none { IfNone result (No (SaysFailure (line_of Keyword.Tear arguments.now))) }
 {
     let (word, number) = split_at_byte(arguments, b' ')?;
     if word != b"write".as_slice() {
@@ -125,8 +125,8 @@ fn read_torn(arguments: &[u8]) -> Option<Failure>
 
 /// The command of a keyword with arguments, for those that take no memory.
 fn read_plain(keyword: Keyword, arguments: &[u8]) -> Option<Command>
-    ensures command { IfSome result (λ command. Says (line keyword arguments.now) command) }
-    ensures none { IfNone result (IsPlain keyword → No (Says (line keyword arguments.now))) }
+    ensures command { IfSome result (λ command. Says (line_of keyword arguments.now) command) }
+    ensures none { IfNone result (IsPlain keyword → No (Says (line_of keyword arguments.now))) }
 {
     match keyword {
         Keyword::Group => Some(Command::Group(read_number(arguments)?)),
@@ -155,8 +155,8 @@ fn read_plain(keyword: Keyword, arguments: &[u8]) -> Option<Command>
 
 /// The received datagram that the arguments give.
 fn read_received(alloc: Global, arguments: &[u8]) -> Result<Command, FaultKind>
-    ensures command { IfOk result (λ command. Says (line Keyword.Receive arguments.now) command) }
-    ensures none { IfErr result (λ kind. Refuses kind (Says (line Keyword.Receive arguments.now))) }
+    ensures command { IfOk result (λ command. Says (line_of Keyword.Receive arguments.now) command) }
+    ensures none { IfErr result (λ kind. Refuses kind (Says (line_of Keyword.Receive arguments.now))) }
 {
     let (from, word) = split_at_byte(arguments, b' ').ok_or(FaultKind::Argument)?;
     let from = read_endpoint(from).ok_or(FaultKind::Argument)?;
@@ -184,9 +184,9 @@ fn read_choice(alloc: Global, arguments: &[u8]) -> Result<Choice, FaultKind>
 
 /// The part of the disk that the arguments write over.
 fn read_patch(alloc: Global, arguments: &[u8]) -> Result<Command, FaultKind>
-    ensures command { IfOk result (λ command. Says (line Keyword.Overwrite arguments.now) command) }
+    ensures command { IfOk result (λ command. Says (line_of Keyword.Overwrite arguments.now) command) }
     ensures none { IfErr result
-        (λ kind. Refuses kind (Says (line Keyword.Overwrite arguments.now))) }
+        (λ kind. Refuses kind (Says (line_of Keyword.Overwrite arguments.now))) }
 {
     let (at, word) = split_at_byte(arguments, b' ').ok_or(FaultKind::Argument)?;
     let at = read_number(at).ok_or(FaultKind::Argument)?;

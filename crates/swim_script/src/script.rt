@@ -2,7 +2,7 @@
 
 ghost use Rattle.std.specs.Prelude.{◌≡◌, ◌==◌, ◌+◌, ◌<◌, ◌∷◌, length, Ok, IfOk, IfErr, OnOk, IfSome, ◌⊎◌};
 ghost use Rattle.std.specs.List.{list_all};
-ghost use Rattle.swim_script.specs.Commands.{is_said, lines_of, IsScript, and_lines, SaysLine, is_printed, judged};
+ghost use Rattle.swim_script.specs.Commands.{is_said, lines_of, IsScript, and_lines, SaysLine, is_printed, judged_line};
 ghost use Rattle.swim_script.specs.Faults.{IsFaultOf, IsFirstFault};
 ghost use Rattle.swim_script.specs.declared.fault.FaultKind.TheVariants as kinds;
 
@@ -46,7 +46,7 @@ fn is_text(line: &[u8]) -> bool
 
 /// Judges the bytes of a line, whatever it says: Text comes first, then Long.
 fn check_line(line: &[u8]) -> Result<(), FaultKind>
-    ensures { result ≡ judged line.now }
+    ensures { result ≡ judged_line line.now }
 {
     if !is_text(line) {
         return Err(FaultKind::Text);
@@ -59,7 +59,7 @@ fn check_line(line: &[u8]) -> Result<(), FaultKind>
 
 /// The command that a line says, or none where the line is empty or a comment.
 fn read_line(alloc: Global, line: &[u8]) -> Result<Option<Command>, FaultKind>
-    ensures bytes { OnOk result (judged line.now ≡ Ok tt) }
+    ensures bytes { OnOk result (judged_line line.now ≡ Ok tt) }
     ensures said { IfOk result (λ said. SaysLine line.now said) }
     ensures fault { IfErr result (λ kind. (kind ≡ kinds.NoMemory) ⊎ IsFaultOf line.now kind) }
 {

@@ -54,9 +54,9 @@ impl UdpLink {
 
 impl Link for UdpLink {
     ghost use Rattle.std.specs.Prelude.{[], length};
-    ghost use Rattle.swim_node.specs.Link.{numbered};
+    ghost use Rattle.swim_node.specs.Link.{link_number};
 
-    ghost name = { λ _. numbered 0 };
+    ghost name = { λ _. link_number 0 };
 
     ghost tells = { ⊥ };
 

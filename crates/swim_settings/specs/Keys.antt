@@ -29,22 +29,22 @@ keys = File ∷ Group ∷ Me ∷ Control ∷ TickMs ∷ Lambda ∷ Period ∷ Di
     ∷ Limit ∷ RandomKey ∷ Join ∷ []
 
 -- how many keys come before it
-abbrev pub place : Key → ℕ
-place File = 0
-place Group = 1
-place Me = 2
-place Control = 3
-place TickMs = 4
-place Lambda = 5
-place Period = 6
-place Direct = 7
-place Suspect = 8
-place Forget = 9
-place Helpers = 10
-place Limit = 11
-place RandomKey = 12
-place Join = 13
+abbrev pub key_place : Key → ℕ
+key_place File = 0
+key_place Group = 1
+key_place Me = 2
+key_place Control = 3
+key_place TickMs = 4
+key_place Lambda = 5
+key_place Period = 6
+key_place Direct = 7
+key_place Suspect = 8
+key_place Forget = 9
+key_place Helpers = 10
+key_place Limit = 11
+key_place RandomKey = 12
+key_place Join = 13
 
 -- the keys before it
-abbrev pub before : Key → List Key
-before key = take (place key) keys
+abbrev pub keys_before : Key → List Key
+keys_before key = take (key_place key) keys

@@ -18,7 +18,7 @@ use Rattle.swim_member.specs.declared.settings.Settings.{Settings}
 use Rattle.swim_settings.specs.declared.refusal.Refusal.{Refusal}
 use Rattle.swim_settings.specs.declared.refusal.Refusal.TheVariants as refusals
 use Rattle.swim_settings.specs.declared.settings.RunSettings.{RunSettings}
-use Rattle.swim_settings.specs.Keys.{key_text, before}
+use Rattle.swim_settings.specs.Keys.{key_text, keys_before}
 use Rattle.swim_node.specs.declared.opening.TheConstants.{LIMIT_MAX}
 
 -- what stands at the key
@@ -134,7 +134,7 @@ IsTaken _ table = Unit
 
 -- all keys before the key have what they take
 abbrev pub AreTakenBefore : Key → Members → Type 0
-AreTakenBefore key table = AllByRecursion (λ earlier. IsTaken earlier table) (before key)
+AreTakenBefore key table = AllByRecursion (λ earlier. IsTaken earlier table) (keys_before key)
 
 -- the key is the first that is refused
 abbrev pub IsFirst : Key → Members → Type 0

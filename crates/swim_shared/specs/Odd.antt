@@ -8,8 +8,8 @@ use Rattle.swim_shared.specs.Passes.{PassView}
 
 -- the pass is no odd one: its list is no longer than the journal, which has as many calls of its
 -- caller as the pass has
-abbrev pub fits : PassView → List Entry → Bool
-fits p journal =
+abbrev pub is_in_step : PassView → List Entry → Bool
+is_in_step p journal =
     leb (length p.seen) (length journal) && (length (calls_by p.caller journal) == p.calls)
 
 -- the watch is no odd one: its list is no longer than the journal
@@ -23,7 +23,7 @@ fails_of ok (x ∷ xs) = (if ok x then 0 else 1) + fails_of ok xs
 
 -- how many of these passes do not fit the journal
 abbrev pub odd_passes : List Entry → List PassView → ℕ
-odd_passes journal ps = fails_of (λ p. fits p journal) ps
+odd_passes journal ps = fails_of (λ p. is_in_step p journal) ps
 
 -- how many of these watches do not fit the journal
 abbrev pub odd_watches : List Entry → List (List Entry) → ℕ
@@ -40,7 +40,7 @@ Each P (x ∷ xs) = P x × Each P xs
 
 -- if it fits, the pass has seen a beginning of the journal
 abbrev pub Begins : List Entry → PassView → Type 0
-Begins journal p = fits p journal ≡ true → IsPrefix p.seen journal
+Begins journal p = is_in_step p journal ≡ true → IsPrefix p.seen journal
 
 -- if it fits, the watch has seen a beginning of the journal
 abbrev pub WatchBegins : List Entry → List Entry → Type 0

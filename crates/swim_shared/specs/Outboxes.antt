@@ -29,13 +29,13 @@ pub record SenderView : Type 0 where
   pub owed : ℕ  -- how many losses were not told yet
 
 -- destination and text of a datagram on its way
-abbrev pub packed : Packet → ℕ × List ℕ
-packed p = (p.to, p.bytes.items)
+abbrev pub destination_and_bytes : Packet → ℕ × List ℕ
+destination_and_bytes p = (p.to, p.bytes.items)
 
 module _ {A P : Type 0} where
   -- destination and text of all that was put into the ring, in order
   abbrev pub put : Producer Packet A P → List (ℕ × List ℕ)
-  put p = map packed (sent p)
+  put p = map destination_and_bytes (sent p)
 
   -- what was taken out of the ring, and what is known to be in it still
   abbrev pub through : Consumer Packet A P → List Packet
@@ -43,7 +43,7 @@ module _ {A P : Type 0} where
 
   -- destination and text of all that was taken out of the ring, in order
   abbrev pub got : Consumer Packet A P → List (ℕ × List ℕ)
-  got c = map packed (received c)
+  got c = map destination_and_bytes (received c)
 
 -- a datagram that a link was handed, and whether it took it
 pub record Fate : Type 0 where

@@ -35,18 +35,18 @@ pass_of caller calls sight spent = record {
 }
 
 -- a pass that has made no call
-abbrev pub fresh : ℕ → PassView
-fresh caller = record { caller = caller; calls = 0; seen = []; spent = false }
+abbrev pub new_pass : ℕ → PassView
+new_pass caller = record { caller = caller; calls = 0; seen = []; spent = false }
 
 -- the passes of callers 0 to n - 1
-abbrev pub freshes : ℕ → List PassView
-freshes zero = []
-freshes (suc n) = freshes n ++ fresh n ∷ []
+abbrev pub new_passes : ℕ → List PassView
+new_passes zero = []
+new_passes (suc n) = new_passes n ++ new_pass n ∷ []
 
 -- so many watches that have seen nothing
-abbrev pub empties : ℕ → List (List Entry)
-empties zero = []
-empties (suc n) = empties n ++ [] ∷ []
+abbrev pub new_watches : ℕ → List (List Entry)
+new_watches zero = []
+new_watches (suc n) = new_watches n ++ [] ∷ []
 
 -- the pass's own calls are those in its list, and one more at most where it is spent
 abbrev pub Counted : PassView → Type 0

@@ -2,7 +2,7 @@
 
 ghost use Rattle.std.specs.Prelude.{◌≡◌, if◌then◌else◌, ◌+◌, ◌<◌, ◌≤◌, ◌^◌, length, IsTrue};
 ghost use mathlib.Core.List.{IsPrefix};
-ghost use Rattle.swim_shared.specs.Odd.{fits, watch_fits, odd_passes, odd_watches};
+ghost use Rattle.swim_shared.specs.Odd.{is_in_step, watch_fits, odd_passes, odd_watches};
 ghost use Rattle.swim_shared.specs.Odd.{Begins, WatchBegins, AllBegin, AllWatchesBegin};
 
 use crate::locked::Locked;
@@ -17,7 +17,7 @@ impl<N: Name, D: Disk, L: Link, R: Wait + Drop> Locked<N, D, L, R> {
     /// Whether the list of a pass is no longer than the journal, and so a beginning of it, and the
     /// journal has just the calls that the pass made.
     fn fits_pass(&self, pass: &Pass<N>) -> bool
-        ensures fits { result ≡ fits pass.now self.now.journal }
+        ensures fits { result ≡ is_in_step pass.now self.now.journal }
         ensures begins { IsTrue result → IsPrefix pass.now.seen self.now.journal }
     {
         if pass.front().len() > self.front.len() {
@@ -41,7 +41,7 @@ impl<N: Name, D: Disk, L: Link, R: Wait + Drop> Locked<N, D, L, R> {
 
     /// 1 for a pass that does not fit.
     fn odd_pass(&self, pass: &Pass<N>) -> u32
-        ensures odd { result ≡ (if fits pass.now self.now.journal then 0 else 1) }
+        ensures odd { result ≡ (if is_in_step pass.now self.now.journal then 0 else 1) }
         ensures begins { Begins self.now.journal pass.now }
     {
         if self.fits_pass(pass) { 0 } else { 1 }

@@ -4,7 +4,7 @@ ghost use Rattle.std.specs.Prelude.{◌≡◌, if◌then◌else◌, ◌+◌, ◌
 ghost use Rattle.swim_member.specs.declared.event.Event.{Event as Events};
 ghost use Rattle.swim_node.specs.declared.entry.Reply.{Reply as Replies};
 ghost use Rattle.swim_node.specs.History.{IsLegal};
-ghost use Rattle.swim_shared.specs.Passes.{fresh, Called, FullFor, Unseen};
+ghost use Rattle.swim_shared.specs.Passes.{new_pass, Called, FullFor, Unseen};
 ghost use Rattle.swim_shared.specs.Passes.{Added, HasAdded, Ahead, IsPass};
 
 use crate::front::Front;
@@ -39,7 +39,7 @@ impl<N: Name> Pass<N> {
         requires book { front.book ≡ N.book }
         requires legal { IsLegal N.base front.entries }
         requires low { caller < 16 }
-        ensures { result ≡ fresh caller }
+        ensures { result ≡ new_pass caller }
     {
         Pass {
             front,

@@ -3,7 +3,7 @@
 ghost use Rattle.std.specs.Prelude.{◌≡◌, ◌<◌, ◌^◌, ◌++◌, IfOk, IfErr, IsTrue, false, vec_len};
 ghost use Rattle.swim_node.specs.History.{IsLegal};
 ghost use Rattle.swim_shared.specs.Taken.{taken_of};
-ghost use Rattle.swim_shared.specs.Passes.{Called, FullFor, Unseen, freshes, empties};
+ghost use Rattle.swim_shared.specs.Passes.{Called, FullFor, Unseen, new_passes, new_watches};
 ghost use Rattle.swim_shared.specs.Published.{KnowsOf};
 ghost use Rattle.swim_shared.specs.Odd.{odd_of, AllBegin, AllWatchesBegin};
 
@@ -55,8 +55,8 @@ impl<N: Name, D: Disk, L: Link, R: Wait + Drop> Shared<N, D, L, R> {
         requires first { parts.node.first ≡ N.first }
         requires link { L.name parts.link ≡ N.link }
         requires start { L.tells → L.took parts.link ≡ N.start }
-        ensures passes { IfOk result (λ t. t.1.items ≡ freshes parts.callers) }
-        ensures watches { IfOk result (λ t. t.2.items ≡ empties parts.watches) }
+        ensures passes { IfOk result (λ t. t.1.items ≡ new_passes parts.callers) }
+        ensures watches { IfOk result (λ t. t.2.items ≡ new_watches parts.watches) }
         ensures err { IfErr result (λ p. p ≡ parts) }
     {
         let Parts {

@@ -10,8 +10,8 @@ use Rattle.swim_member.specs.declared.event.Event.{Event}
 use Rattle.swim_member.specs.declared.event.Event.TheVariants as event
 use Rattle.swim_node.specs.declared.entry.Reply.{Reply}
 use Rattle.swim_shared.specs.Passes.{PassView}
-use Rattle.swim_shell.specs.declared.asked.Asked.{Asked}
-use Rattle.swim_shell.specs.declared.asked.Asked.TheVariants as asked
+use Rattle.swim_shell.specs.declared.request.Request.{Request}
+use Rattle.swim_shell.specs.declared.request.Request.TheVariants as asked
 use Rattle.swim_shell.specs.declared.calling.Refusal.{Refusal}
 use Rattle.swim_shell.specs.declared.calling.Refusal.TheVariants as refusal
 use Rattle.swim_shell.specs.declared.lines.Line.{Line}
@@ -89,7 +89,7 @@ pub no_address : (text first word : List ℕ) → text ≡ split_by 32 first wor
 no_address text first word is (inl e) none = record { word = word; says = inl (is ∙ ap (λ w. split_by 32 w word) e); none = none }
 no_address text first word is (inr e) none = record { word = word; says = inr (is ∙ ap (λ w. split_by 32 w word) e); none = none }
 
-pub names_short : (text : List ℕ) (a : Asked) → length text ≤ 64 → NamesShort text a → Names text a
+pub names_short : (text : List ℕ) (a : Request) → length text ≤ 64 → NamesShort text a → Names text a
 names_short text asked.Status h n = (h, n)
 names_short text (asked.Members after) h n = (h, n)
 names_short text (asked.Join peer) h n = (h, n)
@@ -100,7 +100,7 @@ names_short text asked.Address h n = (h, n)
 names_short text asked.TooLong h n = absurd n
 
 -- a line that does not stop ends a conversation where its call was refused so
-asked_on : (why : Option Refusal) (a : Asked) → a ≢ asked.Stop → end_after why ≡ end_of why a
+asked_on : (why : Option Refusal) (a : Request) → a ≢ asked.Stop → end_after why ≡ end_of why a
 asked_on (Some why) a apart = refl
 asked_on None asked.Status apart = refl
 asked_on None (asked.Members after) apart = refl
@@ -176,7 +176,7 @@ no_refusal refusal.Memory e = absurd cc
 no_refusal refusal.EraFull e = absurd cc
 no_refusal refusal.Unread e = absurd cc
 
-no_end : (why : Option Refusal) (a : Asked) → end_of why a ≡ Some ends.Memory → ⊥
+no_end : (why : Option Refusal) (a : Request) → end_of why a ≡ Some ends.Memory → ⊥
 no_end (Some why) a e = no_refusal why e
 no_end None asked.Status e = absurd cc
 no_end None (asked.Members after) e = absurd cc

@@ -10,7 +10,7 @@ use Rattle.swim_shell.specs.declared.worker.Turn.{Turn}
 use Rattle.swim_shell.specs.declared.worker.Turn.TheVariants.{Go, Stop}
 use Rattle.swim_shell.specs.Calls.{NewCalls}
 use Rattle.swim_shell.specs.Gates.{Went}
-use Rattle.swim_shell.specs.Inbounds.{Came, Received, Nothing, Failed, events_at, events_for, failures_in, row_after, row_of, is_calm, Took, Refused, Receives, Receiving, TookOne, Refuses}
+use Rattle.swim_shell.specs.Inbounds.{Came, Received, Nothing, Failed, events_at, events_for, failures_in, row_after, failures_in_a_row, is_calm, Took, Refused, Receives, Receiving, TookOne, Refuses}
 use Rattle.swim_shell.specs.Ticks.{Draws, ticks_of, LastRefused, Ticks, Ticking}
 use Rattle.swim_shell.proofs.News.{assoc, no_calls, more_calls}
 use Rattle.swim_shell.proofs.Gating.{went_none, went_along, halts}
@@ -78,7 +78,7 @@ failures_in-append : (xs ys : List Came) → failures_in (xs ++ ys) ≡ failures
 failures_in-append [] ys = omega arith
 failures_in-append (x ∷ xs) ys = omega (arith, failures_in-append xs ys)
 
-pub row_of-snoc : (n : ℕ) (xs : List Came) (c : Came) → row_of n (xs ++ c ∷ []) ≡ row_after (row_of n xs) c
+pub row_of-snoc : (n : ℕ) (xs : List Came) (c : Came) → failures_in_a_row n (xs ++ c ∷ []) ≡ row_after (failures_in_a_row n xs) c
 row_of-snoc n [] c = refl
 row_of-snoc n (x ∷ xs) c = row_of-snoc (row_after n x) xs c
 
@@ -92,7 +92,7 @@ and_join true true h k = refl
 and_join true false h k = absurd cc
 and_join false b h k = absurd cc
 
-pub is_calm-snoc : (n : ℕ) (xs : List Came) (c : Came) → is_calm n xs ≡ true → row_after (row_of n xs) c < 16 → is_calm n (xs ++ c ∷ []) ≡ true
+pub is_calm-snoc : (n : ℕ) (xs : List Came) (c : Came) → is_calm n xs ≡ true → row_after (failures_in_a_row n xs) c < 16 → is_calm n (xs ++ c ∷ []) ≡ true
 is_calm-snoc n [] c h k = and_join _ _ (grind (arith, nat_tests)) refl
 is_calm-snoc n (x ∷ xs) c h k = let p = and_step _ _ h in and_join _ _ p.0 (is_calm-snoc (row_after n x) xs c p.1 k)
 
@@ -116,7 +116,7 @@ served_calls p q r xs c s n = subst (NewCalls p r) (ap (λ w. events_for xs ++ w
 
 pub receiving_more : (tells : Type 0) (a b c : List Came) (f g h : ℕ) (p q r : PassView) (s : Type 0) (t u v : List Turn) (row : ℕ) (failed : Bool) (next : ℕ) → Receiving tells a b f g p q s t u row → (s → v ≡ u ++ Go ∷ []) → TookOne tells b c g h q r failed → next ≡ (if failed then row + 1 else 0) → next < 16 → Receiving tells a c f h p r s t v next
 receiving_more tells a b c f g h p q r s t u v row failed next w go one e less =
-    let at : row_after (row_of 0 w.came) one.one ≡ next = ap (λ n. row_after n one.one) w.row_is ∙ (one.row_is row ∙ sym e) in
+    let at : row_after (failures_in_a_row 0 w.came) one.one ≡ next = ap (λ n. row_after n one.one) w.row_is ∙ (one.row_is row ∙ sym e) in
     record {
       came = w.came ++ one.one ∷ [];
       took = took_more tells a b c f g h w.came (one.one ∷ []) w.took one.took;
@@ -137,7 +137,7 @@ pub receives_fault : (tells : Type 0) (a b c : List Came) (f g h : ℕ) (p q r :
 receives_fault tells a b c f g h p q r s t u v row less more w go failed is_failed took =
     let is : row ≡ 15 = omega arith in
     let one = subst (TookOne tells b c g h q r) is_failed took in
-    let at : row_after (row_of 0 w.came) one.one ≡ 16 = ap (λ n. row_after n one.one) w.row_is ∙ (one.row_is row ∙ ap (λ n. n + 1) is) in
+    let at : row_after (failures_in_a_row 0 w.came) one.one ≡ 16 = ap (λ n. row_after n one.one) w.row_is ∙ (one.row_is row ∙ ap (λ n. n + 1) is) in
     let last : one.one ≡ Failed = failed_one one.one (ap (λ n. row_after n one.one) (sym (w.row_is ∙ is)) ∙ at) in
     record {
       came = w.came ++ one.one ∷ [];

@@ -17,8 +17,8 @@ use Rattle.swim_shell.specs.declared.lines.TheConstants.{LINE_MAX}
 use Rattle.swim_shell.specs.declared.worker.Turn.{Turn}
 use Rattle.swim_shell.specs.declared.calling.Refusal.{Refusal}
 use Rattle.swim_shell.specs.declared.calling.Refusal.TheVariants as refusal
-use Rattle.swim_shell.specs.declared.asked.Asked.{Asked}
-use Rattle.swim_shell.specs.declared.asked.Asked.TheVariants as asked
+use Rattle.swim_shell.specs.declared.request.Request.{Request}
+use Rattle.swim_shell.specs.declared.request.Request.TheVariants as asked
 use Rattle.swim_shell.specs.declared.lines.Line.{Line}
 use Rattle.swim_shell.specs.declared.lines.Line.TheVariants.{Text, Long}
 use Rattle.swim_shell.specs.declared.worker.ControlEnd.{ControlEnd}
@@ -47,7 +47,7 @@ pub record IsNoAddress (text : List ℕ) : Type 0 where
   pub none : No (SaysEndpoint word)
 
 -- what a line that is not too long asks for
-abbrev pub NamesShort : List ℕ → Asked → Type 0
+abbrev pub NamesShort : List ℕ → Request → Type 0
 NamesShort text asked.Status = text ≡ codes "status"
 NamesShort text (asked.Members after) =
     ((text ≡ codes "members") × (after ≡ 0))
@@ -61,7 +61,7 @@ NamesShort text asked.Unknown = IsUnknown text
 NamesShort text asked.TooLong = ⊥
 
 -- the line names this
-abbrev pub Names : List ℕ → Asked → Type 0
+abbrev pub Names : List ℕ → Request → Type 0
 Names text asked.TooLong = LINE_MAX < length text
 Names text a = (length text ≤ LINE_MAX) × NamesShort text a
 
@@ -154,7 +154,7 @@ ShowsStatus entries (Some why) answer =
     (entries ≡ []) × (why ≡ refusal.Unread) × (answer ≡ refusal_text why)
 
 -- what a line makes and writes
-abbrev pub Answers : Asked → List Entry → Option Refusal → List ℕ → Type 0
+abbrev pub Answers : Request → List Entry → Option Refusal → List ℕ → Type 0
 Answers asked.Status entries refused answer = ShowsStatus entries refused answer
 Answers (asked.Members after) entries refused answer =
     Calls (event.Members after) (λ reply text. Unit {0}) entries refused answer
@@ -182,7 +182,7 @@ end_after None = None
 end_after (Some why) = end_by why
 
 -- how a line ends a conversation, if it does
-abbrev pub end_of : Option Refusal → Asked → Option ControlEnd
+abbrev pub end_of : Option Refusal → Request → Option ControlEnd
 end_of (Some why) asked = end_by why
 end_of None asked.Stop = Some ends.Stop
 end_of None _ = None
@@ -193,7 +193,7 @@ ShowsWatch answer None = Unit {0}
 ShowsWatch answer (Some end) = (end ≡ ends.Unread) × (answer ≡ refusal_text refusal.Unread)
 
 -- the answer to what was asked, and whether the conversation ends with it
-pub record Responds (p q : PassView) (asked : Asked) (answer : List ℕ) (end : Option ControlEnd)
+pub record Responds (p q : PassView) (asked : Request) (answer : List ℕ) (end : Option ControlEnd)
     : Type 0 where
   pub entries : List Entry
   pub refused : Option Refusal
@@ -217,7 +217,7 @@ pub record RespondsCall (p q : PassView) (event : Event) (Writes : Reply → Lis
 -- answered
 pub record Heard : Type 0 where
   pub text : List ℕ
-  pub asked : Asked
+  pub asked : Request
   pub entries : List Entry
   pub refused : Option Refusal
   pub answer : List ℕ
@@ -349,7 +349,7 @@ ControlsOne old new u v p q end = OneLine old new u v p q end
 pub record AnswersLine (p q : PassView) (line : Line) (u v : Option (List ℕ))
     (end : Option ControlEnd)
     : Type 0 where
-  pub asked : Asked
+  pub asked : Request
   pub entries : List Entry
   pub refused : Option Refusal
   pub answer : List ℕ

@@ -6,17 +6,17 @@ use Rattle.swim_shell.specs.declared.worker.WorkerEnd.{WorkerEnd}
 use Rattle.swim_shell.specs.declared.worker.WorkerEnd.TheVariants as ends
 
 -- so many turns
-abbrev pub goes : ℕ → List Turn
-goes zero = []
-goes (suc n) = Go ∷ goes n
+abbrev pub turns_of_go : ℕ → List Turn
+turns_of_go zero = []
+turns_of_go (suc n) = Go ∷ turns_of_go n
 
 -- the gate allowed so many turns, as far as it tells
 pub record Went (tells : Type 0) (old new : List Turn) (n : ℕ) : Type 0 where
-  pub told : tells → new ≡ old ++ goes n
+  pub told : tells → new ≡ old ++ turns_of_go n
 
 -- the gate allowed so many turns, and then none
 pub record Halted (tells : Type 0) (old new : List Turn) (n : ℕ) : Type 0 where
-  pub told : tells → new ≡ old ++ (goes n ++ Stop ∷ [])
+  pub told : tells → new ≡ old ++ (turns_of_go n ++ Stop ∷ [])
 
 -- a worker had so many turns, and was stopped by its gate exactly where it says so
 abbrev pub Guided : WorkerEnd → Type 0 → List Turn → List Turn → ℕ → Type 0

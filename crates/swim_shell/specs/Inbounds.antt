@@ -49,9 +49,9 @@ row_after n Failed = n + 1
 row_after n _ = 0
 
 -- how many failures in a row stand at the end, after n of them
-abbrev pub row_of : ℕ → List Came → ℕ
-row_of n [] = n
-row_of n (c ∷ cs) = row_of (row_after n c) cs
+abbrev pub failures_in_a_row : ℕ → List Came → ℕ
+failures_in_a_row n [] = n
+failures_in_a_row n (c ∷ cs) = failures_in_a_row (row_after n c) cs
 
 -- nowhere are there 16 failures in a row, after n of them
 abbrev pub is_calm : ℕ → List Came → Bool
@@ -84,7 +84,7 @@ pub record Faulty (p q : PassView) (came : List Came) : Type 0 where
   pub came_is : came ≡ before ++ Failed ∷ []
   pub calls : NewCalls p q (events_for came)
   pub calm : is_calm 0 before ≡ true
-  pub row : row_of 0 came ≡ FAILURES_MAX
+  pub row : failures_in_a_row 0 came ≡ FAILURES_MAX
 
 -- what a receiver has done when it ends so
 abbrev pub EndsBy : WorkerEnd → PassView → PassView → List Came → Type 0
@@ -110,7 +110,7 @@ pub record Receiving (tells : Type 0) (old new : List Came) (f g : ℕ) (p q : P
   pub took : Took tells old new f g came
   pub turns : Went shows t u (length came)
   pub served : Served p q came
-  pub row_is : row_of 0 came ≡ row
+  pub row_is : failures_in_a_row 0 came ≡ row
 
 -- one turn, of which all calls were answered
 pub record TookOne (tells : Type 0) (old new : List Came) (f g : ℕ) (p q : PassView) (failed : Bool)

@@ -6,7 +6,7 @@ ghost use Rattle.swim_shell.specs.Calls.{NewCall, NewCalls};
 ghost use Rattle.swim_shell.specs.Control.{Responds, RespondsCall, AnswersLine, ControlsOne, Controls, ShowsWatch};
 
 use crate::answers::{Answer, AnswerTo, Joined, Left, Shown, add_refusal, add_status, add_text};
-use crate::asked::{Asked, understand};
+use crate::request::{Request, understand};
 use crate::calling::{Refusal, enter};
 use crate::lines::{Line, read_line};
 use crate::note_log::NoteLog;
@@ -89,35 +89,35 @@ fn respond<N: Name, D: Disk, L: Link, R: Wait + Drop, W: Wait + Log + Clock>(
     watch: &mut Watch<N>,
     notes: &mut NoteLog,
     answer: &mut Answer,
-    asked: Asked,
+    asked: Request,
 ) -> Option<ControlEnd>
     requires { answer.old.bytes ≡ [] }
     ensures { Responds pass.old pass.new asked answer.new.bytes result }
 {
     match asked {
-        Asked::Status => show_status(watch, answer),
-        Asked::Members(after) => {
+        Request::Status => show_status(watch, answer),
+        Request::Members(after) => {
             let event = Event::Members { after };
             call(rt, shared, pass, watch, notes, answer, event, Shown)
         }
-        Asked::Join(peer) => {
+        Request::Join(peer) => {
             let event = Event::Join { peer };
             call(rt, shared, pass, watch, notes, answer, event, Joined)
         }
-        Asked::Leave => call(rt, shared, pass, watch, notes, answer, Event::Leave, Left),
-        Asked::Stop => {
+        Request::Leave => call(rt, shared, pass, watch, notes, answer, Event::Leave, Left),
+        Request::Stop => {
             add_text(answer, "ok stopping\n");
             Some(ControlEnd::Stop)
         }
-        Asked::Unknown => {
+        Request::Unknown => {
             add_text(answer, "error 1 unknown\n");
             None
         }
-        Asked::Address => {
+        Request::Address => {
             add_text(answer, "error 2 address\n");
             None
         }
-        Asked::TooLong => {
+        Request::TooLong => {
             add_text(answer, "error 3 too long\n");
             None
         }

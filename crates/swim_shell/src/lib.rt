@@ -3,7 +3,7 @@
 #![tactic(auto)]
 
 mod answers;
-mod asked;
+mod request;
 mod calling;
 mod controlling;
 mod doors;
@@ -15,7 +15,7 @@ mod sending;
 mod ticking;
 mod worker;
 
-pub use asked::Asked;
+pub use request::Request;
 pub use calling::{Refusal, enter};
 pub use controlling::control;
 pub use doors::Doors;

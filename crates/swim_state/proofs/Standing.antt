@@ -2,9 +2,9 @@
 use Rattle.std.proofs.Common.{◌&&◌, nat_le, ◌≡◌, ◌≢◌, ◌⊎◌, inl, inr, ⊎_elim, ℕ, ◌+◌, ◌-◌, ◌^◌, ◌<◌, ◌≤◌, Bool, true, false, ◌==◌, if◌then◌else◌, List, [], ◌∷◌, length, take, get_or, slice_index, refl, sym, ◌∙◌, ap, subst, arith}
 use Rattle.std.proofs.lemmas.Bool.{and_from, and_parts, eq-eqb, ne_eqb, le-leb, leb-true}
 use Rattle.swim_disk.specs.Disk.{Torn, overlaid}
-use Rattle.swim_state.specs.Layout.{Layout, Apart, body_of, gate_of, other, part, body, ceiling_in, is_good, saved_in}
+use Rattle.swim_state.specs.Layout.{Layout, Apart, body_of, gate_of, other_slot, bytes_from, body, ceiling_in, is_good, saved_in}
 use Rattle.swim_state.specs.Version.{version_1}
-use Rattle.swim_state.specs.File.{head, reading, reading_at, IsOpen, ceiling_of, IsSound, floor}
+use Rattle.swim_state.specs.File.{head, slot_reading, reading_at, IsOpen, ceiling_of, IsSound, floor}
 use Rattle.swim_state.specs.Held.{Covers}
 use Rattle.swim_state.specs.Machinery.Saving.{Stands}
 use Rattle.swim_state.specs.declared.owner.Owner.{Owner}
@@ -27,7 +27,7 @@ unfolding reading_at
 reading_kept layout at n old new slot torn long ga ba =
     let gate = byte_kept at n old new (layout.gate_at slot) torn (omega (arith, long, layout.gate_within slot)) ga in
     let bytes = part_kept at n old new (layout.body_at slot) layout.body_size torn (omega (arith, long, layout.body_within slot)) ba in
-    ap (λ v. reading layout v (part new (layout.body_at slot) layout.body_size)) gate ∙ ap (λ (l : List ℕ). reading layout (slice_index old (layout.gate_at slot)) l) bytes
+    ap (λ v. slot_reading layout v (bytes_from new (layout.body_at slot) layout.body_size)) gate ∙ ap (λ (l : List ℕ). slot_reading layout (slice_index old (layout.gate_at slot)) l) bytes
 
 -- the first block is never written
 block_kept : (layout : Layout) (at n : ℕ) (old new : List ℕ) → Torn at n old new → 4096 ≤ at → layout.file_size ≤ length old → take 4096 new ≡ take 4096 old
@@ -36,7 +36,7 @@ block_kept layout at n old new torn past long = part_kept at n old new 0 4096 to
 gate_kept : (layout : Layout) (slot : Slot) (old new : List ℕ) → layout.file_size ≤ length old → Torn (layout.body_at slot) layout.body_size old new → slice_index new (layout.gate_at slot) ≡ slice_index old (layout.gate_at slot)
 gate_kept layout slot old new long torn = byte_kept (layout.body_at slot) layout.body_size old new (layout.gate_at slot) torn (omega (arith, long, layout.gate_within slot)) (layout.body_apart slot slot)
 
-pub body_kept : (layout : Layout) (slot : Slot) (old new : List ℕ) → layout.file_size ≤ length old → Torn (layout.gate_at slot) 1 old new → part new (layout.body_at slot) layout.body_size ≡ part old (layout.body_at slot) layout.body_size
+pub body_kept : (layout : Layout) (slot : Slot) (old new : List ℕ) → layout.file_size ≤ length old → Torn (layout.gate_at slot) 1 old new → bytes_from new (layout.body_at slot) layout.body_size ≡ bytes_from old (layout.body_at slot) layout.body_size
 body_kept layout slot old new long torn = part_kept (layout.gate_at slot) 1 old new (layout.body_at slot) layout.body_size torn (omega (arith, long, layout.body_within slot)) (layout.gate_apart slot slot)
 
 -- what a reading says, by its two tests
@@ -64,26 +64,26 @@ byte_written old at v =
 -- a gate past the end is shut
 pub past_the_end : (image : List ℕ) (slot : Slot) → length image ≤ gate_of slot → reading_at version_1 image slot ≡ Shut
 unfolding reading_at
-past_the_end image slot past = ap (λ v. reading version_1 v (part image (body_of slot) 16)) (get_or_past image (gate_of slot) 0 past)
+past_the_end image slot past = ap (λ v. slot_reading version_1 v (bytes_from image (body_of slot) 16)) (get_or_past image (gate_of slot) 0 past)
 
 -- over a shut gate any body is shut
-still_shut : (layout : Layout) (gate : ℕ) (bytes other_bytes : List ℕ) → reading layout gate bytes ≡ Shut → reading layout gate other_bytes ≡ Shut
+still_shut : (layout : Layout) (gate : ℕ) (bytes other_bytes : List ℕ) → slot_reading layout gate bytes ≡ Shut → slot_reading layout gate other_bytes ≡ Shut
 still_shut layout gate bytes other_bytes is =
     let shut = verdict_shut (gate == 0xA5) (layout.is_good bytes) (layout.saved_in bytes) is in
     rw shut
 
-good_whole : (layout : Layout) (gate : ℕ) (bytes : List ℕ) → layout.is_good bytes ≡ true → reading layout gate bytes ≢ Damaged
+good_whole : (layout : Layout) (gate : ℕ) (bytes : List ℕ) → layout.is_good bytes ≡ true → slot_reading layout gate bytes ≢ Damaged
 good_whole layout gate bytes good = verdict_whole (gate == 0xA5) (layout.is_good bytes) (layout.saved_in bytes) good
 
 -- over a good body any gate byte leaves what stands
-pub torn_gate : (layout : Layout) (front : List ℕ) (slot : Slot) (kept : Saved) (old new : List ℕ) → Stands layout front slot kept old → layout.is_good (part old (layout.body_at slot) layout.body_size) ≡ true
+pub torn_gate : (layout : Layout) (front : List ℕ) (slot : Slot) (kept : Saved) (old new : List ℕ) → Stands layout front slot kept old → layout.is_good (bytes_from old (layout.body_at slot) layout.body_size) ≡ true
     → Torn (layout.gate_at slot) 1 old new → Stands layout front slot kept new
 unfolding reading_at
 torn_gate layout front slot kept old new stands good torn = record {
   long = omega (arith, stands.long, torn.no_shorter);
   front = block_kept layout (layout.gate_at slot) 1 old new torn (layout.gate_past slot) stands.long ∙ stands.front;
-  held = reading_kept layout (layout.gate_at slot) 1 old new (other slot) torn stands.long (layout.gates_apart slot) (layout.gate_apart slot (other slot)) ∙ stands.held;
-  whole = good_whole layout (slice_index new (layout.gate_at slot)) (part new (layout.body_at slot) layout.body_size) (ap layout.is_good (body_kept layout slot old new stands.long torn) ∙ good);
+  held = reading_kept layout (layout.gate_at slot) 1 old new (other_slot slot) torn stands.long (layout.gates_apart slot) (layout.gate_apart slot (other_slot slot)) ∙ stands.held;
+  whole = good_whole layout (slice_index new (layout.gate_at slot)) (bytes_from new (layout.body_at slot) layout.body_size) (ap layout.is_good (body_kept layout slot old new stands.long torn) ∙ good);
 }
 
 -- behind a shut gate any body leaves what stands
@@ -93,11 +93,11 @@ unfolding reading_at
 torn_body layout front slot kept old new stands shut torn =
     let size = layout.body_size in
     let gate = gate_kept layout slot old new stands.long torn in
-    let now_shut : reading_at layout new slot ≡ Shut = ap (λ v. reading layout v (part new (layout.body_at slot) size)) gate ∙ still_shut layout (slice_index old (layout.gate_at slot)) (part old (layout.body_at slot) size) (part new (layout.body_at slot) size) shut in (
+    let now_shut : reading_at layout new slot ≡ Shut = ap (λ v. slot_reading layout v (bytes_from new (layout.body_at slot) size)) gate ∙ still_shut layout (slice_index old (layout.gate_at slot)) (bytes_from old (layout.body_at slot) size) (bytes_from new (layout.body_at slot) size) shut in (
       record {
         long = omega (arith, stands.long, torn.no_shorter);
         front = block_kept layout (layout.body_at slot) size old new torn (layout.body_past slot) stands.long ∙ stands.front;
-        held = reading_kept layout (layout.body_at slot) size old new (other slot) torn stands.long (layout.body_apart slot (other slot)) (layout.bodies_apart slot) ∙ stands.held;
+        held = reading_kept layout (layout.body_at slot) size old new (other_slot slot) torn stands.long (layout.body_apart slot (other_slot slot)) (layout.bodies_apart slot) ∙ stands.held;
         whole = λ bad. let e : Shut ≡ Damaged = sym now_shut ∙ bad in cc;
       },
       now_shut,
@@ -106,17 +106,17 @@ torn_body layout front slot kept old new stands shut torn =
 take_front : (image : List ℕ) → take 24 (take 4096 image) ≡ take 24 image
 take_front image = take-take 24 4096 image (omega arith)
 
-good_slots : (slot : Slot) (kept : Saved) (image : List ℕ) → reading_at version_1 image (other slot) ≡ Holds kept → reading_at version_1 image slot ≢ Damaged → (each : Slot) → reading_at version_1 image each ≢ Damaged
+good_slots : (slot : Slot) (kept : Saved) (image : List ℕ) → reading_at version_1 image (other_slot slot) ≡ Holds kept → reading_at version_1 image slot ≢ Damaged → (each : Slot) → reading_at version_1 image each ≢ Damaged
 good_slots A kept image held whole A = whole
 good_slots A kept image held whole B = λ bad. let e : Holds kept ≡ Damaged = sym held ∙ bad in cc
 good_slots B kept image held whole A = λ bad. let e : Holds kept ≡ Damaged = sym held ∙ bad in cc
 good_slots B kept image held whole B = whole
 
-open_slot : (slot : Slot) (kept : Saved) (image : List ℕ) → reading_at version_1 image (other slot) ≡ Holds kept → IsOpen (reading_at version_1 image A) ⊎ IsOpen (reading_at version_1 image B)
+open_slot : (slot : Slot) (kept : Saved) (image : List ℕ) → reading_at version_1 image (other_slot slot) ≡ Holds kept → IsOpen (reading_at version_1 image A) ⊎ IsOpen (reading_at version_1 image B)
 open_slot A kept image held = inr (subst IsOpen (sym held) tt)
 open_slot B kept image held = inl (subst IsOpen (sym held) tt)
 
-floor_kept : (slot : Slot) (kept : Saved) (image : List ℕ) → reading_at version_1 image (other slot) ≡ Holds kept → kept.ceiling ≤ floor image
+floor_kept : (slot : Slot) (kept : Saved) (image : List ℕ) → reading_at version_1 image (other_slot slot) ≡ Holds kept → kept.ceiling ≤ floor image
 floor_kept A kept image held = omega (arith, ap ceiling_of held)
 floor_kept B kept image held = omega (arith, ap ceiling_of held)
 
@@ -136,16 +136,16 @@ pub block_begins : (owner : Owner) (image : List ℕ) → IsSound owner image �
 block_begins owner image sound = take_front image ∙ sound.front
 
 -- what a slot says once its gate is written
-pub gate_written : (layout : Layout) (slot : Slot) (old : List ℕ) (v : ℕ) → layout.file_size ≤ length old → reading_at layout (overlaid old (layout.gate_at slot) (v ∷ [])) slot ≡ reading layout v (part old (layout.body_at slot) layout.body_size)
+pub gate_written : (layout : Layout) (slot : Slot) (old : List ℕ) (v : ℕ) → layout.file_size ≤ length old → reading_at layout (overlaid old (layout.gate_at slot) (v ∷ [])) slot ≡ slot_reading layout v (bytes_from old (layout.body_at slot) layout.body_size)
 unfolding reading_at
 gate_written layout slot old v long =
     let at = layout.gate_at slot in
     let new = overlaid old at (v ∷ []) in
     let torn : Torn at 1 old new = overlaid_torn old at (v ∷ []) in
-    ap (λ b. reading layout b (part new (layout.body_at slot) layout.body_size)) (byte_written old at v) ∙ ap (λ (l : List ℕ). reading layout v l) (body_kept layout slot old new long torn)
+    ap (λ b. slot_reading layout b (bytes_from new (layout.body_at slot) layout.body_size)) (byte_written old at v) ∙ ap (λ (l : List ℕ). slot_reading layout v l) (body_kept layout slot old new long torn)
 
 -- an open gate over a good body
-pub open_reads : (bytes : List ℕ) → is_good bytes ≡ true → reading version_1 0xA5 bytes ≡ Holds (saved_in bytes)
+pub open_reads : (bytes : List ℕ) → is_good bytes ≡ true → slot_reading version_1 0xA5 bytes ≡ Holds (saved_in bytes)
 open_reads bytes good = rw good
 
 pub ceiling_back : (saved : Saved) → saved.ceiling ≤ 2 ^ 62 → ceiling_in (body saved) ≡ saved.ceiling
@@ -157,10 +157,10 @@ unfolding is_good body
 body_good saved le =
     let n = saved.ceiling in
     let high = ceiling_back saved le in
-    let low : big_number 8 (part (body saved) 8 8) ≡ 2 ^ 64 - 1 - n = big_number-reads_back 8 (2 ^ 64 - 1 - n) [] (omega arith) in
+    let low : big_number 8 (bytes_from (body saved) 8 8) ≡ 2 ^ 64 - 1 - n = big_number-reads_back 8 (2 ^ 64 - 1 - n) [] (omega arith) in
     and_from _ _ (eq-eqb _ _ (low ∙ ap (λ m. 2 ^ 64 - 1 - m) (sym high))) (le-leb _ _ (omega (arith, high, le)))
 
-pub body_reads : (saved : Saved) → saved.ceiling ≤ 2 ^ 62 → reading version_1 0xA5 (body saved) ≡ Holds saved
+pub body_reads : (saved : Saved) → saved.ceiling ≤ 2 ^ 62 → slot_reading version_1 0xA5 (body saved) ≡ Holds saved
 body_reads saved le = open_reads (body saved) (body_good saved le) ∙ ap (λ n. Holds (record { ceiling = n })) (ceiling_back saved le)
 
 pub length-body : (saved : Saved) → length (body saved) ≡ 16
@@ -169,12 +169,12 @@ length-body saved = refl
 
 -- what a slot says once its body is written
 pub body_written : (front : List ℕ) (slot : Slot) (kept saved : Saved) (old : List ℕ) → Stands version_1 front slot kept old → reading_at version_1 old slot ≡ Shut
-    → (reading_at version_1 (overlaid old (body_of slot) (body saved)) slot ≡ Shut) × (part (overlaid old (body_of slot) (body saved)) (body_of slot) 16 ≡ body saved)
+    → (reading_at version_1 (overlaid old (body_of slot) (body saved)) slot ≡ Shut) × (bytes_from (overlaid old (body_of slot) (body saved)) (body_of slot) 16 ≡ body saved)
 body_written front slot kept saved old stands shut =
     let new = overlaid old (body_of slot) (body saved) in
     let torn : Torn (body_of slot) 16 old new = subst (λ k. Torn (body_of slot) k old new) (length-body saved) (overlaid_torn old (body_of slot) (body saved)) in (
       (torn_body version_1 front slot kept old new stands shut torn).1,
-      subst (λ k. part new (body_of slot) k ≡ body saved) (length-body saved) (overlaid_part old (body_of slot) (body saved)),
+      subst (λ k. bytes_from new (body_of slot) k ≡ body saved) (length-body saved) (overlaid_part old (body_of slot) (body saved)),
     )
 
 pub good_bounded : (bytes : List ℕ) → is_good bytes ≡ true → ceiling_in bytes ≤ 2 ^ 62
@@ -182,16 +182,16 @@ unfolding is_good
 good_bounded bytes good = leb-true _ _ ((and_parts _ _ good).1)
 
 -- the two tests of a body, one after the other
-pub good_then : (bytes : List ℕ) (high low : ℕ) → high ≡ ceiling_in bytes → low ≡ big_number 8 (part bytes 8 8) → low ≡ 2 ^ 64 - 1 - high → nat_le high (2 ^ 62) ≡ is_good bytes
+pub good_then : (bytes : List ℕ) (high low : ℕ) → high ≡ ceiling_in bytes → low ≡ big_number 8 (bytes_from bytes 8 8) → low ≡ 2 ^ 64 - 1 - high → nat_le high (2 ^ 62) ≡ is_good bytes
 unfolding is_good
 good_then bytes high low high_is low_is agrees =
-    let test : (big_number 8 (part bytes 8 8) == 2 ^ 64 - 1 - ceiling_in bytes) ≡ true = eq-eqb _ _ (sym low_is ∙ agrees ∙ ap (λ m. 2 ^ 64 - 1 - m) high_is) in
+    let test : (big_number 8 (bytes_from bytes 8 8) == 2 ^ 64 - 1 - ceiling_in bytes) ≡ true = eq-eqb _ _ (sym low_is ∙ agrees ∙ ap (λ m. 2 ^ 64 - 1 - m) high_is) in
     ap (λ m. nat_le m (2 ^ 62)) high_is ∙ sym (ap (λ t. t && nat_le (ceiling_in bytes) (2 ^ 62)) test)
 
-pub good_else : (bytes : List ℕ) (high low : ℕ) → high ≡ ceiling_in bytes → low ≡ big_number 8 (part bytes 8 8) → (low ≡ 2 ^ 64 - 1 - high → ⊥) → false ≡ is_good bytes
+pub good_else : (bytes : List ℕ) (high low : ℕ) → high ≡ ceiling_in bytes → low ≡ big_number 8 (bytes_from bytes 8 8) → (low ≡ 2 ^ 64 - 1 - high → ⊥) → false ≡ is_good bytes
 unfolding is_good
 good_else bytes high low high_is low_is differs =
-    let test : (big_number 8 (part bytes 8 8) == 2 ^ 64 - 1 - ceiling_in bytes) ≡ false = ne_eqb _ _ (λ same. differs (low_is ∙ same ∙ ap (λ m. 2 ^ 64 - 1 - m) (sym high_is))) in
+    let test : (big_number 8 (bytes_from bytes 8 8) == 2 ^ 64 - 1 - ceiling_in bytes) ≡ false = ne_eqb _ _ (λ same. differs (low_is ∙ same ∙ ap (λ m. 2 ^ 64 - 1 - m) (sym high_is))) in
     sym (ap (λ t. t && nat_le (ceiling_in bytes) (2 ^ 62)) test)
 
 verdict_good : (is_open good : Bool) (saved : Saved) → ((if is_open then (if good then Holds saved else Damaged) else Shut) ≡ Shut → ⊥) → ((if is_open then (if good then Holds saved else Damaged) else Shut) ≡ Damaged → ⊥) → good ≡ true
@@ -199,6 +199,6 @@ verdict_good true true saved open_gate whole = refl
 verdict_good true false saved open_gate whole = absurd (whole refl)
 verdict_good false good saved open_gate whole = absurd (open_gate refl)
 
-pub read_good : (layout : Layout) (image : List ℕ) (slot : Slot) → (reading_at layout image slot ≡ Shut → ⊥) → (reading_at layout image slot ≡ Damaged → ⊥) → layout.is_good (part image (layout.body_at slot) layout.body_size) ≡ true
+pub read_good : (layout : Layout) (image : List ℕ) (slot : Slot) → (reading_at layout image slot ≡ Shut → ⊥) → (reading_at layout image slot ≡ Damaged → ⊥) → layout.is_good (bytes_from image (layout.body_at slot) layout.body_size) ≡ true
 unfolding reading_at
-read_good layout image slot open_gate whole = verdict_good (slice_index image (layout.gate_at slot) == 0xA5) (layout.is_good (part image (layout.body_at slot) layout.body_size)) (layout.saved_in (part image (layout.body_at slot) layout.body_size)) open_gate whole
+read_good layout image slot open_gate whole = verdict_good (slice_index image (layout.gate_at slot) == 0xA5) (layout.is_good (bytes_from image (layout.body_at slot) layout.body_size)) (layout.saved_in (bytes_from image (layout.body_at slot) layout.body_size)) open_gate whole

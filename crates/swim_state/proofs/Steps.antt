@@ -1,10 +1,10 @@
 -- How steps of a save follow one another.
 use Rattle.std.proofs.Common.{◌≡◌, ℕ, true, List, ◌∷◌, [], length, Result, Ok, Err, OnOk, subst, sym}
-use Rattle.swim_disk.specs.Disk.{State, Torn, overlaid}
-use Rattle.swim_state.specs.Layout.{Layout, body_of, body, part}
+use Rattle.swim_disk.specs.Disk.{DiskState, Torn, overlaid}
+use Rattle.swim_state.specs.Layout.{Layout, body_of, body, bytes_from}
 use Rattle.swim_state.specs.Version.{version_1}
 use Rattle.swim_state.specs.File.{reading_at}
-use Rattle.swim_state.specs.Machinery.Saving.{Stands, Step, Put}
+use Rattle.swim_state.specs.Machinery.Saving.{Stands, SaveStep, Put}
 use Rattle.swim_state.specs.declared.layout.Saved.{Saved}
 use Rattle.swim_state.specs.declared.layout.Slot.{Slot}
 use Rattle.swim_state.specs.declared.layout.Reading.TheVariants.{Shut}
@@ -24,8 +24,8 @@ on_ok P Q (Ok v) so p = so p
 on_ok P Q (Err e) so p = p
 
 -- a step that is one write and its sync
-put_step : {T E : Type 0} (layout : Layout) (front : List ℕ) (slot : Slot) (kept : Saved) (at : ℕ) (bytes : List ℕ) (Q : List ℕ → Type 0) (result : Result T E) (old new : State) → Put at bytes result old new
-    → ((c : List ℕ) → Torn at (length bytes) old.content c → Stands layout front slot kept c) → Q (overlaid old.content at bytes) → Step layout front slot kept Q result old new
+put_step : {T E : Type 0} (layout : Layout) (front : List ℕ) (slot : Slot) (kept : Saved) (at : ℕ) (bytes : List ℕ) (Q : List ℕ → Type 0) (result : Result T E) (old new : DiskState) → Put at bytes result old new
+    → ((c : List ℕ) → Torn at (length bytes) old.content c → Stands layout front slot kept c) → Q (overlaid old.content at bytes) → SaveStep layout front slot kept Q result old new
 put_step layout front slot kept at bytes Q result old new put torn done = record {
   moments = weaker _ _ old new torn put.moments;
   images = λ c left. torn c (put.images c left);
@@ -33,20 +33,20 @@ put_step layout front slot kept at bytes Q result old new put torn done = record
   done = on_ok (new.content ≡ overlaid old.content at bytes) (Q new.content) result (λ is. subst Q (sym is) done) put.done;
 }
 
-pub gate_step : {T E : Type 0} (layout : Layout) (front : List ℕ) (slot : Slot) (kept : Saved) (at v : ℕ) (Q : List ℕ → Type 0) (result : Result T E) (old new : State) → at ≡ layout.gate_at slot → Put at (v ∷ []) result old new
-    → Stands layout front slot kept old.content → layout.is_good (part old.content (layout.body_at slot) layout.body_size) ≡ true → Q (overlaid old.content (layout.gate_at slot) (v ∷ [])) → Step layout front slot kept Q result old new
+pub gate_step : {T E : Type 0} (layout : Layout) (front : List ℕ) (slot : Slot) (kept : Saved) (at v : ℕ) (Q : List ℕ → Type 0) (result : Result T E) (old new : DiskState) → at ≡ layout.gate_at slot → Put at (v ∷ []) result old new
+    → Stands layout front slot kept old.content → layout.is_good (bytes_from old.content (layout.body_at slot) layout.body_size) ≡ true → Q (overlaid old.content (layout.gate_at slot) (v ∷ [])) → SaveStep layout front slot kept Q result old new
 gate_step layout front slot kept at v Q result old new is put stands good done =
     put_step layout front slot kept (layout.gate_at slot) (v ∷ []) Q result old new (subst (λ a. Put a (v ∷ []) result old new) is put)
     (λ c torn. torn_gate layout front slot kept old.content c stands good torn) done
 
-pub body_step : {T E : Type 0} (front : List ℕ) (slot : Slot) (kept : Saved) (at : ℕ) (saved : Saved) (bytes : List ℕ) (result : Result T E) (old new : State) → at ≡ body_of slot → bytes ≡ body saved → Put at bytes result old new
+pub body_step : {T E : Type 0} (front : List ℕ) (slot : Slot) (kept : Saved) (at : ℕ) (saved : Saved) (bytes : List ℕ) (result : Result T E) (old new : DiskState) → at ≡ body_of slot → bytes ≡ body saved → Put at bytes result old new
     → Stands version_1 front slot kept old.content → reading_at version_1 old.content slot ≡ Shut
-    → Step version_1 front slot kept (λ c. (reading_at version_1 c slot ≡ Shut) × (part c (body_of slot) 16 ≡ body saved)) result old new
+    → SaveStep version_1 front slot kept (λ c. (reading_at version_1 c slot ≡ Shut) × (bytes_from c (body_of slot) 16 ≡ body saved)) result old new
 unfolding body
 body_step front slot kept at saved bytes result old new is are put stands shut =
     put_step version_1 front slot kept (body_of slot) (body saved) _ result old new (subst (λ b. Put (body_of slot) b result old new) are (subst (λ a. Put a bytes result old new) is put))
     (λ c torn. (torn_body version_1 front slot kept old.content c stands shut torn).0) (body_written front slot kept saved old.content stands shut)
 
 -- what a read gives after a step is one of its images
-pub stands_after : {T E : Type 0} (layout : Layout) (front : List ℕ) (slot : Slot) (kept : Saved) (Q : List ℕ → Type 0) (result : Result T E) (old new : State) → Step layout front slot kept Q result old new → Stands layout front slot kept new.content
+pub stands_after : {T E : Type 0} (layout : Layout) (front : List ℕ) (slot : Slot) (kept : Saved) (Q : List ℕ → Type 0) (result : Result T E) (old new : DiskState) → SaveStep layout front slot kept Q result old new → Stands layout front slot kept new.content
 stands_after layout front slot kept Q result old new step = step.images new.content new.reads

@@ -2,7 +2,7 @@
 use Rattle.std.specs.Prelude.{◌≡◌, ◌⊎◌, ◌≢◌, ℕ, ◌^◌, ◌≤◌, max, ◌==◌, List, ◌++◌, length, take}
 use Rattle.std.specs.Prelude.{slice_index, if◌then◌else◌, codes}
 use Rattle.byteorder.specs.Endian.{big_bytes}
-use Rattle.swim_state.specs.Layout.{Layout, part}
+use Rattle.swim_state.specs.Layout.{Layout, bytes_from}
 use Rattle.swim_state.specs.Version.{version_1}
 use Rattle.swim_state.specs.declared.owner.Owner.{Owner}
 use Rattle.swim_state.specs.declared.layout.Slot.{Slot}
@@ -25,8 +25,8 @@ abbrev pub head : Owner → List ℕ
 head owner = mark ++ owner_bytes owner
 
 -- what a gate byte and a body say
-abbrev pub reading : Layout → ℕ → List ℕ → Reading
-reading layout gate bytes =
+abbrev pub slot_reading : Layout → ℕ → List ℕ → Reading
+slot_reading layout gate bytes =
     if gate == 0xA5
     then (if layout.is_good bytes then Holds (layout.saved_in bytes) else Damaged)
     else Shut
@@ -34,8 +34,8 @@ reading layout gate bytes =
 -- what a slot of the file says
 unfoldable pub reading_at : Layout → List ℕ → Slot → Reading
 reading_at layout image slot =
-    reading layout (slice_index image (layout.gate_at slot))
-    (part image (layout.body_at slot) layout.body_size)
+    slot_reading layout (slice_index image (layout.gate_at slot))
+    (bytes_from image (layout.body_at slot) layout.body_size)
 
 -- the slot's gate is open, over a good body or a damaged one
 abbrev pub IsOpen : Reading → Type 0

@@ -105,7 +105,7 @@ fn judge<D: Disk>(disk: &mut D, owner: Owner) -> Result<Slots, RecoverFault>
 }
 
 /// Syncs, reads all, and judges it. The length is judged as it is read, and all else after all reads.
-fn look<D: Disk>(disk: &mut D, owner: Owner) -> Result<Slots, RecoverFault>
+fn inspect<D: Disk>(disk: &mut D, owner: Owner) -> Result<Slots, RecoverFault>
     ensures name { (D.state disk.new).name ≡ (D.state disk.old).name }
     ensures asked { IfErr result (λ f. f ≢ Device
         → IsJudged D.keeps_model f (D.state disk.old) (D.state disk.new)) }
@@ -204,7 +204,7 @@ pub fn recover<D: Disk>(mut disk: D, owner: Owner) -> Result<Store<D>, (D, Recov
 {
     // Two names, since the check follows a struct by value through one call only.
     let reader = owner;
-    match look(&mut disk, reader) {
+    match inspect(&mut disk, reader) {
         Ok(slots) => first_save(disk, owner, slots),
         Err(fault) => Err((disk, fault)),
     }

@@ -3,9 +3,9 @@
 ghost use Rattle.std.specs.Prelude.{◌≡◌, ◌<◌, ◌≤◌, ◌^◌, ◌+◌, ℕ, List, true, false, OnErr, IfOk};
 ghost use Rattle.swim_disk.specs.Disk.{Counts, IsSettled};
 ghost use Rattle.swim_state.specs.File.{reading_at, floor_of, AreUsable, AreOf, IsSound};
-ghost use Rattle.swim_state.specs.Layout.{body, body_of, is_good, part};
+ghost use Rattle.swim_state.specs.Layout.{body, body_of, is_good, bytes_from};
 ghost use Rattle.swim_state.specs.Version.{version_1};
-ghost use Rattle.swim_state.specs.Machinery.Saving.{Put, Stands, Step, Saves};
+ghost use Rattle.swim_state.specs.Machinery.Saving.{Put, Stands, SaveStep, Saves};
 ghost use Rattle.swim_state.specs.declared.owner.Owner.{Owner};
 ghost use Rattle.swim_state.specs.declared.layout.Saved.{Saved};
 ghost use Rattle.swim_state.specs.declared.layout.Reading.TheVariants.{Shut, Holds};
@@ -54,11 +54,11 @@ pub(crate) fn shut<D: Disk>(disk: &mut D, slot: Slot, is_shut: bool) -> Result<(
     requires shut { D.keeps_model → is_shut ≡ true
         → reading_at version_1 (D.state disk.old).content slot ≡ Shut }
     requires filled { D.keeps_model → is_shut ≡ false
-        → is_good (part (D.state disk.old).content (body_of slot) 16) ≡ true }
+        → is_good (bytes_from (D.state disk.old).content (body_of slot) 16) ≡ true }
     ensures counts { Counts result (D.state disk.old) (D.state disk.new) }
     ensures step { D.keeps_model → (front : List ℕ) (kept : Saved)
         → Stands version_1 front slot kept (D.state disk.old).content
-        → Step version_1 front slot kept (λ c. reading_at version_1 c slot ≡ Shut)
+        → SaveStep version_1 front slot kept (λ c. reading_at version_1 c slot ≡ Shut)
         result (D.state disk.old) (D.state disk.new) }
 {
     if is_shut {
@@ -72,11 +72,11 @@ pub(crate) fn shut<D: Disk>(disk: &mut D, slot: Slot, is_shut: bool) -> Result<(
 fn shut_filled<D: Disk>(disk: &mut D, slot: Slot) -> Result<(), DiskFault>
     requires settled { D.keeps_model → IsSettled (D.state disk.old) }
     requires filled { D.keeps_model
-        → is_good (part (D.state disk.old).content (body_of slot) 16) ≡ true }
+        → is_good (bytes_from (D.state disk.old).content (body_of slot) 16) ≡ true }
     ensures counts { Counts result (D.state disk.old) (D.state disk.new) }
     ensures step { D.keeps_model → (front : List ℕ) (kept : Saved)
         → Stands version_1 front slot kept (D.state disk.old).content
-        → Step version_1 front slot kept (λ c. reading_at version_1 c slot ≡ Shut)
+        → SaveStep version_1 front slot kept (λ c. reading_at version_1 c slot ≡ Shut)
         result (D.state disk.old) (D.state disk.new) }
 {
     put(disk, slot.gate(), &[0])
@@ -89,8 +89,8 @@ pub(crate) fn fill<D: Disk>(disk: &mut D, slot: Slot, saved: Saved) -> Result<()
     ensures counts { Counts result (D.state disk.old) (D.state disk.new) }
     ensures step { D.keeps_model → (front : List ℕ) (kept : Saved)
         → Stands version_1 front slot kept (D.state disk.old).content
-        → Step version_1 front slot kept
-        (λ c. (reading_at version_1 c slot ≡ Shut) × (part c (body_of slot) 16 ≡ body saved))
+        → SaveStep version_1 front slot kept
+        (λ c. (reading_at version_1 c slot ≡ Shut) × (bytes_from c (body_of slot) 16 ≡ body saved))
         result (D.state disk.old) (D.state disk.new) }
 {
     put(disk, slot.body(), &body_bytes(saved))
@@ -101,11 +101,11 @@ pub(crate) fn open<D: Disk>(disk: &mut D, slot: Slot, saved: Saved) -> Result<()
     requires bounded { saved.ceiling ≤ NUMBER_MAX }
     requires settled { D.keeps_model → IsSettled (D.state disk.old) }
     requires filled { D.keeps_model
-        → part (D.state disk.old).content (body_of slot) 16 ≡ body saved }
+        → bytes_from (D.state disk.old).content (body_of slot) 16 ≡ body saved }
     ensures counts { Counts result (D.state disk.old) (D.state disk.new) }
     ensures step { D.keeps_model → (front : List ℕ) (kept : Saved)
         → Stands version_1 front slot kept (D.state disk.old).content
-        → Step version_1 front slot kept (λ c. reading_at version_1 c slot ≡ Holds saved)
+        → SaveStep version_1 front slot kept (λ c. reading_at version_1 c slot ≡ Holds saved)
         result (D.state disk.old) (D.state disk.new) }
 {
     put(disk, slot.gate(), &[OPEN])

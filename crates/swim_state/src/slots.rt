@@ -18,12 +18,12 @@ pub struct Slots {
 }
 
 impl Reading {
-    ghost use Rattle.swim_state.specs.File.{reading, ceiling_of};
+    ghost use Rattle.swim_state.specs.File.{slot_reading, ceiling_of};
     ghost use Rattle.swim_state.specs.Version.{version_1};
 
     /// What a gate byte and a body say.
     pub(crate) fn of(gate: u8, body: &[u8; BODY_SIZE]) -> Reading
-        ensures reading { result ≡ reading version_1 gate body.now }
+        ensures reading { result ≡ slot_reading version_1 gate body.now }
         ensures bounded { ceiling_of result ≤ NUMBER_MAX }
     {
         if gate != OPEN {
@@ -49,7 +49,7 @@ impl Reading {
 
 impl Slots {
     ghost use Rattle.swim_state.specs.File.{floor_of, reading_in, ceiling_of, AreUsable, IsOpen};
-    ghost use Rattle.swim_state.specs.Layout.{other};
+    ghost use Rattle.swim_state.specs.Layout.{other_slot};
     ghost use Rattle.swim_state.specs.declared.layout.Saved.{Saved};
     ghost use Rattle.swim_state.specs.declared.layout.Reading.TheVariants.{Damaged, Holds, Shut};
     ghost use Rattle.std.specs.Prelude.{◌≡◌, ◌↔◌, ◌≤◌, ◌^◌, true};
@@ -73,7 +73,7 @@ impl Slots {
     /// These slots with something new in one.
     pub(crate) fn with(self, slot: Slot, saved: Saved) -> Slots
         ensures written { reading_in result slot ≡ Holds saved }
-        ensures other { reading_in result (other slot) ≡ reading_in self (other slot) }
+        ensures other { reading_in result (other_slot slot) ≡ reading_in self (other_slot slot) }
     {
         match slot {
             Slot::A => Slots {
@@ -101,7 +101,7 @@ impl Slots {
     /// The slot that a save writes: the other one holds the floor.
     pub(crate) fn target(self) -> Slot
         requires { AreUsable self }
-        ensures other { (kept : Saved) × (reading_in self (other result) ≡ Holds kept)
+        ensures other { (kept : Saved) × (reading_in self (other_slot result) ≡ Holds kept)
             × (kept.ceiling ≡ floor_of self) }
         ensures below { ceiling_of (reading_in self result) ≤ floor_of self }
     {

@@ -1,7 +1,7 @@
 //! An open state file, whose ceiling is raised by a save.
 
 ghost use Rattle.std.specs.Prelude.{◌≡◌, ◌+◌, ◌<◌, ◌≤◌, ◌^◌, ◌⊎◌, true, false, IfOk, OnOk, OnErr, IsErrOf, ℕ};
-ghost use Rattle.swim_disk.specs.Disk.{Counts, IsSettled, Rests, State};
+ghost use Rattle.swim_disk.specs.Disk.{Counts, IsSettled, Rests, DiskState};
 ghost use Rattle.swim_state.specs.File.{floor, floor_of, AreOf, AreUsable};
 ghost use Rattle.swim_state.specs.Held.{Covers, Through, Held, HeldSince};
 ghost use Rattle.swim_state.specs.Store.{IsStore};

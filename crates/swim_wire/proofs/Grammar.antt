@@ -14,7 +14,7 @@ use Rattle.swim_wire.specs.declared.fault.WireFault.{WireFault}
 use Rattle.swim_wire.specs.declared.fault.WireFault.TheVariants.{TooShort, TooLong, Magic, Version, Kind, Count, Reserved, Endpoint, UpdateKind, Number}
 use Rattle.swim_wire.specs.Numbers.{number_at, IsEndpoint, IsCursor, AreBytes}
 use Rattle.swim_wire.specs.Codes.{kind_code, MayHaveZero}
-use Rattle.swim_wire.specs.Spelling.{magic, head_text, spelling, update_text, UpdateFits, Fits, Spells}
+use Rattle.swim_wire.specs.Spelling.{magic, head_text, spelling, update_text, UpdateFits, IsEncodable, Spells}
 use Rattle.swim_wire.specs.Faults.{Has, SomeUpdate, TakesCursor, HasNoSubject, HasReservedUpdate, HasNoMember, HasUnknownCode, HasGreatNumber, IsFirstFault, IsFaultless, from_update}
 use Rattle.swim_wire.specs.Reading.{kind_of, updates_of, datagram_of}
 use Rattle.swim_wire.proofs.Texts.{AreBytes-drop, take_split, cells_4, back_4, back_6, back_8, number_at-drop, endpoint_at}
@@ -189,13 +189,13 @@ length-spelling : (d : Datagram) → length (spelling d) ≡ 32 + 16 * length d.
 length-spelling d = length-append (head_text d) (flat_map update_text d.updates.items) ∙ ap (λ n. 32 + n) (length-updates d.updates.items)
 
 -- what is not so of any update of it is not so of some
-none_of_updates : (P : List ℕ → Type 0) (d : Datagram) → Fits d → ((xs : List ℕ) → BeginsWell xs → ¬ P xs) → ¬ SomeUpdate P (spelling d)
+none_of_updates : (P : List ℕ → Type 0) (d : Datagram) → IsEncodable d → ((xs : List ℕ) → BeginsWell xs → ¬ P xs) → ¬ SomeUpdate P (spelling d)
 none_of_updates P d fits not (i, rest) =
     let us = d.updates.items in
     let at : from_update i (spelling d) ≡ drop (16 * i) (flat_map update_text us) = sym (drop-drop (16 * i) 32 (spelling d)) in
     not (drop (16 * i) (flat_map update_text us)) (updates_are_well us (recursion_from_All UpdateFits us fits.updates) i (omega (arith, rest.0, length-updates us, length-spelling d))) (subst P at rest.1)
 
-subject_is_well : (d : Datagram) → Fits d → ¬ HasNoSubject (spelling d)
+subject_is_well : (d : Datagram) → IsEncodable d → ¬ HasNoSubject (spelling d)
 subject_is_well d fits h =
     elim fits.head.subject [
       | inl z ↦ h.1 (takes_zero d.kind (fits.zero_subject z), high_zero d.subject z)
@@ -205,7 +205,7 @@ subject_is_well d fits h =
     port : IsEndpoint d.subject → number_at 30 2 (spelling d) ≡ 0 → ⊥
     port e z = omega (arith, e.has_port, low_bits d.subject, z)
 
-spelled_has : (d : Datagram) → Fits d → (fault : WireFault) → ¬ Has fault (spelling d)
+spelled_has : (d : Datagram) → IsEncodable d → (fault : WireFault) → ¬ Has fault (spelling d)
 spelled_has d fits TooShort h = omega (arith, length-spelling d, h)
 spelled_has d fits TooLong h = omega (arith, length-spelling d, h, fits.head.count)
 spelled_has d fits Magic h = h refl
@@ -227,7 +227,7 @@ cursor_fits : (n : ℕ) → IsCursor n → n < 2 ^ 48
 cursor_fits n (inl z) = omega arith
 cursor_fits n (inr e) = e.six_bytes
 
-datagram_of-spelling : (d : Datagram) → Fits d → datagram_of (spelling d) ≡ d
+datagram_of-spelling : (d : Datagram) → IsEncodable d → datagram_of (spelling d) ≡ d
 datagram_of-spelling d fits =
     let us = d.updates.items in
     let after_subject = flat_map update_text us in

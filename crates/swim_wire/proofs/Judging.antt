@@ -18,7 +18,7 @@ use Rattle.swim_wire.specs.Codes.{kind_code, update_code, fault_number}
 use Rattle.swim_wire.specs.Spelling.{magic}
 use Rattle.swim_wire.specs.Faults.{Has, SomeUpdate, HasReservedUpdate, HasNoMember, HasUnknownCode, HasGreatNumber, HasNoSubject, TakesCursor, IsFirstFault, IsFaultless, from_update}
 use Rattle.swim_wire.specs.Reading.{datagram_of}
-use Rattle.swim_wire.specs.Decoding.{some_below, some_update, is_code, is_zero_cursor, has, all_faults, read_as, reading}
+use Rattle.swim_wire.specs.Decoding.{some_below, some_update, is_code, is_zero_cursor, has_fault, all_faults, read_as, decoded}
 use Rattle.swim_wire.proofs.Order.{fault_number_one, fault_number_lt}
 use Rattle.swim_wire.specs.declared.update.TheConstants.{NUMBER_MAX}
 
@@ -86,7 +86,7 @@ no_subject bytes =
 no_member : (bytes : List ℕ) → Decides (some_update (λ u. number_at 6 2 u == 0) bytes) (SomeUpdate HasNoMember bytes)
 no_member bytes = of_update (λ u. number_at 6 2 u == 0) HasNoMember bytes (λ u. Decides-eqb (number_at 6 2 u) 0)
 
-pub judged : (f : WireFault) (bytes : List ℕ) → Decides (has f bytes) (Has f bytes)
+pub judged : (f : WireFault) (bytes : List ℕ) → Decides (has_fault f bytes) (Has f bytes)
 judged TooShort bytes = Decides-ltb (length bytes) 32
 judged TooLong bytes = Decides-ltb 512 (length bytes)
 judged Magic bytes = Decides-not (bytes_eq (take 4 bytes) magic) (bytes_eq-Decides (take 4 bytes) magic)
@@ -112,31 +112,31 @@ AreFrom n [] = n ≡ 11
 AreFrom n (f ∷ faults) = (fault_number f ≡ n) × AreFrom (n + 1) faults
 
 abbrev found : List WireFault → List ℕ → Option WireFault
-found faults bytes = find (λ fault. has fault bytes) faults
+found faults bytes = find (λ fault. has_fault fault bytes) faults
 
 find_first : (faults : List WireFault) (n : ℕ) (g : WireFault) (bytes : List ℕ) → AreFrom n faults → IsFirstFault g bytes → n ≤ fault_number g → found faults bytes ≡ Some g
 find_first [] n g bytes e first le = absurd (omega (arith, fault_number_lt g, e))
 find_first (f ∷ faults) n g bytes (e, rest) first le =
-    elim (cases_Bool (has f bytes)) [
+    elim (cases_Bool (has_fault f bytes)) [
       | inl holds ↦
           let here : Has f bytes = (judged f bytes).0 holds in
           let ge : fault_number f < fault_number g → ⊥ = λ lt. first.first f lt here in
           let same : f ≡ g = fault_number_one f g (omega (arith, ge)) in
-          cond-true (has f bytes) (Some f) (found faults bytes) holds ∙ ap (λ (x : WireFault). let o : Option WireFault = Some x in o) same
+          cond-true (has_fault f bytes) (Some f) (found faults bytes) holds ∙ ap (λ (x : WireFault). let o : Option WireFault = Some x in o) same
       | inr fails ↦
-          let other : fault_number f ≡ fault_number g → ⊥ = λ same. not_from_Decides (has f bytes) (judged f bytes) fails (subst (λ (x : WireFault). Has x bytes) (fault_number_one g f (sym same)) first.has) in
-          cond-false (has f bytes) (Some f) (found faults bytes) fails ∙ find_first faults (n + 1) g bytes rest first (omega (arith, other))
+          let other : fault_number f ≡ fault_number g → ⊥ = λ same. not_from_Decides (has_fault f bytes) (judged f bytes) fails (subst (λ (x : WireFault). Has x bytes) (fault_number_one g f (sym same)) first.has) in
+          cond-false (has_fault f bytes) (Some f) (found faults bytes) fails ∙ find_first faults (n + 1) g bytes rest first (omega (arith, other))
     ]
 
 find_none : (faults : List WireFault) (bytes : List ℕ) → IsFaultless bytes → found faults bytes ≡ None
 find_none [] bytes none = refl
 find_none (f ∷ faults) bytes none =
-    elim (cases_Bool (has f bytes)) [
+    elim (cases_Bool (has_fault f bytes)) [
       | inl holds ↦ absurd (none f ((judged f bytes).0 holds))
-      | inr fails ↦ cond-false (has f bytes) (Some f) (found faults bytes) fails ∙ find_none faults bytes none
+      | inr fails ↦ cond-false (has_fault f bytes) (Some f) (found faults bytes) fails ∙ find_none faults bytes none
     ]
 
-pub reading-fault : (bytes : List ℕ) (f : WireFault) → IsFirstFault f bytes → reading bytes ≡ read_as (Some f) (datagram_of bytes)
+pub reading-fault : (bytes : List ℕ) (f : WireFault) → IsFirstFault f bytes → decoded bytes ≡ read_as (Some f) (datagram_of bytes)
 reading-fault bytes f first =
     ap (λ (o : Option WireFault). read_as o (datagram_of bytes)) (find_first all_faults 1 f bytes (refl, (refl, (refl, (refl, (refl, (refl, (refl, (refl, (refl, (refl, refl)))))))))) first (omega (arith, at_least f)))
   where
@@ -152,5 +152,5 @@ reading-fault bytes f first =
     at_least UpdateKind = omega arith
     at_least Number = omega arith
 
-pub reading-faultless : (bytes : List ℕ) → IsFaultless bytes → reading bytes ≡ read_as None (datagram_of bytes)
+pub reading-faultless : (bytes : List ℕ) → IsFaultless bytes → decoded bytes ≡ read_as None (datagram_of bytes)
 reading-faultless bytes none = ap (λ (o : Option WireFault). read_as o (datagram_of bytes)) (find_none all_faults bytes none)

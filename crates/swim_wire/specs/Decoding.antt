@@ -36,21 +36,21 @@ is_zero_cursor bytes =
     (slice_index bytes 5 == 4 || slice_index bytes 5 == 5) && (number_at 26 4 bytes == 0)
 
 -- the text has this fault
-abbrev pub has : WireFault → List ℕ → Bool
-has TooShort bytes = nat_lt (length bytes) 32
-has TooLong bytes = nat_lt DATAGRAM_MAX (length bytes)
-has Magic bytes = not (bytes_eq (take 4 bytes) magic)
-has Version bytes = not (slice_index bytes 4 == 1)
-has Kind bytes = not (is_code 5 (slice_index bytes 5))
-has Count bytes = not (length bytes == 32 + 16 * slice_index bytes 6)
-has Reserved bytes =
+abbrev pub has_fault : WireFault → List ℕ → Bool
+has_fault TooShort bytes = nat_lt (length bytes) 32
+has_fault TooLong bytes = nat_lt DATAGRAM_MAX (length bytes)
+has_fault Magic bytes = not (bytes_eq (take 4 bytes) magic)
+has_fault Version bytes = not (slice_index bytes 4 == 1)
+has_fault Kind bytes = not (is_code 5 (slice_index bytes 5))
+has_fault Count bytes = not (length bytes == 32 + 16 * slice_index bytes 6)
+has_fault Reserved bytes =
     not (slice_index bytes 7 == 0) || some_update (λ u. not (slice_index u 1 == 0)) bytes
-has Endpoint bytes =
+has_fault Endpoint bytes =
     (number_at 24 2 bytes == 0)
     || (((number_at 30 2 bytes == 0) && not (is_zero_cursor bytes))
     || some_update (λ u. number_at 6 2 u == 0) bytes)
-has UpdateKind bytes = some_update (λ u. not (is_code 3 (slice_index u 0))) bytes
-has Number bytes = some_update (λ u. nat_lt NUMBER_MAX (number_at 8 8 u)) bytes
+has_fault UpdateKind bytes = some_update (λ u. not (is_code 3 (slice_index u 0))) bytes
+has_fault Number bytes = some_update (λ u. nat_lt NUMBER_MAX (number_at 8 8 u)) bytes
 
 -- the faults in their order
 abbrev pub all_faults : List WireFault
@@ -59,7 +59,7 @@ all_faults = TooShort ∷ TooLong ∷ Magic ∷ Version ∷ Kind ∷ Count ∷ R
 
 -- the first fault that the bytes have, in the order of the list
 abbrev pub first_fault_of : List ℕ → Option WireFault
-first_fault_of bytes = find (λ fault. has fault bytes) all_faults
+first_fault_of bytes = find (λ fault. has_fault fault bytes) all_faults
 
 -- a fault if there is one, else the datagram
 abbrev pub read_as : Option WireFault → Datagram → Result Datagram WireFault
@@ -67,5 +67,5 @@ read_as (Some fault) d = Err fault
 read_as None d = Ok d
 
 -- the first fault of the text, or the datagram that it spells
-abbrev pub reading : List ℕ → Result Datagram WireFault
-reading bytes = read_as (first_fault_of bytes) (datagram_of bytes)
+abbrev pub decoded : List ℕ → Result Datagram WireFault
+decoded bytes = read_as (first_fault_of bytes) (datagram_of bytes)

@@ -1,4 +1,4 @@
-pub mod Blank
+pub mod Filler
 pub mod Numbers
 pub mod Codes
 pub mod Spelling

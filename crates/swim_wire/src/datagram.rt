@@ -135,7 +135,7 @@ impl Datagram {
 
     /// Whether the datagram has a text: only a join or a page may have the zero cursor for its
     /// subject, and no number of an update is over `NUMBER_MAX`.
-    pub fn has_text(&self) -> bool
+    pub fn is_encodable(&self) -> bool
         ensures { IsTrue result ↔ HasText self.now }
     {
         if self.subject.number() == 0 && !self.kind.may_have_zero() {

@@ -7,7 +7,7 @@ ghost use Rattle.swim_wire.specs.declared.fault.WireFault.{WireFault as Faults};
 ghost use Rattle.swim_wire.specs.Spelling.{Spells};
 ghost use Rattle.swim_wire.specs.Faults.{SomeUpdate, HasReservedUpdate, HasReserved, HasNoSubject, HasNoEndpoint, HasNoMember, HasUnknownCode, HasGreatNumber, HasNoneBelow, IsFirstFault, IsFaultless, IsCounted, from_update};
 ghost use Rattle.swim_wire.specs.Reading.{update_of, updates_of, datagram_of};
-ghost use Rattle.swim_wire.specs.Decoding.{reading};
+ghost use Rattle.swim_wire.specs.Decoding.{decoded};
 
 use crate::cursor::Cursor;
 use crate::datagram::{
@@ -211,7 +211,7 @@ fn read_updates(bytes: &[u8], updates: &mut ArrayVec<Update, UPDATES_MAX>)
 pub fn decode(bytes: &[u8]) -> Result<Datagram, WireFault>
     ensures ok { (d : Datagrams) → (result ≡ Ok d) ↔ Spells bytes.now d }
     ensures err { (fault : Faults) → (result ≡ Err fault) ↔ IsFirstFault fault bytes.now }
-    ensures read { result ≡ reading bytes.now }
+    ensures read { result ≡ decoded bytes.now }
 {
     if let Some(fault) = first_fault(bytes) {
         return Err(fault);

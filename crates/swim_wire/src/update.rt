@@ -1,7 +1,7 @@
 //! What one member says of another, or of itself.
 
 ghost use Rattle.std.specs.Prelude.{◌≡◌, ◌≢◌, Some, None, IfSome, IfNone};
-ghost use Rattle.swim_wire.specs.Blank.{blank};
+ghost use Rattle.swim_wire.specs.Filler.{filler};
 ghost use Rattle.swim_wire.specs.Codes.{update_code};
 ghost use Rattle.swim_wire.specs.declared.update.UpdateKind.{UpdateKind as UpdateKinds};
 
@@ -65,7 +65,7 @@ pub struct Update {
 /// Alive with number 0 about the least endpoint: what fills the unused places of a list.
 impl Default for Update {
     fn default() -> Update
-        ensures { result ≡ blank }
+        ensures { result ≡ filler }
     {
         Update {
             kind: UpdateKind::Alive,

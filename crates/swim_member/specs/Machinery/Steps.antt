@@ -8,7 +8,7 @@ use Rattle.swim_wire.specs.declared.datagram.Datagram.{Datagram}
 use Rattle.swim_rules.specs.declared.table.Row.{Row}
 use Rattle.swim_rules.specs.Rows.{heard_row, remove_row, row_of, is_eligible}
 use Rattle.swim_gossip.specs.declared.buffer.Waiting.{Waiting}
-use Rattle.swim_gossip.specs.Queue.{raise_all, offered, without}
+use Rattle.swim_gossip.specs.Queue.{raise_all, offered_queue, without}
 use Rattle.swim_wire.specs.declared.datagram.Kind.TheVariants.{PingReq}
 use Rattle.swim_member.specs.declared.state.Probe.{Probe}
 use Rattle.swim_member.specs.declared.state.Relay.{Relay}
@@ -16,11 +16,11 @@ use Rattle.swim_member.specs.declared.note.Note.{Note}
 use Rattle.swim_member.specs.declared.answer.Out.{Out}
 use Rattle.swim_member.specs.declared.answer.Answer.{Answer}
 use Rattle.swim_member.specs.declared.event.Event.{Event}
-use Rattle.swim_member.specs.State.{State, Happening, Heard, Forgot, Began, Sent, Numbered, Became}
-use Rattle.swim_member.specs.State.{Ticked, Took, Probed, Relayed, Unrelayed, Joined, Paged, Noted}
-use Rattle.swim_member.specs.Readings.{gossips, is_relay, without_relay}
-use Rattle.swim_member.specs.Events.{Move, perform, moves, notes, outs, page, name, send, datagram}
-use Rattle.swim_member.specs.Events.{carried, is_at, is_eligible_name}
+use Rattle.swim_member.specs.State.{State, Change, Heard, Forgot, Queued, Sent, NumberRaised, Became}
+use Rattle.swim_member.specs.State.{Ticked, SequenceTaken, Probed, Relayed, Unrelayed, Joined, Paged, Noted}
+use Rattle.swim_member.specs.Readings.{carries_updates, is_relay, without_relay}
+use Rattle.swim_member.specs.Events.{Action, perform, actions, notes, outs, page, row_name, send, datagram}
+use Rattle.swim_member.specs.Events.{carried_updates, is_at, is_eligible_name}
 
 -- the relay is less than a period old
 abbrev pub is_live : ℕ → ℕ → Relay → Bool
@@ -28,23 +28,23 @@ is_live now period r = nat_lt (now - r.made) period
 
 -- the queue after a datagram
 abbrev pub queue_after : Datagram → List Waiting → List Waiting
-queue_after p waiting = if gossips p.kind then map (raise_all p.updates.items) waiting else waiting
+queue_after p waiting = if carries_updates p.kind then map (raise_all p.updates.items) waiting else waiting
 
 -- a state after a happening
-abbrev pub apply : Happening → State → State
+abbrev pub apply : Change → State → State
 apply (Heard u) s = record s {
   rows = heard_row (row_of s.rows u.who) s.rows (record { update = u; since = s.time });
 }
 apply (Forgot x) s = record s { rows = remove_row s.rows x; queue = without x s.queue }
-apply (Began u) s = record s { queue = offered s.queue u }
+apply (Queued u) s = record s { queue = offered_queue s.queue u }
 apply (Sent to p) s = record s { queue = queue_after p s.queue }
-apply (Numbered n) s = record s { number = n }
+apply (NumberRaised n) s = record s { number = n }
 apply (Became p) s = record s { phase = p }
 apply Ticked s = record s {
   time = s.time + 1;
   relays = filter (is_live (s.time + 1) s.settings.period) s.relays;
 }
-apply Took s = record s { seq = (s.seq + 1) % 2 ^ 32 }
+apply SequenceTaken s = record s { seq = (s.seq + 1) % 2 ^ 32 }
 apply (Probed p) s = record s { probe = p }
 apply (Relayed r) s =
     record s { relays = s.relays ++ filter (is_live s.time s.settings.period) (r ∷ []) }
@@ -54,33 +54,33 @@ apply (Paged updates) s = s
 apply (Noted n) s = s
 
 -- a state after what happened, the newest first
-abbrev pub apply_all : List Happening → State → State
+abbrev pub apply_all : List Change → State → State
 apply_all [] s = s
 apply_all (h ∷ happened) s = apply h (apply_all happened s)
 
 -- what happens by these moves from a state on
-abbrev pub news_from : State → List Move → List Happening
-news_from s [] = []
-news_from s (m ∷ moves) = news_from (apply_all (perform s m) s) moves ++ perform s m
+abbrev pub changes_from : State → List Action → List Change
+changes_from s [] = []
+changes_from s (m ∷ actions) = changes_from (apply_all (perform s m) s) actions ++ perform s m
 
 -- what a step from this state adds
-abbrev pub step_news : State → Event → ℕ → List Happening
-step_news s event granted = news_from s (moves s event granted)
+abbrev pub step_news : State → Event → ℕ → List Change
+step_news s event granted = changes_from s (actions s event granted)
 
 -- the state after these moves
-abbrev pub after : State → List Move → State
+abbrev pub after : State → List Action → State
 after s [] = s
-after s (m ∷ moves) = after (apply_all (perform s m) s) moves
+after s (m ∷ actions) = after (apply_all (perform s m) s) actions
 
 -- the notes of these moves
-abbrev pub notes_by : State → List Move → List Note
+abbrev pub notes_by : State → List Action → List Note
 notes_by s [] = []
-notes_by s (m ∷ moves) = notes (perform s m) ++ notes_by (apply_all (perform s m) s) moves
+notes_by s (m ∷ actions) = notes (perform s m) ++ notes_by (apply_all (perform s m) s) actions
 
 -- the datagrams of these moves
-abbrev pub outs_by : State → List Move → List Out
+abbrev pub outs_by : State → List Action → List Out
 outs_by s [] = []
-outs_by s (m ∷ moves) = outs (perform s m) ++ outs_by (apply_all (perform s m) s) moves
+outs_by s (m ∷ actions) = outs (perform s m) ++ outs_by (apply_all (perform s m) s) actions
 
 -- how many relays stand before the first that is r
 abbrev pub relay_place : Relay → List Relay → ℕ
@@ -88,8 +88,8 @@ relay_place r [] = 0
 relay_place r (q ∷ relays) = if is_relay r q then 0 else suc (relay_place r relays)
 
 -- the own update where it comes at all and before a row, else that of the row
-abbrev pub earlier : Update → Bool → Row → Update
-earlier own comes row = if comes && nat_lt own.who row.update.who then own else row.update
+abbrev pub earlier_update : Update → Bool → Row → Update
+earlier_update own comes row = if comes && nat_lt own.who row.update.who then own else row.update
 
 -- an answer that has nothing to say
 abbrev pub no_answer : Answer
@@ -100,16 +100,16 @@ no_answer = record {
 }
 
 -- the answer of these moves
-abbrev pub answer_by : State → List Move → Answer
-answer_by s moves = record {
-  outs = record { items = outs_by s moves };
-  notes = record { items = notes_by s moves };
-  page = record { items = page (news_from s moves) };
+abbrev pub answer_by : State → List Action → Answer
+answer_by s actions = record {
+  outs = record { items = outs_by s actions };
+  notes = record { items = notes_by s actions };
+  page = record { items = page (changes_from s actions) };
 }
 
 -- the row is eligible and stands after x, or else before it
 abbrev pub is_helper : ℕ → Bool → Row → Bool
-is_helper x later r = is_eligible r && (if later then nat_lt x (name r) else nat_lt (name r) x)
+is_helper x later r = is_eligible r && (if later then nat_lt x (row_name r) else nat_lt (row_name r) x)
 
 -- the state after a ping-req about the target of q to each of these members
 abbrev pub after_asks : State → Probe → List ℕ → State
@@ -121,7 +121,7 @@ after_asks s q (helper ∷ helpers) =
 abbrev pub outs_of_asks : State → Probe → List ℕ → List Out
 outs_of_asks s q [] = []
 outs_of_asks s q (helper ∷ helpers) =
-    record { to = helper; datagram = datagram s PingReq q.seq q.target (carried s) }
+    record { to = helper; datagram = datagram s PingReq q.seq q.target (carried_updates s) }
     ∷ outs_of_asks (apply (send s helper PingReq q.seq q.target) s) q helpers
 
 -- the probe, where it is not answered and its target is eligible
@@ -130,5 +130,5 @@ open_probe s None = None
 open_probe s (Some q) = if not q.answered && is_eligible_name s q.target then Some q else None
 
 -- the probe about which others are asked now, if there is one
-abbrev pub asking : State → Option Probe
-asking s = if is_at s s.settings.direct then open_probe s s.probe else None
+abbrev pub asked_probe : State → Option Probe
+asked_probe s = if is_at s s.settings.direct then open_probe s s.probe else None

@@ -7,17 +7,17 @@ use Rattle.swim_node.specs.declared.entry.Entry.{Entry}
 use Rattle.swim_shared.specs.Passes.{Sight}
 
 -- so many cells that are at home and hold 0
-abbrev pub homes : ℕ → List Cell
-homes zero = []
-homes (suc n) = (0, true) ∷ homes n
+abbrev pub home_cells : ℕ → List Cell
+home_cells zero = []
+home_cells (suc n) = (0, true) ∷ home_cells n
 
 -- twice the length, and nobody may add
 abbrev pub IsAtRest : List Cell → ℕ → Type 0
-IsAtRest cells n = cells ≡ (n + n, true) ∷ (0, true) ∷ homes n
+IsAtRest cells n = cells ≡ (n + n, true) ∷ (0, true) ∷ home_cells n
 
 -- twice the length and one, and who may write the last cell may add
 abbrev pub IsClaimed : List Cell → ℕ → Type 0
-IsClaimed cells n = cells ≡ (n + n + 1, true) ∷ (0, true) ∷ (homes n ++ (0, false) ∷ [])
+IsClaimed cells n = cells ≡ (n + n + 1, true) ∷ (0, true) ∷ (home_cells n ++ (0, false) ∷ [])
 
 -- the cells go with the history
 abbrev pub IsKept : List Cell → List Entry → Type 0

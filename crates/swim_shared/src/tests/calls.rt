@@ -1,7 +1,7 @@
 //! Callers of one node, on one thread and on two.
 
 ghost use Rattle.std.specs.Prelude.{◌≡◌, ◌+◌, [], length};
-ghost use Rattle.swim_node.specs.Link.{numbered};
+ghost use Rattle.swim_node.specs.Link.{link_number};
 
 use super::scene::{Thirds, every_third, opened, ping, suspected};
 use crate::{CallFault, Closed, Name, Parts, Pass, Shared};
@@ -33,7 +33,7 @@ fn first<N: Name, D: Disk + Drop, R: Wait + Abort>(
     requires disk { (D.state parts.node.disk).name ≡ N.disk }
     requires owner { parts.node.owner ≡ N.owner }
     requires first { parts.node.first ≡ N.first }
-    requires link { numbered 0 ≡ N.link }
+    requires link { link_number 0 ≡ N.link }
 {
     let made = Shared::<N, D, Thirds, &R>::new(alloc, rt, parts);
     let (shared, mut passes, mut watches) = made.ok().ok_or("memory")?;
@@ -80,7 +80,7 @@ fn one_era<N: Name, D: Disk + Drop, R: Wait + Abort>(
     requires disk { (D.state parts.node.disk).name ≡ N.disk }
     requires owner { parts.node.owner ≡ N.owner }
     requires first { parts.node.first ≡ N.first }
-    requires link { numbered 0 ≡ N.link }
+    requires link { link_number 0 ≡ N.link }
 {
     let made = Shared::<N, D, Thirds, &R>::new(alloc, rt, parts);
     let (shared, mut passes, watches) = made.ok().ok_or("memory")?;
@@ -121,7 +121,7 @@ fn fill<N: Name + Send + Sync, D: Disk + Drop + Send, R: Threads + Wait + Abort 
     requires disk { (D.state parts.node.disk).name ≡ N.disk }
     requires owner { parts.node.owner ≡ N.owner }
     requires first { parts.node.first ≡ N.first }
-    requires link { numbered 0 ≡ N.link }
+    requires link { link_number 0 ≡ N.link }
 {
     let made = Shared::<N, D, Thirds, &R>::new(alloc, rt, parts);
     let (shared, mut passes, mut watches) = made.ok().ok_or("memory")?;

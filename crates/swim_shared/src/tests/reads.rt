@@ -1,7 +1,7 @@
 //! A watch beside a call that takes long.
 
 ghost use Rattle.std.specs.Prelude.{◌≡◌, ◌+◌};
-ghost use Rattle.swim_node.specs.Link.{numbered};
+ghost use Rattle.swim_node.specs.Link.{link_number};
 
 use super::scene::{Thirds, every_third, opened, suspected};
 use crate::{Name, Parts, Pass, Shared, Watch};
@@ -35,7 +35,7 @@ fn read_beside<N: Name + Send + Sync, D: Disk + Drop + Send, R: Threads + Wait +
     requires disk { (D.state parts.node.disk).name ≡ N.disk }
     requires owner { parts.node.owner ≡ N.owner }
     requires first { parts.node.first ≡ N.first }
-    requires link { numbered 0 ≡ N.link }
+    requires link { link_number 0 ≡ N.link }
 {
     let made = Shared::<N, D, Thirds, &R>::new(alloc, rt, parts);
     let (shared, mut passes, mut watches) = made.ok().ok_or("memory")?;

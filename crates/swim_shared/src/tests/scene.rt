@@ -24,9 +24,9 @@ pub(super) struct Thirds {
 
 impl Link for Thirds {
     ghost use Rattle.std.specs.Prelude.{[], length};
-    ghost use Rattle.swim_node.specs.Link.{numbered};
+    ghost use Rattle.swim_node.specs.Link.{link_number};
 
-    ghost name = { λ _. numbered 0 };
+    ghost name = { λ _. link_number 0 };
 
     ghost tells = { ⊥ };
 
@@ -100,7 +100,7 @@ pub(super) fn ping(rt: &impl Abort, seq: u32, updates: &[Update]) -> Event {
         subject: Cursor::at(endpoint(rt, 1)),
         updates: carried,
     };
-    assert!(rt; datagram.has_text());
+    assert!(rt; datagram.is_encodable());
     let mut bytes = ArrayVec::new();
     assert!(rt; bytes.try_extend_from_slice(&encode(&datagram)).is_ok());
     Event::Datagram { from, bytes }

@@ -130,9 +130,9 @@ struct Held<'a> {
 
 impl<'a> Link for Held<'a> {
     ghost use Rattle.std.specs.Prelude.{[]};
-    ghost use Rattle.swim_node.specs.Link.{numbered};
+    ghost use Rattle.swim_node.specs.Link.{link_number};
 
-    ghost name = { λ _. numbered 0 };
+    ghost name = { λ _. link_number 0 };
 
     ghost tells = { ⊥ };
 

@@ -67,7 +67,7 @@ fn ping_of(number: u32) -> Option<Datagram> {
 pub(super) fn ping(number: u32, into: &mut ArrayVec<u8, RECEIVED_MAX>) {
     into.clear();
     if let Some(ping) = ping_of(number) {
-        if ping.has_text() {
+        if ping.is_encodable() {
             let _ = into.try_extend_from_slice(&encode(&ping));
         }
     }

@@ -3,7 +3,7 @@
 use Rattle.std.proofs.Common.{arith, inl, inr}
 use Rattle.std.specs.Prelude.{ℕ, ◌+◌, ◌≤◌}
 use Rattle.swim_state.specs.declared.layout.TheConstants.{BLOCK}
-use Rattle.swim_state.specs.Layout.{Apart, other, body_of, gate_of}
+use Rattle.swim_state.specs.Layout.{Apart, other_slot, body_of, gate_of}
 use Rattle.swim_state.specs.declared.layout.Slot.{Slot}
 use Rattle.swim_state.specs.declared.layout.Slot.TheVariants.{A, B}
 
@@ -26,11 +26,11 @@ pub gate_within_1 : (slot : Slot) → gate_of slot + 1 ≤ 16385
 gate_within_1 A = omega arith
 gate_within_1 B = omega arith
 
-pub bodies_apart_1 : (slot : Slot) → Apart (body_of slot) 16 (body_of (other slot)) 16
+pub bodies_apart_1 : (slot : Slot) → Apart (body_of slot) 16 (body_of (other_slot slot)) 16
 bodies_apart_1 A = inr (omega arith)
 bodies_apart_1 B = inl (omega arith)
 
-pub gates_apart_1 : (slot : Slot) → Apart (gate_of slot) 1 (gate_of (other slot)) 1
+pub gates_apart_1 : (slot : Slot) → Apart (gate_of slot) 1 (gate_of (other_slot slot)) 1
 gates_apart_1 A = inr (omega arith)
 gates_apart_1 B = inl (omega arith)
 

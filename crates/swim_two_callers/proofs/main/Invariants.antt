@@ -1,6 +1,6 @@
 use Rattle.std.proofs.Common.{[]}
 use Rattle.swim_disk.specs.MemDisk.{state_of}
-use Rattle.swim_node.specs.Link.{numbered}
+use Rattle.swim_node.specs.Link.{link_number}
 use Rattle.swim_two_callers.proofs.main.Given as goal
 
 -- the parts that were just made
@@ -11,6 +11,6 @@ ghosts-era g a = record {
   disk = (state_of a.parts.node.disk).name;
   owner = a.parts.node.owner;
   first = a.parts.node.first;
-  link = numbered a.parts.link.number;
+  link = link_number a.parts.link.number;
   start = [];
 }

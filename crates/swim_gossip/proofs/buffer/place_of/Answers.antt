@@ -1,6 +1,6 @@
 use Rattle.std.proofs.Common.{◌≡◌, ◌-◌, ◌+◌, ◌<◌, ℕ, length, get_or, ap, inl, inr, sym, ◌∙◌, arith, rules}
 use Rattle.std.proofs.lemmas.Bool.{cases_lt, eqb-false}
-use Rattle.swim_wire.specs.Blank.{blank}
+use Rattle.swim_wire.specs.Filler.{filler}
 use Rattle.swim_gossip.specs.declared.buffer.Waiting.{Waiting}
 use Rattle.swim_gossip.specs.Buckets.{at}
 use Rattle.swim_gossip.proofs.Places.{place-at, place-absent, place-more}
@@ -34,4 +34,4 @@ loop-i-preserved c =
 
 pub returns-clause-place : goal.returns-clause-place
 returns-clause-place c =
-    place-absent c.args.who c.args.queue.now c.loop-i.i (record { update = blank; count = 0 }) (omega (arith, c.loop-i-test.false)) c.loop-i.invariant.first c.loop-i.invariant.last
+    place-absent c.args.who c.args.queue.now c.loop-i.i (record { update = filler; count = 0 }) (omega (arith, c.loop-i-test.false)) c.loop-i.invariant.first c.loop-i.invariant.last

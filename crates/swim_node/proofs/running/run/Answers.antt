@@ -1,6 +1,6 @@
 use Rattle.std.proofs.Common.{arith, ℕ, ◌≤◌, ◌≡◌, ◌∙◌, take, sym, ap, ◌++◌, ◌∷◌, [], List, ◌+◌, append_assoc}
 use Rattle.std.proofs.lemmas.List.{take_more}
-use Rattle.swim_disk.specs.Disk.{State}
+use Rattle.swim_disk.specs.Disk.{DiskState}
 use Rattle.swim_state.specs.Held.{Covers, Through}
 use Rattle.swim_state.specs.declared.owner.Owner.{Owner}
 use Rattle.swim_state.proofs.Moments.{weaker, goes_on, since_from}
@@ -28,7 +28,7 @@ ran-snoc old mid new cs c e r entries t v base owner first = record {
 }
 
 -- what covers more covers less
-through_more : (mine yours : Owner) (a b : ℕ) (old new : State) → yours ≡ mine → a ≤ b → Through (Covers yours b) old new → Through (Covers mine a) old new
+through_more : (mine yours : Owner) (a b : ℕ) (old new : DiskState) → yours ≡ mine → a ≤ b → Through (Covers yours b) old new → Through (Covers mine a) old new
 through_more mine yours a b old new same le h = weaker (Covers yours b) (Covers mine a) old new (λ image covers. rw (← same) (record { sound = covers.sound; covered = omega (arith, le, covers.covered) })) h
 
 pub loop-i-preserved : goal.loop-i-preserved

@@ -2,7 +2,7 @@ use Rattle.std.proofs.Common.{rules}
 use Rattle.std.proofs.lemmas.Result.{err_from_is_err_and}
 use Rattle.toml.specs.View.{table_view}
 use Rattle.swim_settings.specs.declared.key.Key.TheVariants as keys
-use Rattle.swim_settings.specs.Keys.{before}
+use Rattle.swim_settings.specs.Keys.{keys_before}
 use Rattle.swim_settings.proofs.Taken.{AreTaken-push}
 use Rattle.swim_settings.proofs.settings.read_keys.Goals as goal
 
@@ -10,8 +10,8 @@ pub returns-in_err-join-clause-refused : goal.returns-in_err-join-clause-refused
 returns-in_err-join-clause-refused c =
     let t = table_view c.args.table.now in
     let limit = c.in_ok-limit in
-    let to_limit = AreTaken-push t (before keys.Limit) keys.Limit c.in_ok-settings.ensures.taken (limit.limit, (limit.ensures.number, limit.ensures.range.0, limit.ensures.range.1)) in
-    let taken = AreTaken-push t (before keys.RandomKey) keys.RandomKey to_limit tt in
+    let to_limit = AreTaken-push t (keys_before keys.Limit) keys.Limit c.in_ok-settings.ensures.taken (limit.limit, (limit.ensures.number, limit.ensures.range.0, limit.ensures.range.1)) in
+    let taken = AreTaken-push t (keys_before keys.RandomKey) keys.RandomKey to_limit tt in
     let fault = err_from_is_err_and c.from_residual-in_err-join.result c.from_residual-in_err-join.ensures.1 in
     rw (fault.1, fault.2, c.in_err-join.ensures.refusal) (taken, tt)
 

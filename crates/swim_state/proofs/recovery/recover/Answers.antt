@@ -12,7 +12,7 @@ returns-in-Ok-clause-since g c = λ keeps b held.
 
 pub returns-in-Err-clause-since : goal.returns-in-Err-clause-since
 returns-in-Err-clause-since g c = λ keeps b held.
-    let through : Through (Covers c.args.owner b) (g.D.Disk.state c.args.disk) (g.D.Disk.state c.look.new.disk) = search rules in
+    let through : Through (Covers c.args.owner b) (g.D.Disk.state c.args.disk) (g.D.Disk.state c.inspect.new.disk) = search rules in
     since_from (Covers c.args.owner b) _ _ through held
 
 pub returns-in-Err-clause-from_held : goal.returns-in-Err-clause-from_held

@@ -1,15 +1,15 @@
 use Rattle.std.proofs.Common.{◌≡◌, sym, ◌∙◌}
-use Rattle.swim.specs.Play.{ended}
+use Rattle.swim.specs.Play.{with_life_ended}
 use Rattle.swim.proofs.Openings.{crash-does, ended-none}
-use Rattle.swim.proofs.Stories.{always_ok, kept-none}
+use Rattle.swim.proofs.Sessions.{always_ok, kept-none}
 use Rattle.swim.proofs.player.Player.crash.Goals.{then-is_open+in_ok-end, else-is_open}
 use Rattle.swim.proofs.player.Player.crash.Goals as goal
 
 pub returns : goal.returns
 returns c =
-    let p = c.self.inside.story in
-    let m = c.if-is_open.self-inside.story in
-    let closed : m ≡ ended p = elim c.if-is_open.branch [
+    let p = c.self.inside.session in
+    let m = c.if-is_open.self-inside.session in
+    let closed : m ≡ with_life_ended p = elim c.if-is_open.branch [
       | then-is_open+in_ok-end w ↦ rw w.self-inside-is w.in_ok-end.ensures.ended
       | else-is_open w ↦ rw w.self-inside-is (ended-none p (sym c.is_open.ensures ∙ w.if-is_open.false))
     ] in

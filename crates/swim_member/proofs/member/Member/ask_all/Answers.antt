@@ -4,18 +4,18 @@ use Rattle.swim_rules.specs.declared.table.Row.{Row}
 use Rattle.swim_rules.specs.Rows.{is_eligible}
 use Rattle.swim_member.specs.declared.answer.Out.{Out}
 use Rattle.swim_member.specs.State.{State}
-use Rattle.swim_member.specs.Events.{name, helpers_about}
-use Rattle.swim_member.specs.Machinery.Steps.{asking}
+use Rattle.swim_member.specs.Events.{row_name, helpers_about}
+use Rattle.swim_member.specs.Machinery.Steps.{asked_probe}
 use Rattle.swim_member.proofs.Asking.{asks-all-state, asks-all-outs}
 use Rattle.swim_member.proofs.member.Member.ask_all.Goals as goal
 
-is_asking : (c : goal.After-ask_each) → asking c.args.self.now ≡ Some c.in-Some.probe
+is_asking : (c : goal.After-ask_each) → asked_probe c.args.self.now ≡ Some c.in-Some.probe
 is_asking c = sym c.asking.ensures ∙ c.in-Some.is
 
 helpers : (c : goal.After-ask_each) → c.deref.result.now ≡ helpers_about c.args.self.now c.in-Some.probe.target
 helpers c =
     c.deref.ensures.0 ∙ c.helpers_about-helpers.ensures.helpers
-    ∙ ap (λ (rs : List Row). take c.self.inside.settings.helpers (map name (filter (λ r. nat_lt c.in-Some.probe.target (name r)) (filter is_eligible rs) ++ filter (λ r. nat_lt (name r) c.in-Some.probe.target) (filter is_eligible rs)))) c.rows.ensures.rows
+    ∙ ap (λ (rs : List Row). take c.self.inside.settings.helpers (map row_name (filter (λ r. nat_lt c.in-Some.probe.target (row_name r)) (filter is_eligible rs) ++ filter (λ r. nat_lt (row_name r) c.in-Some.probe.target) (filter is_eligible rs)))) c.rows.ensures.rows
     ∙ ap (λ (s : State). helpers_about s c.in-Some.probe.target) c.self.view_is
 
 room : (c : goal.After-ask_each) → length c.deref.result.now ≤ 8

@@ -2,7 +2,7 @@ use Rattle.std.proofs.Common.{◌≡◌, ◌<◌, ◌+◌, ◌-◌, [], ap, sym,
 use Rattle.swim_member.specs.Events.{Expire, perform}
 use Rattle.swim_member.specs.State.{State}
 use Rattle.swim_member.specs.Machinery.Steps.{after, apply_all}
-use Rattle.swim_member.proofs.Moves.{after-next, after-idle}
+use Rattle.swim_member.proofs.Actions.{after-next, after-idle}
 use Rattle.swim_member.proofs.member.Member.expire_all.Goals as goal
 
 pub loop-preserved : goal.loop-preserved

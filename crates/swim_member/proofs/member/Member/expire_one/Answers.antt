@@ -1,5 +1,5 @@
 use Rattle.std.proofs.Common.{◌≡◌, ap, sym, ◌∙◌, refl, Some}
-use Rattle.swim_rules.specs.Rows.{Members, expired, hear_option}
+use Rattle.swim_rules.specs.Rows.{Members, due_confirm, hear_option}
 use Rattle.swim_gossip.specs.Queue.{Gossip}
 use Rattle.swim_member.specs.contracts.member.Member.{the_view}
 use Rattle.swim_member.specs.State.{State}
@@ -10,7 +10,7 @@ use Rattle.swim_member.proofs.member.Member.expire_one.Goals as goal
 
 pub offer-requires-clause-room : goal.offer-requires-clause-room
 offer-requires-clause-room c =
-    let due : expired c.self.inside.table c.self.inside.time ≡ Some c.in-Some.update = sym c.expire.ensures.answer ∙ c.in-Some.is in
+    let due : due_confirm c.self.inside.table c.self.inside.time ≡ Some c.in-Some.update = sym c.expire.ensures.answer ∙ c.in-Some.is in
     room-heard c.self.inside.settings c.self.inside.number c.self.inside.time c.self.inside.table c.expire.new.self c.self.inside.buffer c.self.inside.relays.items c.in-Some.update c.self.inside.time
     (λ e. expired-other c.self.inside.table c.self.inside.time c.in-Some.update c.self.invariant.table due (e ∙ sym c.self.invariant.me))
     (expired-low c.self.inside.settings.me c.self.inside.table c.self.inside.time c.in-Some.update c.self.invariant.stand due)
@@ -20,7 +20,7 @@ offer-requires-clause-room c =
 
 pub invariant_of-self-in-Some : goal.invariant_of-self-in-Some
 invariant_of-self-in-Some c =
-    let due : expired c.self.inside.table c.self.inside.time ≡ Some c.in-Some.update = sym c.expire.ensures.answer ∙ c.in-Some.is in
+    let due : due_confirm c.self.inside.table c.self.inside.time ≡ Some c.in-Some.update = sym c.expire.ensures.answer ∙ c.in-Some.is in
     rw c.offer.ensures.queue (keep-heard c.self.inside.settings c.self.inside.number c.self.inside.time c.self.inside.table c.expire.new.self c.self.inside.buffer c.self.inside.relays.items c.in-Some.update c.self.inside.time
     (λ e. expired-other c.self.inside.table c.self.inside.time c.in-Some.update c.self.invariant.table due (e ∙ sym c.self.invariant.me))
     (expired-low c.self.inside.settings.me c.self.inside.table c.self.inside.time c.in-Some.update c.self.invariant.stand due)
@@ -30,7 +30,7 @@ invariant_of-self-in-Some c =
 
 pub returns-in-Some-clause-state : goal.returns-in-Some-clause-state
 returns-in-Some-clause-state c =
-    let due : expired c.self.inside.table c.self.inside.time ≡ Some c.in-Some.update = sym c.expire.ensures.answer ∙ c.in-Some.is in
+    let due : due_confirm c.self.inside.table c.self.inside.time ≡ Some c.in-Some.update = sym c.expire.ensures.answer ∙ c.in-Some.is in
     expired-state (the_view c.self.inside) c.self.inside.table c.expire.new.self c.offer.new.self.queue c.in-Some.update refl c.self.invariant.suspect c.self.invariant.table due
     (ap (λ (m : Members). m.rows) c.expire.ensures.rows ∙ ap (λ o. hear_option c.self.inside.table.rows o c.self.inside.time) due)
     (ap (λ (b : Gossip). b.queue) c.offer.ensures.queue)

@@ -9,7 +9,7 @@ use Rattle.swim_member.proofs.Showing.{number-perform}
 use Rattle.swim_member.specs.State.{State}
 use Rattle.swim_member.specs.Events.{Bye, each_from, perform, outs}
 use Rattle.swim_member.specs.Machinery.Steps.{apply_all, after, outs_by}
-use Rattle.swim_member.proofs.Moves.{each-next, settings-apply_all}
+use Rattle.swim_member.proofs.Actions.{each-next, settings-apply_all}
 use Rattle.swim_member.proofs.Parts.{length-option}
 use Rattle.swim_member.proofs.member.Member.say_bye.Goals as goal
 

@@ -1,9 +1,9 @@
 use Rattle.std.proofs.Common.{sym, ap, ◌∙◌, []}
 use Rattle.swim_member.specs.contracts.member.Member.{the_view}
 use Rattle.swim_member.specs.State.{State}
-use Rattle.swim_member.specs.Events.{moves, state_of}
+use Rattle.swim_member.specs.Events.{actions, state_of}
 use Rattle.swim_member.proofs.Logs.{state_of-snoc, answer-step}
-use Rattle.swim_member.proofs.Moves.{after-news, settings-after}
+use Rattle.swim_member.proofs.Actions.{after-news, settings-after}
 use Rattle.swim_member.proofs.Showing.{answer-news, number-step}
 use Rattle.swim_member.proofs.Lows.{fit-texts, fit-own}
 use Rattle.swim_member.proofs.Bases.{base-itself}
@@ -12,13 +12,13 @@ use Rattle.swim_member.proofs.member.Member.step.Goals as goal
 pub returns-clause-state : goal.returns-clause-state
 returns-clause-state c base steps h =
     state_of-snoc base steps (record { event = c.args.event.now; granted = c.args.granted }) c.args.self.now h
-    ∙ after-news c.args.self.now (moves c.args.self.now c.args.event.now c.args.granted)
+    ∙ after-news c.args.self.now (actions c.args.self.now c.args.event.now c.args.granted)
     ∙ sym c.act.ensures.state
 
 pub returns-clause-answer : goal.returns-clause-answer
 returns-clause-answer c base steps h =
     answer-step base steps c.args.event.now c.args.granted c.args.self.now h
-    ∙ answer-news c.args.self.now (moves c.args.self.now c.args.event.now c.args.granted)
+    ∙ answer-news c.args.self.now (actions c.args.self.now c.args.event.now c.args.granted)
     ∙ sym c.act.ensures.answer
 
 pub returns-clause-fit : goal.returns-clause-fit
@@ -32,7 +32,7 @@ returns-clause-number c = ap (λ (s : State). s.number) c.act.ensures.state ∙ 
 
 pub returns-clause-settings : goal.returns-clause-settings
 returns-clause-settings c =
-    ap (λ (s : State). s.settings) c.act.ensures.state ∙ settings-after c.args.self.now (moves c.args.self.now c.args.event.now c.args.granted)
+    ap (λ (s : State). s.settings) c.act.ensures.state ∙ settings-after c.args.self.now (actions c.args.self.now c.args.event.now c.args.granted)
 
 pub returns-clause-base : goal.returns-clause-base
 returns-clause-base c =

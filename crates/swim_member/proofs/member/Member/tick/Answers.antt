@@ -3,7 +3,7 @@ use Rattle.std.specs.Option.{option_to_list}
 use Rattle.swim_member.specs.declared.settings.Settings.{Settings}
 use Rattle.swim_member.specs.declared.answer.Answer.{Answer}
 use Rattle.swim_member.specs.declared.answer.Out.{Out}
-use Rattle.swim_member.specs.Events.{Ask, each_from, tick_moves}
+use Rattle.swim_member.specs.Events.{Ask, each_from, tick_actions}
 use Rattle.swim_member.specs.Machinery.Steps.{outs_by}
 use Rattle.swim_member.proofs.Ticking.{Ticked, ticked-state, ticked-outs, ticked-notes, ticked-settings}
 use Rattle.swim_member.proofs.Showing.{answer-parts, page-ticked}
@@ -25,7 +25,7 @@ returns-clause-state c = ticked-state c.args.self.now c.advance.new.self c.expir
 
 pub returns-clause-answer : goal.returns-clause-answer
 returns-clause-answer c =
-    answer-parts (record { outs = c.ask_all.new.outs; notes = c.note_down.new.notes; page = c.args.answer.now.page }) c.args.self.now (tick_moves c.args.word)
+    answer-parts (record { outs = c.ask_all.new.outs; notes = c.note_down.new.notes; page = c.args.answer.now.page }) c.args.self.now (tick_actions c.args.word)
     (c.ask_all.ensures.outs
     ∙ ap (λ (os : List Out). os ++ outs_by c.probe_next.new.self (each_from 0 8 (λ k. Ask k))) (c.send_out.ensures.items ∙ rw c.requires.nothing c.probe_next.ensures.out)
     ∙ ticked-outs c.args.self.now c.advance.new.self c.expire_all.new.self c.forget_all.new.self c.blame.new.self c.probe_next.new.self c.ask_all.new.self c.args.word (by_parts c))

@@ -6,7 +6,7 @@ use Rattle.swim_member.specs.Fit.{AreAll, own_numbers_in}
 use Rattle.swim_node.specs.declared.entry.Entry.{Entry}
 use Rattle.swim_node.specs.History.{state_after, granted_of}
 use Rattle.swim_node.specs.Lives.{GoesOn}
-use Rattle.swim_node.specs.Node.{base_of, entered}
+use Rattle.swim_node.specs.Node.{base_of, entry_with}
 use Rattle.swim_node.specs.Saving.{Fails, Grants, broken_after}
 use denote.Param.{param}
 use Rattle.swim_node.specs.contracts.node.Node.{the_view}
@@ -18,7 +18,7 @@ use Rattle.swim_node.proofs.node.Node.apply.Goals as goal
 
 module _ (g : Over) (c : goal.After-push g) where
   abbrev entry : Entry
-  entry = entered c.args.tag c.args.event c.enter-done.result c.status_now-status.result
+  entry = entry_with c.args.tag c.args.event c.enter-done.result c.status_now-status.result
 
   same_entries : c.args.self.now.entries ≡ c.self.inside.journal.entries
   same_entries = sym (ap (λ v. v.entries) c.self.view_is)

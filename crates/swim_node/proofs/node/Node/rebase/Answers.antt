@@ -2,7 +2,7 @@ use Rattle.std.proofs.Common.{◌≡◌, subst, refl}
 use Rattle.swim_node.proofs.Living.{ends_era}
 use Rattle.swim_node.proofs.Nodes.{node-rebased}
 use Rattle.swim_node.specs.Lives.{EndsEra}
-use Rattle.swim_node.specs.Node.{base_of, rebased}
+use Rattle.swim_node.specs.Node.{base_of, next_base}
 use denote.Param.{param}
 use Rattle.swim_node.specs.contracts.node.Node.{the_view}
 use Rattle.swim_node.proofs.node.Node.rebase.Goals as goal
@@ -17,7 +17,7 @@ invariant_of-self g c = (
 pub returns-clause-living : goal.returns-clause-living
 returns-clause-living g c =
     let n = c.self.invariant.0 in
-    let base : base_of c.base_at.result ≡ rebased (base_of c.self.inside.base) c.self.inside.journal.entries =
+    let base : base_of c.base_at.result ≡ next_base (base_of c.self.inside.base) c.self.inside.journal.entries =
     rw (c.base_at.ensures.base, c.ceiling.ensures.value, n.member, n.granted, n.most) refl in
     let new = record c.self.inside { base = c.base_at.result; journal = c.clear.new.self } in
     subst (λ v. EndsEra g.D.Disk.state v (the_view (param 0 g.row.D) g.D.Disk new)) c.self.view_is

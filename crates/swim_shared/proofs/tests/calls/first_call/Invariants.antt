@@ -1,7 +1,7 @@
 use Rattle.std.proofs.Common.{[]}
 use Rattle.swim_disk.specs.Fault.{state_of}
 use Rattle.swim_disk.specs.MemDisk.{state_of as memory_of}
-use Rattle.swim_node.specs.Link.{numbered}
+use Rattle.swim_node.specs.Link.{link_number}
 use Rattle.swim_shared.proofs.tests.calls.first_call.Given as goal
 
 -- the parts that were just made
@@ -12,6 +12,6 @@ ghosts-first g a = record {
   disk = (state_of memory_of a.parts.node.disk).name;
   owner = a.parts.node.owner;
   first = a.parts.node.first;
-  link = numbered 0;
+  link = link_number 0;
   start = [];
 }

@@ -1,0 +1,88 @@
+//! What control lines ask for.
+
+ghost use Rattle.std.specs.Prelude.{◌≡◌, ◌≢◌, ◌<◌, ◌≤◌, List, ℕ, length, codes};
+ghost use Rattle.swim_shell.specs.Control.{Names, NamesShort, IsLine};
+
+use crate::lines::Line;
+use swim_wire::{Cursor, Endpoint};
+use swim_words::{read_endpoint, split_at_byte};
+
+/// What a line asks for.
+#[derive(Clone, Copy, Debug, PartialEq, Eq)]
+pub enum Request {
+    /// The status, from the watch.
+    Status,
+    /// The next members after this, at most 30.
+    Members(Cursor),
+    /// To ask this member for all that it knows.
+    Join(Endpoint),
+    /// To leave the group.
+    Leave,
+    /// To end the workers.
+    Stop,
+    /// It is none of the lines.
+    Unknown,
+    /// The word that is to be an endpoint is none.
+    Address,
+    /// It has more than 64 bytes.
+    TooLong,
+}
+
+/// What a line of two words asks for.
+#[tactic(auto, using(crate::proofs::Hearing::unknown_split, crate::proofs::Hearing::unknown_word))]
+fn with_word(text: &[u8]) -> Request
+    requires status { text.now ≢ codes "status" }
+    requires members { text.now ≢ codes "members" }
+    requires leave { text.now ≢ codes "leave" }
+    requires stop { text.now ≢ codes "stop" }
+    ensures { NamesShort text.now result }
+{
+    match split_at_byte(text, b' ') {
+        Some((first, word)) => {
+            if first == b"join".as_slice() {
+                return match read_endpoint(word) {
+                    Some(peer) => Request::Join(peer),
+                    None => Request::Address,
+                };
+            }
+            if first == b"members".as_slice() {
+                return match read_endpoint(word) {
+                    Some(peer) => Request::Members(Cursor::at(peer)),
+                    None => Request::Address,
+                };
+            }
+            Request::Unknown
+        }
+        None => Request::Unknown,
+    }
+}
+
+/// What a line of at most 64 bytes asks for.
+fn short(text: &[u8]) -> Request
+    ensures { NamesShort text.now result }
+{
+    if text == b"status".as_slice() {
+        return Request::Status;
+    }
+    if text == b"members".as_slice() {
+        return Request::Members(Cursor::zero());
+    }
+    if text == b"leave".as_slice() {
+        return Request::Leave;
+    }
+    if text == b"stop".as_slice() {
+        return Request::Stop;
+    }
+    with_word(text)
+}
+
+/// What the line asks for.
+#[tactic(auto, using(crate::proofs::Hearing::names_short))]
+pub(crate) fn understand(line: &Line) -> Request
+    ensures { (text : List ℕ) → IsLine text line.now → Names text result }
+{
+    match line {
+        Line::Text(text) => short(text.as_slice()),
+        Line::Long => Request::TooLong,
+    }
+}
