@@ -279,7 +279,8 @@ Does p Open q = IfClosed p.life p q (IfDisk p.disk p q (λ disk. Opens disk p q)
 Does p (Happen event) q = Happens event p.life p q
 Does p (Plan failure) q = q ≡ p
 Does p Kill q = q ≡ with_life_ended p
-Does p (Crash choice) q = IfDisk p.disk p q (λ disk. Becomes (IsCrashed choice disk) (with_life_ended p) q)
+Does p (Crash choice) q =
+    IfDisk p.disk p q (λ disk. Becomes (IsCrashed choice disk) (with_life_ended p) q)
 Does p (Overwrite patch) q =
     IfClosed p.life p q (IfDisk p.disk p q (λ disk.
     Becomes (λ new. IsPatched patch.at patch.bytes.items (inner_of disk) (inner_of new))

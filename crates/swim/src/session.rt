@@ -156,7 +156,8 @@ impl Session {
 
     /// Names the group of the next opening.
     pub(crate) fn set_group(&mut self, group: u64)
-        ensures { self.new ≡ with_settings (record self.old.setup.settings { group = group }) self.old }
+        ensures { self.new
+            ≡ with_settings (record self.old.setup.settings { group = group }) self.old }
     {
         self.setup.settings.group = group;
         self.apart = true;

@@ -59,7 +59,8 @@ pub record IsTorn {D : Type 0} (keeps : Type 0) (state : D → DiskState) (at : 
       → Writes at (first_half bytes) answer (state (inner_of old)) (state (inner_of new))
 
 -- what becomes of a call: it is passed on, or it fails by the plan
-abbrev pub Passes : {D T : Type 0} → (D → DiskState) → Result T DiskFault → FaultDisk D → FaultDisk D
+abbrev pub Passes : {D T : Type 0} → (D → DiskState) → Result T DiskFault → FaultDisk D
+    → FaultDisk D
     → Type 0
 Passes state result old new = IsPassed state result old new ⊎ IsPlanned result old new
 

@@ -1,5 +1,7 @@
--- The buckets of a buffer: the places of its updates, bucket after bucket, in each by who began to wait earlier.
-use Rattle.std.specs.Prelude.{◌≡◌, ℕ, ◌+◌, ◌<◌, ◌≤◌, ◌==◌, nat_lt, List, [], ◌∷◌, ◌++◌, cond, slice_index_or, slice_set, zero, suc}
+-- The buckets of a buffer: the places of its updates, bucket
+-- after bucket, in each by who began to wait earlier.
+use Rattle.std.specs.Prelude.{◌≡◌, ℕ, ◌+◌, ◌<◌, ◌≤◌, ◌==◌, nat_lt, List, [], ◌∷◌, ◌++◌, cond}
+use Rattle.std.specs.Prelude.{slice_index_or, slice_set, zero, suc}
 use Rattle.swim_wire.specs.Filler.{filler}
 use Rattle.swim_gossip.specs.declared.buffer.Waiting.{Waiting}
 use Rattle.swim_gossip.specs.Queue.{AreApart}
@@ -35,7 +37,8 @@ IsChain links head (x ∷ xs) = (head ≡ x) × IsChain links (slice_index_or li
 
 -- the places of each bucket below limit are linked from its head on
 abbrev pub AreChains : ℕ → List Waiting → List ℕ → List ℕ → Type 0
-AreChains limit queue heads links = (c : ℕ) → c < limit → IsChain links (slice_index_or heads c 257) (spots c 0 queue)
+AreChains limit queue heads links =
+    (c : ℕ) → c < limit → IsChain links (slice_index_or heads c 257) (spots c 0 queue)
 
 -- what holds of a buffer at all times
 pub record AreKept (queue : List Waiting) (most : ℕ) : Type 0 where

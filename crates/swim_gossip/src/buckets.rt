@@ -61,14 +61,16 @@ fn take_bucket(
     requires few { length queue.now ≤ 257 }
     requires heads { length heads.now ≡ 145 }
     requires links { length links.now ≡ 257 }
-    requires chain { IsChain links.now (slice_index_or heads.now count 257) (spots count 0 queue.now) }
+    requires chain { IsChain links.now (slice_index_or heads.now count 257)
+        (spots count 0 queue.now) }
     requires count { count ≤ 144 }
     requires room { room ≤ 30 }
     requires before { length places.old.items ≤ room }
     requires begun { visits.old ≤ 1000 }
     ensures places { places.new.items ≡ take room (places.old.items ++ spots count 0 queue.now) }
     ensures room { length places.new.items ≤ room }
-    ensures visits { visits.new + length places.old.items ≤ visits.old + 1 + length places.new.items }
+    ensures visits { visits.new + length places.old.items
+        ≤ visits.old + 1 + length places.new.items }
 {
     visits.look();
     let mut place = heads[count as usize];

@@ -125,7 +125,8 @@ fn pick_in(
     requires empty { updates.old.items ≡ [] }
     requires begun { visits.old ≡ 0 }
     ensures picked { updates.new.items ≡ picked_updates limit room queue.old.items }
-    ensures counted { queue.new.items ≡ map (raise_all (picked_updates limit room queue.old.items)) queue.old.items }
+    ensures counted { queue.new.items
+        ≡ map (raise_all (picked_updates limit room queue.old.items)) queue.old.items }
     ensures visits { visits.new ≤ 748 }
 {
     pick_from(queue, limit, room, links, updates, visits);

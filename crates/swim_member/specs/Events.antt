@@ -37,8 +37,10 @@ use Rattle.swim_member.specs.declared.state.Probe.{Probe}
 use Rattle.swim_member.specs.declared.state.Relay.{Relay}
 use Rattle.swim_member.specs.declared.state.Joining.{Joining}
 use Rattle.swim_member.specs.declared.state.Counts.{Counts}
-use Rattle.swim_member.specs.State.{State, Change, Heard, Forgot, Queued, Sent, NumberRaised, Became}
-use Rattle.swim_member.specs.State.{Ticked, SequenceTaken, Probed, Relayed, Unrelayed, Joined, Paged, Noted}
+use Rattle.swim_member.specs.State.{State, Change, Heard, Forgot, Queued, Sent, NumberRaised}
+use Rattle.swim_member.specs.State.{Became}
+use Rattle.swim_member.specs.State.{Ticked, SequenceTaken, Probed, Relayed, Unrelayed, Joined}
+use Rattle.swim_member.specs.State.{Paged, Noted}
 use Rattle.swim_member.specs.Readings.{state}
 use Rattle.swim_wire.specs.Decoding.{decoded}
 
@@ -195,7 +197,8 @@ relay_for s p =
 
 -- the target is pinged for the one that asked
 abbrev pub relay_ping : State → Datagram → List Change
-relay_ping s p = send s p.subject Ping s.seq p.subject ∷ Relayed (relay_for s p) ∷ SequenceTaken ∷ []
+relay_ping s p =
+    send s p.subject Ping s.seq p.subject ∷ Relayed (relay_for s p) ∷ SequenceTaken ∷ []
 
 -- a ping-req about oneself is answered with an ack; one about another
 -- member is relayed, if that member is eligible and there is room
@@ -425,7 +428,8 @@ actions_of_tick s word = if s.time == LAST_TIME then Take note.TimeOver ∷ [] e
 -- what is done at an event while running
 abbrev pub running_actions : State → Event → ℕ → List Action
 running_actions s (event.Tick word) granted = actions_of_tick s word
-running_actions s (event.Datagram from bytes) granted = actions_of_datagram s from bytes.items granted
+running_actions s (event.Datagram from bytes) granted =
+    actions_of_datagram s from bytes.items granted
 running_actions s event.ReceiveFailed granted = Take note.ReceiveFailed ∷ []
 running_actions s (event.SendFailed count) granted = Take (note.SendFailed count) ∷ []
 running_actions s (event.Join peer) granted = Join_peer peer ∷ []

@@ -55,7 +55,8 @@ fn add_helpers(
 fn helpers_about(rows: &[Row], target: Endpoint, most: usize) -> ArrayVec<Endpoint, HELPERS_MAX>
     requires { most ≤ HELPERS_MAX }
     ensures helpers { result.items
-        ≡ take most (map row_name (filter (λ r. nat_lt target (row_name r)) (filter is_eligible rows.now)
+        ≡ take most (map row_name (filter (λ r. nat_lt target (row_name r))
+            (filter is_eligible rows.now)
         ++ filter (λ r. nat_lt (row_name r) target) (filter is_eligible rows.now))) }
     ensures room { length result.items ≤ most }
 {

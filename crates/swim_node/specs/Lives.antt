@@ -66,7 +66,8 @@ life_of settings limit opened eras node = record {
 
 -- what holds of a life while it goes on, beside what its node keeps: it was opened above
 -- all that was held, its eras are joined, and no number of an ended one is below its first
-pub record IsLiving {D : Type 0} (state : D → DiskState) (owner : Owner) (life : Life D) : Type 0 where
+pub record IsLiving {D : Type 0} (state : D → DiskState) (owner : Owner) (life : Life D)
+    : Type 0 where
   pub same_owner : owner ≡ owner_of life.settings
   pub joined : AreJoined (fresh_base life.settings life.first life.limit) life.eras life.base
   pub above : (b : ℕ) → Held owner (state life.opened) b → b < life.first
@@ -88,7 +89,8 @@ EndsEra {D} state old new =
 
 -- what the node of a life told of it: `open` of its first number, `disk` at the end
 -- of each era of the numbers sent, and `disk` or `into_disk` of the disk that it left
-pub record IsLived {D : Type 0} (state : D → DiskState) (owner : Owner) (life : Life D) : Type 0 where
+pub record IsLived {D : Type 0} (state : D → DiskState) (owner : Owner) (life : Life D)
+    : Type 0 where
   pub same_owner : owner ≡ owner_of life.settings
   pub joined : AreJoined (fresh_base life.settings life.first life.limit) life.eras life.base
   pub legal : IsLegal life.base life.entries

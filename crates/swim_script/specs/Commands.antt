@@ -101,7 +101,8 @@ SaysEvent text (event.Datagram from bytes) = IsReceived text from bytes.items
 SaysEvent text event.ReceiveFailed = text ≡ keyword_text keyword.ReceiveFailed
 SaysEvent text (event.SendFailed count) =
     (text ≡ line_of keyword.SendFailed (decimal count)) × (count < 2 ^ 32)
-SaysEvent text (event.Join peer) = (text ≡ line_of keyword.Join (endpoint_text peer)) × IsEndpoint peer
+SaysEvent text (event.Join peer) =
+    (text ≡ line_of keyword.Join (endpoint_text peer)) × IsEndpoint peer
 SaysEvent text event.Leave = text ≡ keyword_text keyword.Leave
 SaysEvent text (event.Members after) =
     ((text ≡ keyword_text keyword.Members) × (after ≡ 0))

@@ -155,8 +155,10 @@ fn read_plain(keyword: Keyword, arguments: &[u8]) -> Option<Command>
 
 /// The received datagram that the arguments give.
 fn read_received(alloc: Global, arguments: &[u8]) -> Result<Command, FaultKind>
-    ensures command { IfOk result (λ command. Says (line_of Keyword.Receive arguments.now) command) }
-    ensures none { IfErr result (λ kind. Refuses kind (Says (line_of Keyword.Receive arguments.now))) }
+    ensures command { IfOk result
+        (λ command. Says (line_of Keyword.Receive arguments.now) command) }
+    ensures none { IfErr result
+        (λ kind. Refuses kind (Says (line_of Keyword.Receive arguments.now))) }
 {
     let (from, word) = split_at_byte(arguments, b' ').ok_or(FaultKind::Argument)?;
     let from = read_endpoint(from).ok_or(FaultKind::Argument)?;
@@ -184,7 +186,8 @@ fn read_choice(alloc: Global, arguments: &[u8]) -> Result<Choice, FaultKind>
 
 /// The part of the disk that the arguments write over.
 fn read_patch(alloc: Global, arguments: &[u8]) -> Result<Command, FaultKind>
-    ensures command { IfOk result (λ command. Says (line_of Keyword.Overwrite arguments.now) command) }
+    ensures command { IfOk result
+        (λ command. Says (line_of Keyword.Overwrite arguments.now) command) }
     ensures none { IfErr result
         (λ kind. Refuses kind (Says (line_of Keyword.Overwrite arguments.now))) }
 {

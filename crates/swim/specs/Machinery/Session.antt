@@ -53,7 +53,8 @@ pub record IsSession (owner : Owner) (apart : Bool) (runs : List Run) (lives : L
 
 -- what comes of an event that the open life is given,
 -- by the answer; the only caller is never out of turn
-abbrev pub IsAnswered : Event → Option ScriptedLife → Playing → Playing → Result (Unit {0}) ApplyFault
+abbrev pub IsAnswered : Event → Option ScriptedLife → Playing → Playing
+    → Result (Unit {0}) ApplyFault
     → Type 0
 IsAnswered event None p q answer = ⊥
 IsAnswered event (Some life) p q (Ok done) = Takes event life p q

@@ -1,5 +1,6 @@
 -- What holds of a member at all times.
-use Rattle.std.specs.Prelude.{◌≡◌, ℕ, ◌+◌, ◌*◌, ◌^◌, ◌≤◌, ◌==◌, ◌||◌, List, length, Option, Some, None, Bool, true, false}
+use Rattle.std.specs.Prelude.{◌≡◌, ℕ, ◌+◌, ◌*◌, ◌^◌, ◌≤◌, ◌==◌, ◌||◌, List, length, Option, Some}
+use Rattle.std.specs.Prelude.{None, Bool, true, false}
 use Rattle.swim_rules.specs.declared.table.Row.{Row}
 use Rattle.swim_rules.specs.Rows.{Members, IsTable, row_of}
 use Rattle.swim_gossip.specs.declared.buffer.Waiting.{Waiting}
@@ -22,7 +23,8 @@ pub record AllWait (me : ℕ) (rows : List Row) (queue : List Waiting) : Type 0 
   pub count : length queue ≡ length rows + 1
 
 -- the own number is n, the time t
-pub record IsKept (s : Settings) (n t : ℕ) (members : Members) (b : Gossip) (made : List Relay) : Type 0 where
+pub record IsKept (s : Settings) (n t : ℕ) (members : Members) (b : Gossip) (made : List Relay)
+    : Type 0 where
   pub me : members.me ≡ s.me
   pub suspect : members.suspect ≡ s.suspect
   pub forget : members.forget ≡ s.forget

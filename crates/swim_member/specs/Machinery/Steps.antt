@@ -16,10 +16,13 @@ use Rattle.swim_member.specs.declared.note.Note.{Note}
 use Rattle.swim_member.specs.declared.answer.Out.{Out}
 use Rattle.swim_member.specs.declared.answer.Answer.{Answer}
 use Rattle.swim_member.specs.declared.event.Event.{Event}
-use Rattle.swim_member.specs.State.{State, Change, Heard, Forgot, Queued, Sent, NumberRaised, Became}
-use Rattle.swim_member.specs.State.{Ticked, SequenceTaken, Probed, Relayed, Unrelayed, Joined, Paged, Noted}
+use Rattle.swim_member.specs.State.{State, Change, Heard, Forgot, Queued, Sent, NumberRaised}
+use Rattle.swim_member.specs.State.{Became}
+use Rattle.swim_member.specs.State.{Ticked, SequenceTaken, Probed, Relayed, Unrelayed, Joined}
+use Rattle.swim_member.specs.State.{Paged, Noted}
 use Rattle.swim_member.specs.Readings.{carries_updates, is_relay, without_relay}
-use Rattle.swim_member.specs.Events.{Action, perform, actions, notes, outs, page, row_name, send, datagram}
+use Rattle.swim_member.specs.Events.{Action, perform, actions, notes, outs, page, row_name, send}
+use Rattle.swim_member.specs.Events.{datagram}
 use Rattle.swim_member.specs.Events.{carried_updates, is_at, is_eligible_name}
 
 -- the relay is less than a period old
@@ -28,7 +31,8 @@ is_live now period r = nat_lt (now - r.made) period
 
 -- the queue after a datagram
 abbrev pub queue_after : Datagram → List Waiting → List Waiting
-queue_after p waiting = if carries_updates p.kind then map (raise_all p.updates.items) waiting else waiting
+queue_after p waiting =
+    if carries_updates p.kind then map (raise_all p.updates.items) waiting else waiting
 
 -- a state after a happening
 abbrev pub apply : Change → State → State
@@ -109,7 +113,8 @@ answer_by s actions = record {
 
 -- the row is eligible and stands after x, or else before it
 abbrev pub is_helper : ℕ → Bool → Row → Bool
-is_helper x later r = is_eligible r && (if later then nat_lt x (row_name r) else nat_lt (row_name r) x)
+is_helper x later r =
+    is_eligible r && (if later then nat_lt x (row_name r) else nat_lt (row_name r) x)
 
 -- the state after a ping-req about the target of q to each of these members
 abbrev pub after_asks : State → Probe → List ℕ → State
