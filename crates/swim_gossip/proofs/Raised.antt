@@ -20,6 +20,19 @@ none = record { update = filler; count = 0 }
 pub at-read : (queue : List Waiting) (x : ℕ) (d : Waiting) → x < length queue → get_or queue x d ≡ at queue x
 at-read queue x d l = get_or_default queue x d none l
 
+-- one more send leaves each update as it is
+pub update-kept : (queue : List Waiting) (x y : ℕ) → x < length queue → (at (set queue x (bump (at queue x))) y).update ≡ (at queue y).update
+update-kept queue x y l =
+    let next : List Waiting = set queue x (bump (at queue x)) in
+    elim (cases_Bool (x == y)) [
+      | inl t ↦
+          let e : x ≡ y = eqb-true x y t in
+          ap (λ (v : ℕ). (at next v).update) (sym e)
+          ∙ ap (λ (w : Waiting). w.update) (get_or-set_same queue x (bump (at queue x)) none l)
+          ∙ ap (λ (v : ℕ). (at queue v).update) e
+      | inr n ↦ ap (λ (w : Waiting). w.update) (get_or-set_other queue x y (bump (at queue x)) none (λ e. eqb-false x y n (sym e)))
+    ]
+
 pub length-raised : (xs : List ℕ) (queue : List Waiting) → length (raised_at xs queue) ≡ length queue
 length-raised [] queue = refl
 length-raised (x ∷ xs) queue = length-raised xs (set queue x (bump (at queue x))) ∙ length-set queue x (bump (at queue x))

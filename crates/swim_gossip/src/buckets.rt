@@ -2,7 +2,7 @@
 //! one to the next in the order in which the updates began to wait. Each function of this file
 //! counts what it looks at: updates, heads of buckets and links.
 
-ghost use Rattle.std.specs.Prelude.{◌≡◌, ℕ, ◌+◌, ◌<◌, ◌≤◌, List, [], ◌++◌, length, map, take, slice_index_or, All};
+ghost use Rattle.std.specs.Prelude.{◌≡◌, ℕ, ◌+◌, ◌<◌, ◌≤◌, false, List, [], ◌++◌, length, map, take, slice_index_or, All};
 ghost use Rattle.swim_gossip.specs.Queue.{picked_updates, raise_all, AreApart};
 ghost use Rattle.swim_gossip.specs.Buckets.{at, below, spots, runs, raised_at, AreChains, IsChain, AreWithin};
 
@@ -28,10 +28,10 @@ fn link_all(
     requires heads { length heads.old ≡ 145 }
     requires links { length links.old ≡ 257 }
     requires none { (c : ℕ) → slice_index_or heads.old c 257 ≡ 257 }
-    requires begun { visits.old ≡ 0 }
+    requires begun { visits.old ≤ 257 }
     ensures count { result ≡ below limit queue.now }
     ensures chains { AreChains limit queue.now heads.new links.new }
-    ensures visits { visits.new ≤ 514 }
+    ensures visits { visits.new ≤ visits.old + 514 }
 {
     // Each update and its bucket's head. A loop that counts them one by one takes twice the time.
     visits.look_at(2 * queue.len());
@@ -96,7 +96,7 @@ fn take_buckets(
     requires chains { AreChains limit queue.now heads.now links.now }
     requires limit { limit ≤ 144 }
     requires room { room ≤ 30 }
-    requires begun { visits.old ≤ 600 }
+    requires begun { visits.old ≤ 800 }
     ensures places { result.items ≡ take room (runs limit queue.now) }
     ensures room { length result.items ≤ room }
     ensures visits { visits.new ≤ visits.old + 174 }
@@ -110,39 +110,43 @@ fn take_buckets(
     places
 }
 
-/// Puts the updates at these places into an empty list.
-fn updates_at(
-    queue: &[Waiting],
+/// Puts the updates at these places into an empty list, and counts one more send of each.
+fn send_at(
+    queue: &mut [Waiting],
     places: &[u16],
     updates: &mut ArrayVec<Update, UPDATES_MAX>,
     visits: &mut Visits,
 )
-    requires places { All (λ x. x < length queue.now) places.now }
-    requires few { length places.now ≤ 30 }
-    requires empty { updates.old.items ≡ [] }
-    requires begun { visits.old ≤ 1000 }
-    ensures updates { updates.new.items ≡ map (λ x. (at queue.now x).update) places.now }
-    ensures visits { visits.new ≤ visits.old + 30 }
-{
-    visits.look_at(places.len());
-    for i in 0..places.len() {
-        updates.push(queue[places[i] as usize].update);
-    }
-}
-
-/// Counts one more send of what stands at these places.
-fn count_sends(queue: &mut [Waiting], places: &[u16], visits: &mut Visits)
     requires places { All (λ x. x < length queue.old) places.now }
     requires counts { AreWithin 144 queue.old }
     requires few { length places.now ≤ 30 }
+    requires empty { updates.old.items ≡ [] }
     requires begun { visits.old ≤ 1000 }
+    ensures updates { updates.new.items ≡ map (λ x. (at queue.old x).update) places.now }
     ensures queue { queue.new ≡ raised_at places.now queue.old }
     ensures visits { visits.new ≤ visits.old + 30 }
 {
     visits.look_at(places.len());
     for place in places {
+        updates.push(queue[*place as usize].update);
         queue[*place as usize].count += 1;
     }
+}
+
+/// Whether one of them was sent fewer than `limit` times.
+fn is_any_below(queue: &[Waiting], limit: u32, visits: &mut Visits) -> bool
+    requires few { length queue.now ≤ 257 }
+    requires begun { visits.old ≡ 0 }
+    ensures none { result ≡ false → below limit queue.now ≡ 0 }
+    ensures visits { visits.new ≤ 257 }
+{
+    visits.look_at(queue.len());
+    // The least of all, and not the first below the limit: that loop looks at several at a time.
+    let mut least = limit;
+    for waiting in queue {
+        least = least.min(waiting.count);
+    }
+    least < limit
 }
 
 /// The places of the updates that the next datagram carries. What the links were before does not
@@ -161,8 +165,11 @@ fn next_places(
     requires begun { visits.old ≡ 0 }
     ensures places { result.items ≡ take room (runs limit queue.now) }
     ensures room { length result.items ≤ room }
-    ensures visits { visits.new ≤ 688 }
+    ensures visits { visits.new ≤ 945 }
 {
+    if !is_any_below(queue, limit, visits) {
+        return ArrayVec::new();
+    }
     let mut heads = [END; BUCKETS_MAX as usize + 1];
     let linked = link_all(queue, limit, &mut heads, links, visits);
     take_buckets(queue, &heads, links, limit, room.min(linked), visits)
@@ -187,9 +194,8 @@ pub(crate) fn pick_from(
     requires begun { visits.old ≡ 0 }
     ensures picked { updates.new.items ≡ picked_updates limit room queue.old }
     ensures counted { queue.new ≡ map (raise_all (picked_updates limit room queue.old)) queue.old }
-    ensures visits { visits.new ≤ 748 }
+    ensures visits { visits.new ≤ 975 }
 {
     let places = next_places(queue, limit, room, links, visits);
-    updates_at(queue, &places, updates, visits);
-    count_sends(queue, &places, visits);
+    send_at(queue, &places, updates, visits);
 }

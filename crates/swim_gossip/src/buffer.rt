@@ -127,7 +127,7 @@ fn pick_in(
     ensures picked { updates.new.items ≡ picked_updates limit room queue.old.items }
     ensures counted { queue.new.items
         ≡ map (raise_all (picked_updates limit room queue.old.items)) queue.old.items }
-    ensures visits { visits.new ≤ 748 }
+    ensures visits { visits.new ≤ 975 }
 {
     pick_from(queue, limit, room, links, updates, visits);
 }
@@ -186,6 +186,7 @@ impl Buffer {
     /// Gives the updates that the next datagram carries, at most `room`, and counts the send of each.
     /// They are the first of those that were sent fewer than `limit` times, by how often they were
     /// sent, and then in the order in which they began to wait.
+    #[inline]
     pub fn pick(
         &mut self,
         limit: u32,

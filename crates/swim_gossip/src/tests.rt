@@ -33,7 +33,7 @@ pub(crate) fn pick(
     assert!(rt; room <= UPDATES_MAX && limit <= buffer.most());
     let mut visits = Visits::new();
     let updates = buffer.pick(limit, room, &mut visits);
-    assert!(rt; visits.made() <= 748);
+    assert!(rt; visits.made() <= 975);
     updates
 }
 

@@ -2,7 +2,6 @@
 use Rattle.std.specs.Prelude.{◌<◌, ◌≤◌, ◌^◌}
 use Rattle.swim_member.specs.Checks.{AreSound}
 use Rattle.swim_settings.specs.declared.settings.RunSettings.{RunSettings}
-use Rattle.swim_node.specs.declared.opening.TheConstants.{LIMIT_MAX}
 
 -- each number is in its range
 pub record AreInRange (run : RunSettings) : Type 0 where
@@ -11,4 +10,4 @@ pub record AreInRange (run : RunSettings) : Type 0 where
   pub tick_low : 1 ≤ run.tick_ms
   pub tick_high : run.tick_ms ≤ 60000
   pub limit_low : 1 ≤ run.limit
-  pub limit_high : run.limit ≤ LIMIT_MAX
+  pub limit_high : run.limit ≤ 65536

@@ -19,7 +19,6 @@ use Rattle.swim_settings.specs.declared.refusal.Refusal.{Refusal}
 use Rattle.swim_settings.specs.declared.refusal.Refusal.TheVariants as refusals
 use Rattle.swim_settings.specs.declared.settings.RunSettings.{RunSettings}
 use Rattle.swim_settings.specs.Keys.{key_text, keys_before}
-use Rattle.swim_node.specs.declared.opening.TheConstants.{LIMIT_MAX}
 
 -- what stands at the key
 abbrev pub value_at : Key → Members → Option Data
@@ -106,7 +105,7 @@ IsRefused Direct table =
 IsRefused Suspect table = No (IsWithin Suspect 50 1 100000 table)
 IsRefused Forget table = No (IsWithin Forget 6000 1 1000000 table)
 IsRefused Helpers table = No (IsWithin Helpers 3 0 HELPERS_MAX table)
-IsRefused Limit table = No (IsWithin Limit 4096 1 LIMIT_MAX table)
+IsRefused Limit table = No (IsWithin Limit 4096 1 65536 table)
 IsRefused _ table = Unit
 
 -- the refusal is of the text, which is no TOML, or memory ran out
@@ -129,7 +128,7 @@ IsTaken Direct table =
 IsTaken Suspect table = (n : ℕ) × IsWithin Suspect 50 1 100000 table n
 IsTaken Forget table = (n : ℕ) × IsWithin Forget 6000 1 1000000 table n
 IsTaken Helpers table = (n : ℕ) × IsWithin Helpers 3 0 HELPERS_MAX table n
-IsTaken Limit table = (n : ℕ) × IsWithin Limit 4096 1 LIMIT_MAX table n
+IsTaken Limit table = (n : ℕ) × IsWithin Limit 4096 1 65536 table n
 IsTaken _ table = Unit
 
 -- all keys before the key have what they take

@@ -7,23 +7,19 @@ use Rattle.swim_gossip.proofs.Runs.{picked-runs}
 use Rattle.swim_gossip.proofs.Raised.{low-all, raised-runs}
 use Rattle.swim_gossip.proofs.buckets.pick_from.Goals as goal
 
-pub updates_at-requires-clause-places : goal.updates_at-requires-clause-places
-updates_at-requires-clause-places c =
+pub send_at-requires-clause-places : goal.send_at-requires-clause-places
+send_at-requires-clause-places c =
     subst (λ (xs : List ℕ). All (λ (x : ℕ). x < length c.args.queue.now) xs) (sym (c.deref.ensures.0 ∙ c.next_places-places.ensures.places)) (low-all c.args.limit c.args.room c.args.queue.now)
-
-pub count_sends-requires-clause-places : goal.count_sends-requires-clause-places
-count_sends-requires-clause-places c =
-    subst (λ (xs : List ℕ). All (λ (x : ℕ). x < length c.args.queue.now) xs) (sym (c.deref-2.ensures.0 ∙ c.next_places-places.ensures.places)) (low-all c.args.limit c.args.room c.args.queue.now)
 
 pub returns-clause-picked : goal.returns-clause-picked
 returns-clause-picked c =
-    c.updates_at.ensures.updates
+    c.send_at.ensures.updates
     ∙ ap (map (λ (x : ℕ). (at c.args.queue.now x).update)) (c.deref.ensures.0 ∙ c.next_places-places.ensures.places)
     ∙ picked-runs c.args.limit c.args.room c.args.queue.now
 
 pub returns-clause-counted : goal.returns-clause-counted
 returns-clause-counted c =
-    c.count_sends.ensures.queue
-    ∙ ap (λ (xs : List ℕ). raised_at xs c.args.queue.now) (c.deref-2.ensures.0 ∙ c.next_places-places.ensures.places)
+    c.send_at.ensures.queue
+    ∙ ap (λ (xs : List ℕ). raised_at xs c.args.queue.now) (c.deref.ensures.0 ∙ c.next_places-places.ensures.places)
     ∙ raised-runs c.args.limit c.args.room c.args.queue.now c.requires.few c.requires.apart
     ∙ ap (λ (us : List Update). map (raise_all us) c.args.queue.now) (picked-runs c.args.limit c.args.room c.args.queue.now)
