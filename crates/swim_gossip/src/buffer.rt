@@ -17,7 +17,9 @@ pub const WAITING_MAX: usize = 257;
 /// An update and how many datagrams have carried it since it began to wait.
 #[derive(Clone, Copy, Debug, PartialEq, Eq)]
 pub struct Waiting {
+    /// The update.
     pub update: Update,
+    /// In how many datagrams it was sent since it began to wait.
     pub count: u32,
 }
 

@@ -15,7 +15,7 @@ use std::process::Abort;
 use std::sync::Wait;
 use std::thread::{self, Threads};
 use std::time::{Clock, Duration};
-use swim_disk::MemDisk;
+use swim_disk::{Disk, MemDisk};
 use swim_member::Settings;
 use swim_node::Node;
 use swim_shared::{Name, Outbox, Parts, Sender, Shared};
@@ -33,8 +33,8 @@ const PAUSE_MILLIS: u64 = 2;
 
 /// A gate that sleeps, and then answers Go.
 #[derive(Drop)]
-struct Paced<'a, C: Clock> {
-    clock: &'a C,
+pub(super) struct Paced<'a, C: Clock> {
+    pub(super) clock: &'a C,
 }
 
 impl<'a, C: Clock> Gate for Paced<'a, C> {
@@ -60,12 +60,16 @@ pub(super) fn bound<R: Net>(rt: &R, port: u16) -> io::Result<(UdpInbound, UdpLin
     bind_datagrams(rt, address(port), Duration::from_millis(PAUSE_MILLIS))
 }
 
-/// A member of this port in group 7, with number 1 and an empty journal.
-fn opened(rt: &impl Abort, alloc: Global, port: u16) -> Node<MemDisk>
+/// A member of this port in group 7 on a new disk, with number 1 and an empty journal.
+pub(super) fn opened<D: Disk + Drop>(
+    rt: &impl Abort,
+    alloc: Global,
+    mut disk: D,
+    port: u16,
+) -> Node<D>
     ensures { result.entries ≡ [] }
 {
     let me = Endpoint::new(0x7f00_0001, port).expect(rt, "a port");
-    let mut disk = MemDisk::new(alloc, 1, Vec::new(alloc));
     assert!(rt; init(&mut disk, Owner { group: 7, me }, 0).is_ok());
     let settings = Settings {
         group: 7,
@@ -91,7 +95,8 @@ pub(super) fn served<I: Inbound + Send, O: Doors, R: Host>(
     link: &mut UdpLink,
     doors: &mut O,
 ) -> Ends {
-    let node = opened(rt, alloc, port);
+    let disk = MemDisk::new(alloc, 1, Vec::new(alloc));
+    let node = opened(rt, alloc, disk, port);
     let (outbox, sender) = Outbox::new(alloc, 16).ok().expect(rt, "memory");
     let parts = Parts::new(node, outbox, 4, 1);
     on_stage::<Brand, I, O, R>(rt, alloc, parts, sender, inbound, link, doors)

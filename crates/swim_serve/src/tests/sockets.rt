@@ -134,3 +134,56 @@ fn stalled_connection(rt: HostRuntime) -> Result<(), Fail> {
     let _ = silent;
     Ok(())
 }
+
+/// How often the slow connection says a byte, and in which milliseconds: for 8 seconds, if it is left to.
+const DRIPS: u32 = 80;
+
+const DRIP_MILLIS: u64 = 100;
+
+/// Says one byte after the other of a line that does not end, until the connection is ended.
+fn drip<C: Clock>(clock: &C, mut stream: TcpStream) {
+    for _ in 0..DRIPS {
+        if stream.write_all(b"x").is_err() {
+            return;
+        }
+        thread::sleep(clock, Duration::from_millis(DRIP_MILLIS));
+    }
+}
+
+/// Serves a new member with these doors beside a connection that drips.
+fn served_beside_drips<R: Host>(
+    rt: &R,
+    alloc: Global,
+    dripping: TcpStream,
+    doors: &mut TcpDoors<'_, R>,
+    sockets: (UdpInbound, UdpLink),
+) -> ControlEnd {
+    let (mut inbound, mut link) = sockets;
+    let (_, ends) = join(
+        rt,
+        || drip(rt, dripping),
+        || served(rt, alloc, 7106, &mut inbound, &mut link, doors),
+    );
+    ends.control
+}
+
+/// A connection whose line does not end holds the next one for a second, and no longer.
+#[test]
+fn endless_line(rt: HostRuntime) -> Result<(), Fail> {
+    let listener = TcpListener::bind(&rt, address(0))?;
+    let port = listener.local_addr()?.port();
+    let dripping = TcpStream::connect(&rt, address(port))?;
+    let mut next = TcpStream::connect(&rt, address(port))?;
+    next.write_all(b"status\nstop\n")?;
+    let wait = Duration::from_millis(1);
+    let mut doors = TcpDoors::new(listener, &rt, wait).ok_or("doors")?;
+    let sockets = bound(&rt, 0)?;
+    let start = Instant::now(&rt)?;
+    let end = served_beside_drips(&rt, rt.alloc(), dripping, &mut doors, sockets);
+    assert_eq!(&rt; end, ControlEnd::Stop);
+    let mut answer = [0u8; 11];
+    next.read_exact(&mut answer)?;
+    assert!(&rt; answer.as_slice() == b"ok running ".as_slice());
+    assert!(&rt; start.elapsed(&rt)?.as_millis() < 5000);
+    Ok(())
+}

@@ -106,20 +106,24 @@ impl Read for Broken {
     }
 }
 
-/// What takes so many bytes before a write fails.
+/// The most bytes that a [`Short`] takes.
+pub(super) const MOST: usize = 512;
+
+/// What takes so many bytes, which it keeps, before a write fails.
 #[derive(Drop)]
 pub(super) struct Short {
     pub(super) room: usize,
+    pub(super) taken: ArrayVec<u8, MOST>,
 }
 
 impl Write for Short {
     fn write(&mut self, bytes: &[u8]) -> io::Result<usize> {
-        if self.room == 0 {
+        let (first, _) = bytes.split_at(self.room.min(bytes.len()));
+        if first.is_empty() || self.taken.try_extend_from_slice(first).is_err() {
             return Err(io::Error::from(ErrorKind::ConnectionReset));
         }
-        let taken = self.room.min(bytes.len());
-        self.room -= taken;
-        Ok(taken)
+        self.room -= first.len();
+        Ok(first.len())
     }
 
     fn flush(&mut self) -> io::Result<()> {

@@ -1,6 +1,6 @@
 //! Control lines by their bytes.
 
-use super::fakes::{Broken, Given, Goes, Listed, Short};
+use super::fakes::{Broken, Given, Goes, Listed, MOST, Short};
 use super::scene::{Host, Play, played};
 use crate::{ControlEnd, control, receiver};
 use arrayvec::ArrayVec;
@@ -98,9 +98,64 @@ fn control_lines(rt: HostRuntime) -> Result<(), Fail> {
     Ok(())
 }
 
-/// A connection whose reads fail after a line, and one whose writes fail in an answer.
-#[derive(Clone, Copy)]
-struct Breaks;
+/// Three lines and the begin of a fourth, and what answers them.
+const LINES: &[u8] = b"status\njoin 10.0.0.1:7000\nfrob\n";
+
+/// How many bytes a line and those before it have, and their answers.
+const ANSWERED: [(usize, &[u8]); 4] = [
+    (0, b""),
+    (
+        7,
+        b"ok running number 1 alive 0 suspect 0 confirmed 0 length 0\n",
+    ),
+    (
+        26,
+        b"ok running number 1 alive 0 suspect 0 confirmed 0 length 0\nerror 7 self\n",
+    ),
+    (
+        31,
+        b"ok running number 1 alive 0 suspect 0 confirmed 0 length 0\nerror 7 self\nerror 1 unknown\n",
+    ),
+];
+
+/// Input that ends after any count of bytes gets the answers of its whole lines.
+#[test]
+fn cut_input(rt: HostRuntime) -> Result<(), Fail> {
+    for count in 0..=31 {
+        let mut whole = ANSWERED.iter().filter(|(end, _)| *end <= count);
+        let (_, output) = whole.next_back().ok_or("an answer")?;
+        let mut talk = Talk {
+            before: &[],
+            input: LINES.get(..count).ok_or("a cut")?,
+            output,
+            end: ControlEnd::Closed,
+        };
+        played(&rt, rt.alloc(), 3, 1, &mut talk)?;
+    }
+    Ok(())
+}
+
+/// A connection that fails.
+#[derive(Drop)]
+struct Breaks {
+    reader: Broken,
+    writer: Short,
+    end: Option<ControlEnd>,
+}
+
+impl Breaks {
+    /// One whose reads fail after this input, and whose writes fail after so many bytes.
+    fn new(input: &'static [u8], room: usize) -> Breaks {
+        Breaks {
+            reader: Broken { left: input },
+            writer: Short {
+                room,
+                taken: ArrayVec::new(),
+            },
+            end: None,
+        }
+    }
+}
 
 impl Play for Breaks {
     fn play<N: Name, R: Host>(
@@ -112,25 +167,62 @@ impl Play for Breaks {
         _ring: &mut Sender,
     ) {
         let mut gate = Goes { left: 9 };
-        let mut broken = Broken {
-            left: b"members 10.0.0.9:7000\nleave",
-        };
-        let mut writer: ArrayVec<u8, 512> = ArrayVec::new();
-        let end = control(rt, shared, pass, watch, &mut broken, &mut writer, &mut gate);
-        assert_eq!(rt; end, ControlEnd::ReadFault);
-        assert!(rt; writer.as_slice() == b"ok 0\n".as_slice());
-        let mut reader = b"leave\nleave\n".as_slice();
-        let mut short = Short { room: 3 };
-        let end = control(rt, shared, pass, watch, &mut reader, &mut short, &mut gate);
-        assert_eq!(rt; end, ControlEnd::WriteFault);
-        assert!(rt; reader == b"leave\n".as_slice());
+        self.end = Some(control(
+            rt,
+            shared,
+            pass,
+            watch,
+            &mut self.reader,
+            &mut self.writer,
+            &mut gate,
+        ));
     }
 }
 
-/// A cut line makes no call; a line whose answer is not written has made its own, and the next is not read.
+/// Four lines, of which three make a call, and their answers.
+const CALLS: &[u8] = b"members 10.0.0.9:7000\nleave\nfrob\nleave\n";
+
+const REPLIES: &[u8] = b"ok 0\nok left\nerror 1 unknown\nok stopped\n";
+
+/// What stands after each line, and before the first: the bytes of the lines, those of the answers, and the calls.
+const STANDING: [(usize, usize, usize); 5] = [
+    (0, 0, 0),
+    (22, 5, 1),
+    (28, 13, 2),
+    (33, 29, 2),
+    (39, 40, 3),
+];
+
+/// Each read fails in turn. A cut line makes no call, and all before it are answered and stand in the history.
 #[test]
-fn broken_connections(rt: HostRuntime) -> Result<(), Fail> {
-    let node = played(&rt, rt.alloc(), 8, 1, &mut Breaks)?;
-    assert_eq!(&rt; node.len(), 2);
+fn each_read_fails(rt: HostRuntime) -> Result<(), Fail> {
+    for count in 0..=39 {
+        let mut whole = STANDING.iter().filter(|(read, ..)| *read <= count);
+        let (_, written, calls) = whole.next_back().ok_or("a line")?;
+        let mut breaks = Breaks::new(CALLS.get(..count).ok_or("a cut")?, MOST);
+        let node = played(&rt, rt.alloc(), 8, 1, &mut breaks)?;
+        assert_eq!(&rt; breaks.end, Some(ControlEnd::ReadFault));
+        let replies = REPLIES.get(..*written).ok_or("replies")?;
+        assert_eq!(&rt; breaks.writer.taken.as_slice(), replies);
+        assert_eq!(&rt; node.len(), *calls);
+    }
+    Ok(())
+}
+
+/// The writes fail after each count of bytes. The line whose answer is cut has made its call, and no later one is read.
+#[test]
+fn each_write_fails(rt: HostRuntime) -> Result<(), Fail> {
+    for room in 0..40 {
+        let mut cut = STANDING.iter().filter(|(_, written, _)| room < *written);
+        let (read, _, calls) = cut.next().ok_or("a line")?;
+        let mut breaks = Breaks::new(CALLS, room);
+        let node = played(&rt, rt.alloc(), 8, 1, &mut breaks)?;
+        assert_eq!(&rt; breaks.end, Some(ControlEnd::WriteFault));
+        let unread = CALLS.get(*read..).ok_or("lines")?;
+        assert_eq!(&rt; breaks.reader.left, unread);
+        let replies = REPLIES.get(..room).ok_or("replies")?;
+        assert_eq!(&rt; breaks.writer.taken.as_slice(), replies);
+        assert_eq!(&rt; node.len(), *calls);
+    }
     Ok(())
 }
