@@ -4,8 +4,8 @@
 
 mod life;
 mod player;
-mod setup;
 mod session;
+mod setup;
 #[cfg(test)]
 mod tests;
 mod transcript;
@@ -20,7 +20,7 @@ use std::process::ExitCode;
 use std::sync::Wait;
 use std::thread::Threads;
 use std::time::Clock;
-use swim_run::{Subcommand, Ending, Stamped, ask, level, make, read_words, run};
+use swim_run::{Ending, Stamped, Subcommand, ask, level, make, read_words, run};
 use swim_script::ScriptFault;
 
 /// The exit status where the words are refused.

@@ -12,7 +12,7 @@ use std::process::ExitCode;
 use std::sync::Wait;
 use swim_disk::MemDisk;
 use swim_member::{Event, Settings};
-use swim_node::{MemoryLink, Node};
+use swim_node::{MemoryLink, Node, Tag, run};
 use swim_shared::{CallFault, Name, Outbox, Parts, Pass, Sender, Shared};
 use swim_state::{Owner, init};
 use swim_wire::Endpoint;
@@ -183,8 +183,29 @@ fn played<R: Wait>(rt: &R, alloc: Global) -> Option<Ended> {
     era::<Brand, R>(rt, alloc, parts, sender)
 }
 
+/// Runs two calls of another member without a lock, and tells how many stand. From the refused one on they are run once
+/// more. None where there was no member, or they were refused twice.
+fn run_alone(alloc: Global) -> Option<usize> {
+    let mut node = opened(alloc)?;
+    let mut link = MemoryLink::new(alloc, 2);
+    let both = [
+        (Tag { caller: 0, turn: 1 }, Event::Tick { word: 1 }),
+        (Tag { caller: 0, turn: 2 }, Event::Tick { word: 2 }),
+    ];
+    if let Err((stand, _)) = run(&mut node, &mut link, &both) {
+        let second = [(Tag { caller: 0, turn: 2 }, Event::Tick { word: 2 })];
+        let again = if stand == 0 {
+            run(&mut node, &mut link, &both)
+        } else {
+            run(&mut node, &mut link, &second)
+        };
+        again.ok()?;
+    }
+    Some(node.len())
+}
+
 fn main(rt: HostRuntime) -> io::Result<ExitCode> {
-    let Some(ended) = played(&rt, rt.alloc()) else {
+    let (Some(ended), Some(alone)) = (played(&rt, rt.alloc()), run_alone(rt.alloc())) else {
         eprintln!(rt; "swim_call_again: no memory")?;
         return Ok(ExitCode::FAILURE);
     };
@@ -193,6 +214,7 @@ fn main(rt: HostRuntime) -> io::Result<ExitCode> {
         println!(rt; "call {} sent {}", reply.status.length, reply.sent)?;
     }
     println!(rt; "{} datagrams came out of the ring", ended.handed)?;
+    println!(rt; "{} calls stand that were run alone", alone)?;
     let Refusals { again, spent } = ended.refusals;
     eprintln!(rt; "made again {again}, passes spent {spent}")?;
     Ok(ExitCode::SUCCESS)

@@ -56,7 +56,7 @@ fn helpers_about(rows: &[Row], target: Endpoint, most: usize) -> ArrayVec<Endpoi
     requires { most ≤ HELPERS_MAX }
     ensures helpers { result.items
         ≡ take most (map row_name (filter (λ r. nat_lt target (row_name r))
-            (filter is_eligible rows.now)
+        (filter is_eligible rows.now)
         ++ filter (λ r. nat_lt (row_name r) target) (filter is_eligible rows.now))) }
     ensures room { length result.items ≤ most }
 {

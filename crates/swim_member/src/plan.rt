@@ -7,7 +7,7 @@ ghost use Rattle.swim_member.specs.Events.{wanted, wanted_in, wanted_by, refusal
 
 use crate::event::Event;
 use crate::member::Member;
-use crate::refute::{has_confirm, greatest_asked};
+use crate::refute::{greatest_asked, has_confirm};
 use crate::state::Phase;
 use swim_wire::{Endpoint, Update, decode};
 

@@ -57,7 +57,10 @@ impl Member {
         ensures few { length answer.new.outs.items ≤ 1 }
     {
         self.hear_all(&datagram.updates, &mut answer.notes);
-        note_down(&mut answer.notes, self.settle_number(&datagram.updates, granted));
+        note_down(
+            &mut answer.notes,
+            self.settle_number(&datagram.updates, granted),
+        );
         let replied = self.reply(datagram, &mut answer.outs);
         note_down(&mut answer.notes, replied);
     }

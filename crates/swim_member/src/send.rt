@@ -57,8 +57,10 @@ impl Member {
         ensures carried { result.items ≡ carried_updates self.old }
         ensures said { list_all (may_say self.new.settings.me self.new.number) result.items ≡ true }
         ensures state { self.new
-            ≡ record self.old { queue = map
-                (raise_all (carried_updates self.old)) self.old.queue } }
+            ≡ record self.old {
+              queue = map
+                  (raise_all (carried_updates self.old)) self.old.queue;
+            } }
     {
         let limit = self.limit();
         self.buffer.pick(limit, UPDATES_MAX, &mut Visits::new())
@@ -79,7 +81,8 @@ impl Member {
         requires { carries_updates kind ≡ true }
         ensures out { result
             ≡ record {
-                to = to; datagram = datagram self.old kind seq subject (carried_updates self.old)
+              to = to;
+              datagram = datagram self.old kind seq subject (carried_updates self.old);
             } }
         ensures state { self.new ≡ apply (send self.old to kind seq subject) self.old }
         ensures fit { is_fit self.new.settings.me self.new.number result ≡ true }

@@ -59,7 +59,13 @@ fn tell<N: Name, D: Disk, L: Link, R: Wait + Drop, W: Wait + Log + Clock>(
     if count == 0 {
         return Ok(());
     }
-    match enter(rt, shared, pass, &mut NoteLog::new(), Event::SendFailed { count }) {
+    match enter(
+        rt,
+        shared,
+        pass,
+        &mut NoteLog::new(),
+        Event::SendFailed { count },
+    ) {
         Ok(_) => Ok(()),
         Err(Refusal::Memory) => Err(Ending::Worker(WorkerEnd::Memory)),
         Err(_) => Err(Ending::Worker(WorkerEnd::Unread)),

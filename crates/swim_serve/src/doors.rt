@@ -60,10 +60,7 @@ impl<'a, C: Clock> TcpDoors<'a, C> {
 }
 
 /// Both ends of a connection that takes a second at most; none if it cannot be made so.
-fn with_waits<'a, C: Clock>(
-    clock: &'a C,
-    stream: TcpStream,
-) -> Option<(InTime<'a, C>, TcpStream)> {
+fn with_waits<'a, C: Clock>(clock: &'a C, stream: TcpStream) -> Option<(InTime<'a, C>, TcpStream)> {
     let began = Instant::now(clock).ok()?;
     let wait = Duration::from_millis(CONNECTION_MILLIS);
     stream.set_write_timeout(Some(wait)).ok()?;

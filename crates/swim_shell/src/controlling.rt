@@ -6,10 +6,10 @@ ghost use Rattle.swim_shell.specs.Calls.{NewCall, NewCalls};
 ghost use Rattle.swim_shell.specs.Control.{Responds, RespondsCall, AnswersLine, ControlsOne, Controls, ShowsWatch};
 
 use crate::answers::{Answer, AnswerTo, Joined, Left, Shown, add_refusal, add_status, add_text};
-use crate::request::{Request, understand};
 use crate::calling::{Refusal, enter};
 use crate::lines::{Line, read_line};
 use crate::note_log::NoteLog;
+use crate::request::{Request, understand};
 use crate::worker::{ControlEnd, Gate, Turn};
 use arrayvec::ArrayString;
 use log::Log;

@@ -3,7 +3,6 @@
 #![tactic(auto)]
 
 mod answers;
-mod request;
 mod calling;
 mod controlling;
 mod doors;
@@ -11,11 +10,11 @@ mod inbound;
 mod lines;
 mod note_log;
 mod receiving;
+mod request;
 mod sending;
 mod ticking;
 mod worker;
 
-pub use request::Request;
 pub use calling::{Refusal, enter};
 pub use controlling::control;
 pub use doors::Doors;
@@ -23,6 +22,7 @@ pub use inbound::{Inbound, ReceiveFault};
 pub use lines::{LINE_MAX, Line};
 pub use note_log::{LOGGED_MAX, NoteLog};
 pub use receiving::{FAILURES_MAX, receiver};
+pub use request::Request;
 pub use sending::sender;
 pub use ticking::ticker;
 pub use worker::{ControlEnd, Gate, Turn, WorkerEnd};
