@@ -1,5 +1,5 @@
-"""Members that run, and sockets that speak to them: what .ci/program and bench/program stand on. All sockets are on
-127.0.0.1, at ports that were free."""
+"""Members that run, and sockets that speak to them: what .ci/program, bench/program and the checks of examples/ stand on.
+All sockets are on 127.0.0.1, at ports that were free."""
 
 import os
 import signal
@@ -137,12 +137,16 @@ class Ran(NamedTuple):
 
 def swim(*words, **more):
     """The program with these words, run to its end."""
+    return run_to_its_end([PLACE.program, *words], **more)
+
+
+def run_to_its_end(command, **more):
     more.setdefault("stdin", subprocess.DEVNULL)
     if "input" in more:
         del more["stdin"]
     more.setdefault("stdout", subprocess.PIPE)
     more.setdefault("stderr", subprocess.PIPE)
-    ran = subprocess.run([PLACE.program, *words], timeout=PATIENCE, check=False, **more)
+    ran = subprocess.run(command, timeout=PATIENCE, check=False, **more)
     return Ran(ran.returncode, (ran.stdout or b"").decode(), (ran.stderr or b"").decode())
 
 
@@ -174,12 +178,16 @@ class Member:
         self.config.write_text(toml(self.keys))
         return self
 
-    def start(self, **more):
-        """Starts it, and waits until it answers."""
+    def launch(self, **more):
+        """Starts it, and waits for nothing."""
         with self.log.open("ab") as log:
             streams = {"stdin": subprocess.DEVNULL, "stdout": log, "stderr": log}
             self.process = subprocess.Popen([PLACE.program, "run", self.config], **{**streams, **more})
         STARTED.append(self.process)
+
+    def start(self, **more):
+        """Starts it, and waits until it answers."""
+        self.launch(**more)
         wait_for(f"{self.config} answers", self.status_or_end)
         return self
 
@@ -251,13 +259,23 @@ class Peer:
         sequence = self.ping(to, *updates)
         return wait_for(f"an ack of {to}", lambda: self.ack_of(sequence))
 
-    def ack_of(self, sequence):
-        found = self.next(0.5)
-        return found if found and (found.kind, found.sequence) == (ACK, sequence) else None
+    def answered(self, to, seconds=0.5):
+        """The ack to a ping, which is sent again where none comes within so many seconds."""
+        return wait_for(f"an answer of {to}", lambda: self.ack_of(self.ping(to), seconds))
+
+    def ack_of(self, sequence, seconds=0.5):
+        """The ack of this sequence; what comes before it is passed over, until nothing comes for so long."""
+        while found := self.next(seconds):
+            if (found.kind, found.sequence) == (ACK, sequence):
+                return found
+        return None
+
+    def numbers(self, who):
+        """The numbers that the datagrams from `who` said of itself, in order."""
+        return [u.number for d in self.heard for u in d.updates if d.sender == who == u.who]
 
     def greatest_number(self, who):
-        """The greatest number that a datagram from `who` said of itself."""
-        return max((u.number for d in self.heard for u in d.updates if d.sender == who == u.who), default=0)
+        return max(self.numbers(who), default=0)
 
 
 def end_started():
