@@ -1,4 +1,4 @@
-"""Members that run, and sockets that speak to them: what .ci/program, bench/program and the checks of examples/ stand on.
+"""Members that run, and sockets that speak to them: what .ci/program, bench/program and the scripts of examples/ stand on.
 All sockets are on 127.0.0.1, at ports that were free."""
 
 import os
@@ -51,15 +51,15 @@ def expect_true(holds, about):
         raise Wrong(about)
 
 
-def wait_for(about, look):
+def wait_for(about, look, seconds=PATIENCE):
     """What `look` gives, once it is true."""
-    end = time.monotonic() + PATIENCE
+    end = time.monotonic() + seconds
     while time.monotonic() < end:
         found = look()
         if found:
             return found
         time.sleep(0.02)
-    raise Wrong(f"in {PATIENCE} seconds not: {about}")
+    raise Wrong(f"in {seconds} seconds not: {about}")
 
 
 # Datagrams, as docs/FORMATS.md has them.
@@ -165,6 +165,7 @@ class Member:
     """A member that `swim run` runs, with quick ticks."""
 
     def __init__(self, name, **keys):
+        self.name = name
         self.me = free_endpoint(socket.SOCK_DGRAM)
         self.control = free_endpoint(socket.SOCK_STREAM)
         self.file = PLACE.folder / f"{name}.state"

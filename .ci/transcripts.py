@@ -4,7 +4,7 @@ says. What examples/lives, examples/bytes and examples/refuse stand on."""
 import re
 from typing import NamedTuple
 
-from members import Endpoint, decode, expect_true
+from members import PING, SUSPECT, Datagram, Endpoint, Update, decode, encode, expect, expect_true, swim
 
 ME = Endpoint("10.0.0.1", 7000)  # the member of a script that names no other
 PEER = Endpoint("10.0.0.2", 7000)
@@ -41,6 +41,29 @@ class Step(NamedTuple):
     @property
     def word(self):
         return self.command.split(" ")[0]
+
+
+def received(data):
+    """The line by which a member gets these bytes of its peer."""
+    return f"recv {PEER} {data.hex() or '-'}"
+
+
+def ping(*updates):
+    """The bytes of a ping with these updates."""
+    return encode(Datagram(PING, 1, PEER, ME, updates))
+
+
+def suspicion(number):
+    """The line of a ping that suspects the member of this number."""
+    return received(ping(Update(SUSPECT, ME, number)))
+
+
+def played(lines):
+    """These lines, each with what it printed."""
+    script = "".join(f"{line}\n" for line in lines)
+    ran = swim("play", input=script.encode())
+    expect((ran.status, ran.err), (0, ""), "the end of play")
+    return steps_of(script, ran.out)
 
 
 def commands_of(script):
