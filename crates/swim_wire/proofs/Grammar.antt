@@ -14,8 +14,9 @@ use Rattle.swim_wire.specs.declared.fault.WireFault.{WireFault}
 use Rattle.swim_wire.specs.declared.fault.WireFault.TheVariants.{TooShort, TooLong, Magic, Version, Kind, Count, Reserved, Endpoint, UpdateKind, Number}
 use Rattle.swim_wire.specs.Numbers.{number_at, IsEndpoint, IsCursor, AreBytes}
 use Rattle.swim_wire.specs.Codes.{kind_code, MayHaveZero}
-use Rattle.swim_wire.specs.Spelling.{magic, head_text, spelling, update_text, UpdateFits, IsEncodable, Spells}
-use Rattle.swim_wire.specs.Faults.{Has, SomeUpdate, TakesCursor, HasNoSubject, HasReservedUpdate, HasNoMember, HasUnknownCode, HasGreatNumber, IsFirstFault, IsFaultless, from_update}
+use Rattle.swim_wire.specs.Spelling.{magic, head_text, spelling, IsEncodable, Spells}
+use Rattle.swim_wire.specs.Updates.{update_text, UpdateFits, HasReservedUpdate, HasNoMember, HasUnknownCode, HasGreatNumber}
+use Rattle.swim_wire.specs.Faults.{Has, SomeUpdate, TakesCursor, HasNoSubject, IsFirstFault, IsFaultless, from_update}
 use Rattle.swim_wire.specs.Reading.{kind_of, updates_of, datagram_of}
 use Rattle.swim_wire.proofs.Texts.{AreBytes-drop, take_split, cells_4, back_4, back_6, back_8, number_at-drop, endpoint_at}
 use Rattle.swim_wire.proofs.Order.{first_fault_one}

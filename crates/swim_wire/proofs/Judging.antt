@@ -13,12 +13,13 @@ use Rattle.swim_wire.specs.declared.update.UpdateKind.{UpdateKind as UpdateKinds
 use Rattle.swim_wire.specs.declared.update.UpdateKind.TheVariants.{Alive, Suspect, Confirm}
 use Rattle.swim_wire.specs.declared.fault.WireFault.{WireFault}
 use Rattle.swim_wire.specs.declared.fault.WireFault.TheVariants.{TooShort, TooLong, Magic, Version, Kind, Count, Reserved, Endpoint, UpdateKind, Number}
-use Rattle.swim_wire.specs.Numbers.{number_at}
-use Rattle.swim_wire.specs.Codes.{kind_code, update_code, fault_number}
+use Rattle.swim_wire.specs.Numbers.{number_at, is_code}
+use Rattle.swim_wire.specs.Updates.{update_code, HasReservedUpdate, HasNoMember, HasUnknownCode, HasGreatNumber, has_reserved_update, has_no_member, has_unknown_code, has_great_number}
+use Rattle.swim_wire.specs.Codes.{kind_code, fault_number}
 use Rattle.swim_wire.specs.Spelling.{magic}
-use Rattle.swim_wire.specs.Faults.{Has, SomeUpdate, HasReservedUpdate, HasNoMember, HasUnknownCode, HasGreatNumber, HasNoSubject, TakesCursor, IsFirstFault, IsFaultless, from_update}
+use Rattle.swim_wire.specs.Faults.{Has, SomeUpdate, HasNoSubject, TakesCursor, IsFirstFault, IsFaultless, from_update}
 use Rattle.swim_wire.specs.Reading.{datagram_of}
-use Rattle.swim_wire.specs.Decoding.{some_below, some_update, is_code, is_zero_cursor, has_fault, all_faults, read_as, decoded}
+use Rattle.swim_wire.specs.Decoding.{some_below, some_update, is_zero_cursor, has_fault, all_faults, read_as, decoded}
 use Rattle.swim_wire.proofs.Order.{fault_number_one, fault_number_lt}
 use Rattle.swim_wire.specs.declared.update.TheConstants.{NUMBER_MAX}
 
@@ -83,8 +84,8 @@ no_subject : (bytes : List ℕ) → Decides ((number_at 30 2 bytes == 0) && not 
 no_subject bytes =
     Decides-and (number_at 30 2 bytes == 0) (not (is_zero_cursor bytes)) (Decides-eqb (number_at 30 2 bytes) 0) (Decides-not (is_zero_cursor bytes) (zero_cursor bytes))
 
-no_member : (bytes : List ℕ) → Decides (some_update (λ u. number_at 6 2 u == 0) bytes) (SomeUpdate HasNoMember bytes)
-no_member bytes = of_update (λ u. number_at 6 2 u == 0) HasNoMember bytes (λ u. Decides-eqb (number_at 6 2 u) 0)
+no_member : (bytes : List ℕ) → Decides (some_update has_no_member bytes) (SomeUpdate HasNoMember bytes)
+no_member bytes = of_update has_no_member HasNoMember bytes (λ u. Decides-eqb (number_at 6 2 u) 0)
 
 pub judged : (f : WireFault) (bytes : List ℕ) → Decides (has_fault f bytes) (Has f bytes)
 judged TooShort bytes = Decides-ltb (length bytes) 32
@@ -94,15 +95,15 @@ judged Version bytes = is_not (slice_index bytes 4) 1
 judged Kind bytes = is_kind (slice_index bytes 5)
 judged Count bytes = is_not (length bytes) (32 + 16 * slice_index bytes 6)
 judged Reserved bytes =
-    Decides-or (not (slice_index bytes 7 == 0)) (some_update (λ u. not (slice_index u 1 == 0)) bytes)
+    Decides-or (not (slice_index bytes 7 == 0)) (some_update has_reserved_update bytes)
     (is_not (slice_index bytes 7) 0)
-    (of_update (λ u. not (slice_index u 1 == 0)) HasReservedUpdate bytes (λ u. is_not (slice_index u 1) 0))
+    (of_update has_reserved_update HasReservedUpdate bytes (λ u. is_not (slice_index u 1) 0))
 judged Endpoint bytes =
-    Decides-or (number_at 24 2 bytes == 0) (((number_at 30 2 bytes == 0) && not (is_zero_cursor bytes)) || some_update (λ u. number_at 6 2 u == 0) bytes)
+    Decides-or (number_at 24 2 bytes == 0) (((number_at 30 2 bytes == 0) && not (is_zero_cursor bytes)) || some_update has_no_member bytes)
     (Decides-eqb (number_at 24 2 bytes) 0)
-    (Decides-or ((number_at 30 2 bytes == 0) && not (is_zero_cursor bytes)) (some_update (λ u. number_at 6 2 u == 0) bytes) (no_subject bytes) (no_member bytes))
-judged UpdateKind bytes = of_update (λ u. not (is_code 3 (slice_index u 0))) HasUnknownCode bytes (λ u. is_update_kind (slice_index u 0))
-judged Number bytes = of_update (λ u. nat_lt NUMBER_MAX (number_at 8 8 u)) HasGreatNumber bytes (λ u. Decides-ltb NUMBER_MAX (number_at 8 8 u))
+    (Decides-or ((number_at 30 2 bytes == 0) && not (is_zero_cursor bytes)) (some_update has_no_member bytes) (no_subject bytes) (no_member bytes))
+judged UpdateKind bytes = of_update has_unknown_code HasUnknownCode bytes (λ u. is_update_kind (slice_index u 0))
+judged Number bytes = of_update has_great_number HasGreatNumber bytes (λ u. Decides-ltb NUMBER_MAX (number_at 8 8 u))
 
 -- ---- the first that holds
 

@@ -11,11 +11,12 @@ use Rattle.swim_wire.specs.declared.fault.WireFault.{WireFault}
 use Rattle.swim_wire.specs.declared.fault.WireFault.TheVariants.{TooShort, TooLong, Magic, Version}
 use Rattle.swim_wire.specs.declared.fault.WireFault.TheVariants.{Kind, Count, Reserved, Endpoint}
 use Rattle.swim_wire.specs.declared.fault.WireFault.TheVariants.{UpdateKind, Number}
-use Rattle.swim_wire.specs.Numbers.{number_at}
+use Rattle.swim_wire.specs.Numbers.{number_at, is_code}
+use Rattle.swim_wire.specs.Updates.{has_reserved_update, has_no_member}
+use Rattle.swim_wire.specs.Updates.{has_unknown_code, has_great_number}
 use Rattle.swim_wire.specs.Spelling.{magic}
 use Rattle.swim_wire.specs.Faults.{from_update}
 use Rattle.swim_wire.specs.Reading.{datagram_of}
-use Rattle.swim_wire.specs.declared.update.TheConstants.{NUMBER_MAX}
 
 -- one of the numbers below n passes the test
 abbrev pub some_below : ℕ → (ℕ → Bool) → Bool
@@ -25,10 +26,6 @@ some_below (suc n) test = test n || some_below n test
 -- some whole update of the text, and what follows it, passes the test
 abbrev pub some_update : (List ℕ → Bool) → List ℕ → Bool
 some_update test bytes = some_below ((length bytes - 32) / 16) (λ i. test (from_update i bytes))
-
--- the code is one of 1 to n
-abbrev pub is_code : ℕ → ℕ → Bool
-is_code n code = nat_lt 0 code && nat_lt code (n + 1)
 
 -- the subject is the zero cursor of a join or a page
 abbrev pub is_zero_cursor : List ℕ → Bool
@@ -44,13 +41,13 @@ has_fault Version bytes = not (slice_index bytes 4 == 1)
 has_fault Kind bytes = not (is_code 5 (slice_index bytes 5))
 has_fault Count bytes = not (length bytes == 32 + 16 * slice_index bytes 6)
 has_fault Reserved bytes =
-    not (slice_index bytes 7 == 0) || some_update (λ u. not (slice_index u 1 == 0)) bytes
+    not (slice_index bytes 7 == 0) || some_update has_reserved_update bytes
 has_fault Endpoint bytes =
     (number_at 24 2 bytes == 0)
     || (((number_at 30 2 bytes == 0) && not (is_zero_cursor bytes))
-    || some_update (λ u. number_at 6 2 u == 0) bytes)
-has_fault UpdateKind bytes = some_update (λ u. not (is_code 3 (slice_index u 0))) bytes
-has_fault Number bytes = some_update (λ u. nat_lt NUMBER_MAX (number_at 8 8 u)) bytes
+    || some_update has_no_member bytes)
+has_fault UpdateKind bytes = some_update has_unknown_code bytes
+has_fault Number bytes = some_update has_great_number bytes
 
 -- the faults in their order
 abbrev pub all_faults : List WireFault

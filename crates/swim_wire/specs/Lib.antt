@@ -1,5 +1,6 @@
 pub mod Filler
 pub mod Numbers
+pub mod Updates
 pub mod Codes
 pub mod Spelling
 pub mod Faults

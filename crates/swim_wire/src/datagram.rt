@@ -15,46 +15,6 @@ pub const UPDATES_MAX: usize = 30;
 /// The greatest length of a datagram, in bytes.
 pub const DATAGRAM_MAX: usize = 512;
 
-/// The bytes that begin each datagram.
-pub(crate) const MAGIC: [u8; 4] = *b"SWIM";
-
-/// The version of the format.
-pub(crate) const VERSION: u8 = 1;
-
-/// Offsets in the head, in bytes.
-pub(crate) const VERSION_AT: usize = 4;
-
-pub(crate) const KIND_AT: usize = 5;
-
-pub(crate) const COUNT_AT: usize = 6;
-
-pub(crate) const RESERVED_AT: usize = 7;
-
-pub(crate) const GROUP_AT: usize = 8;
-
-pub(crate) const SEQ_AT: usize = 16;
-
-pub(crate) const SENDER_AT: usize = 20;
-
-pub(crate) const SUBJECT_AT: usize = 26;
-
-/// The length of the head, in bytes, which is where the updates begin.
-pub(crate) const HEAD_LEN: usize = 32;
-
-/// The length of an update, in bytes, and offsets in it.
-pub(crate) const UPDATE_LEN: usize = 16;
-
-pub(crate) const UPDATE_KIND_AT: usize = 0;
-
-pub(crate) const UPDATE_RESERVED_AT: usize = 1;
-
-pub(crate) const UPDATE_WHO_AT: usize = 2;
-
-pub(crate) const UPDATE_NUMBER_AT: usize = 8;
-
-/// The port's offset in the six bytes of an endpoint.
-pub(crate) const PORT_AT: usize = 4;
-
 /// The codes of the two kinds whose subject is a cursor.
 pub(crate) const JOIN: u8 = 4;
 

@@ -2,24 +2,17 @@
 //!
 //! A datagram has 32 bytes of head and 16 for each update. All numbers are big-endian.
 //!
-//! | Offset | Size | Field |
-//! |---|---|---|
-//! | 0 | 4 | `SWIM` |
-//! | 4 | 1 | version, 1 |
-//! | 5 | 1 | kind: 1 ping, 2 ping-req, 3 ack, 4 join, 5 page |
-//! | 6 | 1 | count of updates, 0 to 30 |
-//! | 7 | 1 | 0 |
-//! | 8 | 8 | group |
-//! | 16 | 4 | sequence |
-//! | 20 | 6 | sender: address 4, port 2 |
-//! | 26 | 6 | subject: the same form |
-//! | 32 | 16 each | updates: kind (1 alive, 2 suspect, 3 confirm), 0, member (6), number (8) |
+//! | Offset | Size | Part | Format |
+//! |---|---|---|---|
+//! | 0 | 32 | head | `head.rt` |
+//! | 32 | 16 each | updates | `update.rt` |
 #![tactic(auto)]
 
 mod cursor;
 mod datagram;
 mod endpoint;
 mod fault;
+mod head;
 mod laws;
 mod reading;
 mod update;

@@ -1,25 +1,23 @@
 //! Bytes to a datagram.
 
-ghost use Rattle.std.specs.Prelude.{◌≡◌, ◌≢◌, ℕ, ◌+◌, ◌*◌, ◌^◌, ◌<◌, ◌≤◌, ◌↔◌, [], length, take, drop, slice_index, Ok, Err, Some, IsTrue, IfSome, IfNone};
-ghost use Rattle.byteorder.specs.Endian.{big_number};
+ghost use Rattle.std.specs.Prelude.{◌≡◌, ℕ, ◌+◌, ◌*◌, ◌≤◌, ◌↔◌, [], length, drop, slice_index, Ok, Err, Some, IsTrue, IfSome, IfNone};
 ghost use Rattle.swim_wire.specs.declared.datagram.Datagram.{Datagram as Datagrams};
 ghost use Rattle.swim_wire.specs.declared.fault.WireFault.{WireFault as Faults};
+ghost use Rattle.swim_wire.specs.Updates.{HasReservedUpdate, HasNoMember, HasUnknownCode, HasGreatNumber};
 ghost use Rattle.swim_wire.specs.Spelling.{Spells};
-ghost use Rattle.swim_wire.specs.Faults.{SomeUpdate, HasReservedUpdate, HasReserved, HasNoSubject, HasNoEndpoint, HasNoMember, HasUnknownCode, HasGreatNumber, HasNoneBelow, IsFirstFault, IsFaultless, IsCounted, from_update};
-ghost use Rattle.swim_wire.specs.Reading.{update_of, updates_of, datagram_of};
+ghost use Rattle.swim_wire.specs.Faults.{SomeUpdate, HasReserved, HasNoEndpoint, HasNoneBelow, IsFirstFault, IsFaultless, IsCounted, from_update};
+ghost use Rattle.swim_wire.specs.Reading.{updates_of};
 ghost use Rattle.swim_wire.specs.Decoding.{decoded};
 
-use crate::cursor::Cursor;
-use crate::datagram::{
-    COUNT_AT, DATAGRAM_MAX, Datagram, GROUP_AT, HEAD_LEN, JOIN, KIND_AT, Kind, MAGIC, PAGE,
-    PORT_AT, RESERVED_AT, SENDER_AT, SEQ_AT, SUBJECT_AT, UPDATE_KIND_AT, UPDATE_LEN,
-    UPDATE_NUMBER_AT, UPDATE_RESERVED_AT, UPDATE_WHO_AT, UPDATES_MAX, VERSION, VERSION_AT,
-};
-use crate::endpoint::Endpoint;
+use crate::datagram::{Datagram, UPDATES_MAX};
 use crate::fault::WireFault;
-use crate::update::{NUMBER_MAX, Update, UpdateKind};
+use crate::head::{
+    HEAD_LEN, Head, count_of, has_no_sender, has_no_subject, has_reserved_head, shape_fault,
+};
+use crate::update::{
+    UPDATE_LEN, Update, has_great_number, has_no_member, has_reserved_byte, has_unknown_code,
+};
 use arrayvec::ArrayVec;
-use byteorder::{BigEndian, ByteOrder};
 
 /// The bytes from update `i` on.
 fn update_at(bytes: &[u8], i: usize) -> &[u8]
@@ -35,7 +33,7 @@ fn has_reserved_update(bytes: &[u8], count: usize) -> bool
     ensures { IsTrue result ↔ SomeUpdate HasReservedUpdate bytes.now }
 {
     for i in 0..count {
-        if update_at(bytes, i)[UPDATE_RESERVED_AT] != 0 {
+        if has_reserved_byte(update_at(bytes, i)) {
             return true;
         }
     }
@@ -47,7 +45,7 @@ fn has_update_without_member(bytes: &[u8], count: usize) -> bool
     ensures { IsTrue result ↔ SomeUpdate HasNoMember bytes.now }
 {
     for i in 0..count {
-        if BigEndian::read_u16(&update_at(bytes, i)[UPDATE_WHO_AT + PORT_AT..]) == 0 {
+        if has_no_member(update_at(bytes, i)) {
             return true;
         }
     }
@@ -59,7 +57,7 @@ fn has_unknown_update_kind(bytes: &[u8], count: usize) -> bool
     ensures { IsTrue result ↔ SomeUpdate HasUnknownCode bytes.now }
 {
     for i in 0..count {
-        if UpdateKind::from_code(update_at(bytes, i)[UPDATE_KIND_AT]).is_none() {
+        if has_unknown_code(update_at(bytes, i)) {
             return true;
         }
     }
@@ -71,33 +69,19 @@ fn has_number_over(bytes: &[u8], count: usize) -> bool
     ensures { IsTrue result ↔ SomeUpdate HasGreatNumber bytes.now }
 {
     for i in 0..count {
-        if BigEndian::read_u64(&update_at(bytes, i)[UPDATE_NUMBER_AT..]) > NUMBER_MAX {
+        if has_great_number(update_at(bytes, i)) {
             return true;
         }
     }
     false
 }
 
-/// Whether the subject has port 0 and is no zero cursor of a join or a page.
-fn has_no_subject(bytes: &[u8]) -> bool
-    requires { 32 ≤ length bytes.now }
-    ensures { IsTrue result ↔ HasNoSubject bytes.now }
-{
-    if BigEndian::read_u16(&bytes[SUBJECT_AT + PORT_AT..]) != 0 {
-        return false;
-    }
-    if BigEndian::read_u32(&bytes[SUBJECT_AT..]) != 0 {
-        return true;
-    }
-    bytes[KIND_AT] != JOIN && bytes[KIND_AT] != PAGE
-}
-
-/// Whether byte 7 or the second byte of an update is not 0.
+/// Whether a byte of the head or of an update that has to be 0 is not.
 fn has_reserved(bytes: &[u8], count: usize) -> bool
     requires { length bytes.now ≡ 32 + 16 * count }
     ensures { IsTrue result ↔ HasReserved bytes.now }
 {
-    bytes[RESERVED_AT] != 0 || has_reserved_update(bytes, count)
+    has_reserved_head(bytes) || has_reserved_update(bytes, count)
 }
 
 /// Whether the sender, the subject or the member of an update is no endpoint.
@@ -105,40 +89,13 @@ fn has_no_endpoint(bytes: &[u8], count: usize) -> bool
     requires { length bytes.now ≡ 32 + 16 * count }
     ensures { IsTrue result ↔ HasNoEndpoint bytes.now }
 {
-    if BigEndian::read_u16(&bytes[SENDER_AT + PORT_AT..]) == 0 {
+    if has_no_sender(bytes) {
         return true;
     }
     if has_no_subject(bytes) {
         return true;
     }
     has_update_without_member(bytes, count)
-}
-
-/// The first fault of the head, of those that concern no update.
-fn shape_fault(bytes: &[u8]) -> Option<WireFault>
-    ensures some { IfSome result (λ fault. IsFirstFault fault bytes.now) }
-    ensures none { IfNone result (HasNoneBelow 7 bytes.now) }
-    ensures counted { IfNone result (IsCounted bytes.now) }
-{
-    if bytes.len() < HEAD_LEN {
-        return Some(WireFault::TooShort);
-    }
-    if bytes.len() > DATAGRAM_MAX {
-        return Some(WireFault::TooLong);
-    }
-    if !bytes.starts_with(&MAGIC) {
-        return Some(WireFault::Magic);
-    }
-    if bytes[VERSION_AT] != VERSION {
-        return Some(WireFault::Version);
-    }
-    if Kind::from_code(bytes[KIND_AT]).is_none() {
-        return Some(WireFault::Kind);
-    }
-    if bytes.len() != HEAD_LEN + UPDATE_LEN * bytes[COUNT_AT] as usize {
-        return Some(WireFault::Count);
-    }
-    None
 }
 
 /// The first fault of the fields, in bytes whose length is that of their count.
@@ -149,7 +106,7 @@ fn field_fault(bytes: &[u8]) -> Option<WireFault>
     ensures none { IfNone result (IsFaultless bytes.now) }
     ensures counted { IfNone result (IsCounted bytes.now) }
 {
-    let count = bytes[COUNT_AT] as usize;
+    let count = count_of(bytes);
     if has_reserved(bytes, count) {
         return Some(WireFault::Reserved);
     }
@@ -177,23 +134,6 @@ fn first_fault(bytes: &[u8]) -> Option<WireFault>
     field_fault(bytes)
 }
 
-/// The update with which the bytes begin.
-fn read_update(bytes: &[u8]) -> Update
-    requires whole { 16 ≤ length bytes.now }
-    requires member { ¬ HasNoMember bytes.now }
-    requires kind { ¬ HasUnknownCode bytes.now }
-    ensures { result ≡ update_of bytes.now }
-{
-    let Some(kind) = UpdateKind::from_code(bytes[UPDATE_KIND_AT]) else {
-        unreachable!()
-    };
-    Update {
-        kind,
-        who: Endpoint::from_bytes(&bytes[UPDATE_WHO_AT..]),
-        number: BigEndian::read_u64(&bytes[UPDATE_NUMBER_AT..]),
-    }
-}
-
 /// Appends the updates after the head to a list that has none.
 fn read_updates(bytes: &[u8], updates: &mut ArrayVec<Update, UPDATES_MAX>)
     requires faultless { IsFaultless bytes.now }
@@ -201,9 +141,9 @@ fn read_updates(bytes: &[u8], updates: &mut ArrayVec<Update, UPDATES_MAX>)
     requires empty { updates.old.items ≡ [] }
     ensures { updates.new.items ≡ updates_of (slice_index bytes.now 6) (drop 32 bytes.now) }
 {
-    let count = bytes[COUNT_AT] as usize;
+    let count = count_of(bytes);
     for i in 0..count {
-        updates.push(read_update(update_at(bytes, i)));
+        updates.push(Update::from_bytes(update_at(bytes, i)));
     }
 }
 
@@ -216,16 +156,14 @@ pub fn decode(bytes: &[u8]) -> Result<Datagram, WireFault>
     if let Some(fault) = first_fault(bytes) {
         return Err(fault);
     }
-    let Some(kind) = Kind::from_code(bytes[KIND_AT]) else {
-        unreachable!()
-    };
+    let head = Head::from_bytes(bytes);
     // The updates are read where they stand: each function that returned them would move them once more.
     let mut datagram = Datagram {
-        kind,
-        group: BigEndian::read_u64(&bytes[GROUP_AT..]),
-        seq: BigEndian::read_u32(&bytes[SEQ_AT..]),
-        sender: Endpoint::from_bytes(&bytes[SENDER_AT..]),
-        subject: Cursor::from_bytes(&bytes[SUBJECT_AT..]),
+        kind: head.kind,
+        group: head.group,
+        seq: head.seq,
+        sender: head.sender,
+        subject: head.subject,
         updates: ArrayVec::new(),
     };
     read_updates(bytes, &mut datagram.updates);

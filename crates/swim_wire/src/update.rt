@@ -1,17 +1,39 @@
 //! What one member says of another, or of itself.
+//!
+//! An update has 16 bytes. Its format stands in this file alone.
+//!
+//! | Offset | Size | Field |
+//! |---|---|---|
+//! | 0 | 1 | kind: 1 alive, 2 suspect, 3 confirm |
+//! | 1 | 1 | 0 |
+//! | 2 | 6 | member: address 4, port 2 |
+//! | 8 | 8 | number |
 
-ghost use Rattle.std.specs.Prelude.{◌≡◌, ◌≢◌, Some, None, IfSome, IfNone};
+ghost use Rattle.std.specs.Prelude.{◌≡◌, ◌≢◌, ◌≤◌, ◌↔◌, length, Some, None, IsTrue, IfSome, IfNone};
 ghost use Rattle.swim_wire.specs.Filler.{filler};
-ghost use Rattle.swim_wire.specs.Codes.{update_code};
+ghost use Rattle.swim_wire.specs.Updates.{update_code, HasReservedUpdate, HasNoMember, HasUnknownCode, HasGreatNumber};
 ghost use Rattle.swim_wire.specs.declared.update.UpdateKind.{UpdateKind as UpdateKinds};
 
-use crate::endpoint::Endpoint;
+use crate::endpoint::{Endpoint, PORT_AT};
+use byteorder::{BigEndian, ByteOrder};
 
 /// The greatest incarnation number, 2^62.
 pub const NUMBER_MAX: u64 = 1 << 62;
 
 /// By how much a suspected incarnation number may pass the own one and still be refuted, 2^20.
 pub const LEAP: u64 = 1 << 20;
+
+/// The length of an update, in bytes.
+pub(crate) const UPDATE_LEN: usize = 16;
+
+/// Offsets in an update, in bytes.
+const KIND_AT: usize = 0;
+
+const RESERVED_AT: usize = 1;
+
+const WHO_AT: usize = 2;
+
+const NUMBER_AT: usize = 8;
 
 /// What an update says of a member (SWIM, section 4.2).
 #[derive(Clone, Copy, Debug, PartialEq, Eq)]
@@ -62,6 +84,40 @@ pub struct Update {
     pub number: u64,
 }
 
+impl Update {
+    ghost use Rattle.swim_wire.specs.Numbers.{IsEndpoint};
+    ghost use Rattle.swim_wire.specs.Updates.{update_text, update_of};
+
+    /// The update with which the bytes begin.
+    pub(crate) fn from_bytes(bytes: &[u8]) -> Update
+        requires whole { 16 ≤ length bytes.now }
+        requires member { ¬ HasNoMember bytes.now }
+        requires kind { ¬ HasUnknownCode bytes.now }
+        ensures { result ≡ update_of bytes.now }
+    {
+        let Some(kind) = UpdateKind::from_code(bytes[KIND_AT]) else {
+            unreachable!()
+        };
+        Update {
+            kind,
+            who: Endpoint::from_bytes(&bytes[WHO_AT..]),
+            number: BigEndian::read_u64(&bytes[NUMBER_AT..]),
+        }
+    }
+
+    /// The 16 bytes of the update.
+    pub(crate) fn to_bytes(&self) -> [u8; UPDATE_LEN]
+        ensures text { result ≡ update_text self.now }
+        ensures who { IsEndpoint self.now.who }
+    {
+        let mut bytes = [0; UPDATE_LEN];
+        bytes[KIND_AT] = self.kind.code();
+        BigEndian::write_u48(&mut bytes[WHO_AT..], self.who.number());
+        BigEndian::write_u64(&mut bytes[NUMBER_AT..], self.number);
+        bytes
+    }
+}
+
 /// Alive with number 0 about the least endpoint: what fills the unused places of a list.
 impl Default for Update {
     fn default() -> Update
@@ -73,4 +129,36 @@ impl Default for Update {
             number: 0,
         }
     }
+}
+
+/// Whether the byte that has to be 0 is not, in the update with which the bytes begin.
+pub(crate) fn has_reserved_byte(bytes: &[u8]) -> bool
+    requires { 16 ≤ length bytes.now }
+    ensures { IsTrue result ↔ HasReservedUpdate bytes.now }
+{
+    bytes[RESERVED_AT] != 0
+}
+
+/// Whether the update with which the bytes begin is about no member: its port is 0.
+pub(crate) fn has_no_member(bytes: &[u8]) -> bool
+    requires { 16 ≤ length bytes.now }
+    ensures { IsTrue result ↔ HasNoMember bytes.now }
+{
+    BigEndian::read_u16(&bytes[WHO_AT + PORT_AT..]) == 0
+}
+
+/// Whether the update with which the bytes begin has the code of no kind.
+pub(crate) fn has_unknown_code(bytes: &[u8]) -> bool
+    requires { 16 ≤ length bytes.now }
+    ensures { IsTrue result ↔ HasUnknownCode bytes.now }
+{
+    UpdateKind::from_code(bytes[KIND_AT]).is_none()
+}
+
+/// Whether the update with which the bytes begin has a number over `NUMBER_MAX`.
+pub(crate) fn has_great_number(bytes: &[u8]) -> bool
+    requires { 16 ≤ length bytes.now }
+    ensures { IsTrue result ↔ HasGreatNumber bytes.now }
+{
+    BigEndian::read_u64(&bytes[NUMBER_AT..]) > NUMBER_MAX
 }
