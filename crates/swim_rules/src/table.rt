@@ -25,6 +25,40 @@ pub struct Row {
     pub since: u64,
 }
 
+impl Row {
+    /// The member that the row is about.
+    pub fn who(&self) -> Endpoint
+        ensures { result ≡ self.now.update.who }
+    {
+        self.update.who
+    }
+
+    /// Whether the row is Alive or Suspect.
+    pub fn is_eligible(&self) -> bool
+        ensures { result ≡ is_eligible self.now }
+    {
+        self.update.kind != UpdateKind::Confirm
+    }
+
+    /// Whether the row is of this kind and has stood for so many ticks.
+    fn is_due(&self, kind: UpdateKind, ticks: u64, now: u64) -> bool
+        ensures { result ≡ is_due kind ticks now self.now }
+    {
+        self.update.kind == kind && ticks <= now.saturating_sub(self.since)
+    }
+
+    /// The Confirm that a Suspect becomes.
+    fn confirm(&self) -> Update
+        ensures { result ≡ confirm_of self.now }
+    {
+        Update {
+            kind: UpdateKind::Confirm,
+            who: self.update.who,
+            number: self.update.number,
+        }
+    }
+}
+
 impl Default for Row {
     fn default() -> Row
         ensures { result ≡ record { update = filler; since = 0 } }
@@ -121,47 +155,16 @@ fn row_in(rows: &[Row], who: Endpoint) -> Option<Row>
     }
 }
 
-/// Whether a row is of this kind and has stood for so many ticks.
-fn is_row_due(row: &Row, kind: UpdateKind, ticks: u64, now: u64) -> bool
-    ensures { result ≡ is_due kind ticks now row.now }
-{
-    row.update.kind == kind && ticks <= now.saturating_sub(row.since)
-}
-
-/// The Confirm that a Suspect becomes.
-fn confirm(row: &Row) -> Update
-    ensures { result ≡ confirm_of row.now }
-{
-    Update {
-        kind: UpdateKind::Confirm,
-        who: row.update.who,
-        number: row.update.number,
-    }
-}
-
-fn member_of(row: &Row) -> Endpoint
-    ensures { result ≡ row.now.update.who }
-{
-    row.update.who
-}
-
 /// The first row of this kind that has stood for so many ticks.
 fn first_due(rows: &[Row], kind: UpdateKind, ticks: u64, now: u64) -> Option<Row>
     ensures { result ≡ find (is_due kind ticks now) rows.now }
 {
     for row in rows {
-        if is_row_due(row, kind, ticks, now) {
+        if row.is_due(kind, ticks, now) {
             return Some(*row);
         }
     }
     None
-}
-
-/// Whether a row is Alive or Suspect.
-fn is_row_eligible(row: &Row) -> bool
-    ensures { result ≡ is_eligible row.now }
-{
-    row.update.kind != UpdateKind::Confirm
 }
 
 /// Puts a row in the place of another.
@@ -181,7 +184,7 @@ fn replace(rows: &mut ArrayVec<Row, ROWS_MAX>, eligible: &mut usize, place: usiz
     ensures counted { eligible.new ≡ length (filter is_eligible rows.new.items) }
 {
     put(rows, place, row);
-    if !is_row_eligible(&row) {
+    if !row.is_eligible() {
         *eligible -= 1;
     }
 }
@@ -244,7 +247,7 @@ fn remove(rows: &mut ArrayVec<Row, ROWS_MAX>, eligible: &mut usize, place: usize
     ensures one_less { length rows.new.items + 1 ≡ length rows.old.items }
 {
     let row = rows.remove(place);
-    if is_row_eligible(&row) {
+    if row.is_eligible() {
         *eligible -= 1;
     }
 }
@@ -284,7 +287,7 @@ fn nth_eligible(rows: &[Row], number: usize) -> Option<Row>
 {
     let mut left = number;
     for row in rows {
-        if is_row_eligible(row) {
+        if row.is_eligible() {
             if left == 0 {
                 return Some(*row);
             }
@@ -335,8 +338,8 @@ impl Table {
         match first_due(&self.rows, UpdateKind::Suspect, self.suspect, now) {
             None => None,
             Some(row) => {
-                hear_in(&mut self.rows, &mut self.eligible, confirm(&row), now);
-                Some(confirm(&row))
+                hear_in(&mut self.rows, &mut self.eligible, row.confirm(), now);
+                Some(row.confirm())
             }
         }
     }
@@ -354,7 +357,7 @@ impl Table {
         match first_due(&self.rows, UpdateKind::Confirm, self.forget, now) {
             None => None,
             Some(row) => {
-                let who = member_of(&row);
+                let who = row.who();
                 remove_in(&mut self.rows, &mut self.eligible, who);
                 Some(who)
             }

@@ -12,16 +12,16 @@ overflow_sub-eligible c =
     count-removed c.args.rows.now.items c.args.place c.remove-row.result c.args.eligible.now c.requires.place c.remove-row.ensures.value c.requires.counted in
     omega arith
 
-pub returns-then-is_row_eligible-clause-counted : goal.returns-then-is_row_eligible-clause-counted
-returns-then-is_row_eligible-clause-counted c =
+pub returns-then-is_eligible-clause-counted : goal.returns-then-is_eligible-clause-counted
+returns-then-is_eligible-clause-counted c =
     let old : is_eligible c.remove-row.result ≡ true = search rules in
     let single : one c.remove-row.result ≡ 1 = one-eligible c.remove-row.result old in
     let parts : count (remove c.args.rows.now.items c.args.place) + one c.remove-row.result ≡ c.args.eligible.now =
     count-removed c.args.rows.now.items c.args.place c.remove-row.result c.args.eligible.now c.requires.place c.remove-row.ensures.value c.requires.counted in
     rw c.remove-row.ensures.items (omega arith)
 
-pub returns-else-is_row_eligible-clause-counted : goal.returns-else-is_row_eligible-clause-counted
-returns-else-is_row_eligible-clause-counted c =
+pub returns-else-is_eligible-clause-counted : goal.returns-else-is_eligible-clause-counted
+returns-else-is_eligible-clause-counted c =
     let old : is_eligible c.remove-row.result ≡ false = search rules in
     let none : one c.remove-row.result ≡ 0 = one-other c.remove-row.result old in
     let parts : count (remove c.args.rows.now.items c.args.place) + one c.remove-row.result ≡ c.args.eligible.now =

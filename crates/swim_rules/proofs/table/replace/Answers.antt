@@ -9,16 +9,16 @@ overflow_sub-eligible c =
     let some : 1 ≤ count c.args.rows.now.items = count-eligible c.args.rows.now.items c.args.place c.args.row c.requires.place c.requires.old in
     omega arith
 
-pub returns-then-not-is_row_eligible-clause-counted : goal.returns-then-not-is_row_eligible-clause-counted
-returns-then-not-is_row_eligible-clause-counted c =
+pub returns-then-not-is_eligible-clause-counted : goal.returns-then-not-is_eligible-clause-counted
+returns-then-not-is_eligible-clause-counted c =
     let new : is_eligible c.args.row ≡ false = search rules in
     let none : one c.args.row ≡ 0 = one-other c.args.row new in
     let parts : count (slice_set c.args.rows.now.items c.args.place c.args.row) + 1 ≡ c.args.eligible.now + one c.args.row =
     count-replaced c.args.rows.now.items c.args.place c.args.row c.args.eligible.now c.requires.place c.requires.old c.requires.counted in
     rw c.put.ensures (omega arith)
 
-pub returns-else-not-is_row_eligible-clause-counted : goal.returns-else-not-is_row_eligible-clause-counted
-returns-else-not-is_row_eligible-clause-counted c =
+pub returns-else-not-is_eligible-clause-counted : goal.returns-else-not-is_eligible-clause-counted
+returns-else-not-is_eligible-clause-counted c =
     let new : is_eligible c.args.row ≡ true = search rules in
     let single : one c.args.row ≡ 1 = one-eligible c.args.row new in
     let parts : count (slice_set c.args.rows.now.items c.args.place c.args.row) + 1 ≡ c.args.eligible.now + one c.args.row =
