@@ -37,7 +37,7 @@ pub enum Kind {
 
 impl Kind {
     /// The kind with this code, or none: 1 ping, 2 ping-req, 3 ack, 4 join, 5 page.
-    pub fn from_code(code: u8) -> Option<Kind>
+    pub(crate) fn from_code(code: u8) -> Option<Kind>
         ensures some { IfSome result (λ kind. code ≡ kind_code kind) }
         ensures none { IfNone result ((kind : Kinds) → code ≢ kind_code kind) }
     {
@@ -52,7 +52,7 @@ impl Kind {
     }
 
     /// The byte that spells the kind.
-    pub fn code(self) -> u8
+    pub(crate) fn code(self) -> u8
         ensures { result ≡ kind_code self }
     {
         match self {
@@ -65,7 +65,7 @@ impl Kind {
     }
 
     /// Whether the subject may be the zero cursor, as in a join or a page.
-    pub fn may_have_zero(self) -> bool
+    pub(crate) fn may_have_zero(self) -> bool
         ensures { IsTrue result ↔ MayHaveZero self }
     {
         matches!(self, Kind::Join | Kind::Page)
