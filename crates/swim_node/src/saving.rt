@@ -22,7 +22,7 @@ pub(crate) fn save<D: Disk>(store: &mut Store<D>, wanted: Option<u64>) -> Save
             if number <= ceiling {
                 return Save::Kept;
             }
-            match store.raise(number) {
+            match store.raise(number, 0) {
                 Ok(()) => Save::Done,
                 Err(_) => Save::Failed,
             }

@@ -22,4 +22,4 @@ pub use layout::{Reading, Saved, Slot};
 pub use owner::Owner;
 pub use recovery::recover;
 pub use slots::{Slots, slots_in};
-pub use store::Store;
+pub use store::{SPARE_MAX, Store};

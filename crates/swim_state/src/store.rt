@@ -4,8 +4,9 @@ ghost use Rattle.std.specs.Prelude.{◌≡◌, ◌+◌, ◌<◌, ◌≤◌, ◌^
 ghost use Rattle.swim_disk.specs.Disk.{Counts, IsSettled, Rests, DiskState};
 ghost use Rattle.swim_state.specs.File.{floor, floor_of, AreOf, AreUsable};
 ghost use Rattle.swim_state.specs.Held.{Covers, Through, Held, HeldSince};
-ghost use Rattle.swim_state.specs.Store.{IsStore};
+ghost use Rattle.swim_state.specs.Store.{IsStore, reserved};
 ghost use Rattle.swim_state.specs.declared.owner.Owner.{Owner};
+ghost use Rattle.swim_state.specs.declared.store.TheConstants.{SPARE_MAX};
 ghost use Rattle.swim_wire.specs.declared.update.TheConstants.{NUMBER_MAX};
 
 use crate::fault::SaveFault;
@@ -15,6 +16,10 @@ use crate::save::save;
 use crate::slots::{Slots, read_slots};
 use std::marker::Model;
 use swim_disk::{Disk, DiskFault};
+use swim_wire::NUMBER_MAX;
+
+/// The most numbers that one raise reserves beyond the number that it is asked for.
+pub const SPARE_MAX: u64 = 1023;
 
 /// An open state file, with the ceiling that its owner may use.
 #[derive(Drop)]
@@ -92,16 +97,18 @@ impl<D: Disk> Store<D> {
         disk
     }
 
-    /// Raises the ceiling to this number by one save: the gate of one slot, its body, its gate, each
-    /// written and synced. A broken store first syncs and reads the slots; where their floor is at least
-    /// this number, it becomes the ceiling and nothing is written.
+    /// Raises the ceiling to this number, and beyond it by `spare` as far as there are numbers, by one
+    /// save: the gate of one slot, its body, its gate, each written and synced. A broken store first
+    /// syncs and reads the slots; where their floor is at least `to`, it becomes the ceiling and nothing
+    /// is written.
     ///
     /// `Device` comes where a call of the disk failed, and `Changed` where a broken store finds a file
     /// that isn't as it left it. After either the store is broken, and its ceiling stands or is the
     /// floor that it read, which isn't below it.
-    pub fn raise(&mut self, to: u64) -> Result<(), SaveFault>
+    pub fn raise(&mut self, to: u64, spare: u64) -> Result<(), SaveFault>
         requires above { self.old.ceiling < to }
         requires bounded { to ≤ NUMBER_MAX }
+        requires few { spare ≤ SPARE_MAX }
 
         // On any disk.
         ensures owner { self.new.owner ≡ self.old.owner }
@@ -114,13 +121,14 @@ impl<D: Disk> Store<D> {
         ensures calm { (IsErrOf result SaveFault.Device → ⊥)
             → (D.state self.new.disk).failures ≡ (D.state self.old.disk).failures }
 
-        // The ceiling. A store that isn't broken raises it to the number asked for, or not at all.
+        // The ceiling. A store that isn't broken raises it by what is reserved, or not at all.
         ensures ok { OnOk result
             (to ≤ self.new.ceiling × self.new.ceiling ≤ NUMBER_MAX × self.new.broken ≡ false) }
         ensures err { OnErr result
             (self.old.ceiling ≤ self.new.ceiling × self.new.ceiling < to × self.new.broken ≡ true) }
 
-        ensures exact { OnOk result (self.old.broken ≡ false → self.new.ceiling ≡ to) }
+        ensures exact { OnOk result
+            (self.old.broken ≡ false → self.new.ceiling ≡ reserved to spare) }
         ensures steady { OnErr result
             (self.old.broken ≡ false → self.new.ceiling ≡ self.old.ceiling) }
 
@@ -134,24 +142,25 @@ impl<D: Disk> Store<D> {
         ensures covered { D.keeps_model
             → Held self.new.owner (D.state self.new.disk) self.new.ceiling }
 
-        // The ceiling is then the one asked for, or the floor that a broken store read.
-        ensures raised { D.keeps_model → OnOk result ((self.new.ceiling ≡ to)
+        // The ceiling is then the reserved one, or the floor that a broken store read.
+        ensures raised { D.keeps_model → OnOk result ((self.new.ceiling ≡ reserved to spare)
             ⊎ (self.old.broken ≡ true × self.new.ceiling ≡ floor (D.state self.old.disk).content
             × Rests (D.state self.old.disk) (D.state self.new.disk))) }
         ensures stood { D.keeps_model → OnErr result ((self.new.ceiling ≡ self.old.ceiling)
             ⊎ (self.old.broken ≡ true × self.new.ceiling ≡ floor (D.state self.old.disk).content)) }
     {
         if self.broken {
-            self.raise_broken(to)
+            self.raise_broken(to, spare)
         } else {
-            self.raise_whole(to)
+            self.raise_whole(to, spare)
         }
     }
 
-    fn raise_whole(&mut self, to: u64) -> Result<(), SaveFault>
+    fn raise_whole(&mut self, to: u64, spare: u64) -> Result<(), SaveFault>
         requires whole { self.old.broken ≡ false }
         requires above { self.old.ceiling < to }
         requires bounded { to ≤ NUMBER_MAX }
+        requires few { spare ≤ SPARE_MAX }
         ensures owner { self.new.owner ≡ self.old.owner }
         ensures counts { Counts result (D.state self.old.disk) (D.state self.new.disk) }
         ensures device { IsErrOf result SaveFault.Changed → ⊥ }
@@ -160,20 +169,23 @@ impl<D: Disk> Store<D> {
             (D.state self.new.disk) }
         ensures covered { D.keeps_model
             → Held self.new.owner (D.state self.new.disk) self.new.ceiling }
-        ensures ok { OnOk result (self.new.ceiling ≡ to × self.new.broken ≡ false) }
+        ensures ok { OnOk result
+            (self.new.ceiling ≡ reserved to spare × self.new.broken ≡ false) }
         ensures err { OnErr result (self.new.ceiling ≡ self.old.ceiling × self.new.broken ≡ true) }
     {
+        let ceiling = (to + spare).min(NUMBER_MAX);
         self.broken = true;
-        self.slots = save(&mut self.disk, self.slots, Saved { ceiling: to })?;
-        self.ceiling = to;
+        self.slots = save(&mut self.disk, self.slots, Saved { ceiling })?;
+        self.ceiling = ceiling;
         self.broken = false;
         Ok(())
     }
 
-    fn raise_broken(&mut self, to: u64) -> Result<(), SaveFault>
+    fn raise_broken(&mut self, to: u64, spare: u64) -> Result<(), SaveFault>
         requires broken { self.old.broken ≡ true }
         requires above { self.old.ceiling < to }
         requires bounded { to ≤ NUMBER_MAX }
+        requires few { spare ≤ SPARE_MAX }
         ensures owner { self.new.owner ≡ self.old.owner }
         ensures name { (D.state self.new.disk).name ≡ (D.state self.old.disk).name }
         ensures device { IsErrOf result SaveFault.Device
@@ -192,7 +204,7 @@ impl<D: Disk> Store<D> {
             (self.old.ceiling ≤ self.new.ceiling × self.new.ceiling < to × self.new.broken ≡ true) }
         ensures raised { D.keeps_model
             → OnOk result
-            ((self.new.ceiling ≡ to)
+            ((self.new.ceiling ≡ reserved to spare)
             ⊎ (self.new.ceiling ≡ floor (D.state self.old.disk).content
             × Rests (D.state self.old.disk) (D.state self.new.disk))) }
         ensures stood { D.keeps_model
@@ -207,7 +219,7 @@ impl<D: Disk> Store<D> {
         if self.ceiling >= to {
             return Ok(());
         }
-        self.raise_whole(to)
+        self.raise_whole(to, spare)
     }
 }
 

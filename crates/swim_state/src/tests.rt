@@ -3,7 +3,8 @@
 ghost use Rattle.std.specs.Prelude.{◌≡◌};
 
 use crate::{
-    InitFault, Owner, Reading, RecoverFault, SaveFault, Saved, Slots, init, recover, slots_in,
+    InitFault, Owner, Reading, RecoverFault, SPARE_MAX, SaveFault, Saved, Slots, init, recover,
+    slots_in,
 };
 use std::alloc::Global;
 use std::fs;
@@ -243,7 +244,7 @@ fn a_life_calls_the_device(rt: HostRuntime) -> Result<(), Fail> {
     let mut store = recover(disk, member(&rt, 1)).ok().expect(&rt, "an opening");
     assert!(rt; are_calls(store.disk(), 0, &OPENING));
     assert!(rt; store.ceiling() == 1);
-    store.raise(2)?;
+    store.raise(2, 0)?;
     assert!(rt; are_calls(store.disk(), 12, &RAISE));
     Ok(())
 }
@@ -329,7 +330,7 @@ fn raise_in_trouble(rt: HostRuntime) {
         let mut store = recover(disk, member(&rt, 1)).ok().expect(&rt, "an opening");
         trouble.begin(&plan, k);
         assert!(rt; store.ceiling() == 1);
-        let raised = store.raise(2);
+        let raised = store.raise(2, 0);
         assert_eq!(rt; raised.is_ok(), k == 7);
         let disk = crashed(&rt, rt.alloc(), store.into_disk(), choice);
         assert_eq!(rt; slots_in(disk.inner().bytes()), left, "{trouble:?}");
@@ -345,18 +346,59 @@ fn raise_again(rt: HostRuntime) {
     plan.fail_write(2);
     for want in [Err(SaveFault::Device), Ok(())] {
         assert!(rt; store.ceiling() == 1);
-        assert_eq!(rt; store.raise(2), want);
+        assert_eq!(rt; store.raise(2, 0), want);
     }
     assert_eq!(rt; store.ceiling(), 2);
 }
 
-/// The greatest ceiling that an opening and a raise granted, which is tried twice, or 0; and the disk.
+/// One save reserves more numbers than it is asked for, and the next opening is above them all.
+#[test]
+fn raise_reserves(rt: HostRuntime) {
+    let (disk, _) = made(&rt, rt.alloc());
+    let mut store = recover(disk, member(&rt, 1)).ok().expect(&rt, "an opening");
+    assert!(rt; store.ceiling() == 1);
+    assert_eq!(rt; store.raise(2, 3), Ok(()));
+    assert_eq!(rt; store.ceiling(), 5);
+    let disk = crashed(&rt, rt.alloc(), store.into_disk(), Choice::Drop);
+    assert_eq!(rt; slots_in(disk.inner().bytes()), slots(Some(5), Some(1)));
+    assert_eq!(rt; open(disk, member(&rt, 1)).0, Ok(6));
+}
+
+/// As many numbers are reserved as there are.
+#[test]
+fn raise_reserves_the_last(rt: HostRuntime) {
+    let (mut disk, _) = empty(&rt, rt.alloc());
+    assert!(rt; init(&mut disk, member(&rt, 1), NUMBER_MAX - 3).is_ok());
+    let mut store = recover(disk, member(&rt, 1)).ok().expect(&rt, "an opening");
+    assert!(rt; store.ceiling() == NUMBER_MAX - 2);
+    assert_eq!(rt; store.raise(NUMBER_MAX - 1, SPARE_MAX), Ok(()));
+    assert_eq!(rt; store.ceiling(), NUMBER_MAX);
+    let (got, _) = open(store.into_disk(), member(&rt, 1));
+    assert_eq!(rt; got, Err(RecoverFault::Exhausted));
+}
+
+/// What a raise that failed reserved is the ceiling of the next one, which writes nothing.
+#[test]
+fn raise_finds_what_it_reserved(rt: HostRuntime) {
+    let (disk, plan) = made(&rt, rt.alloc());
+    let mut store = recover(disk, member(&rt, 1)).ok().expect(&rt, "an opening");
+    plan.fail_sync(3);
+    assert!(rt; store.ceiling() == 1);
+    assert_eq!(rt; store.raise(2, 3), Err(SaveFault::Device));
+    plan.fail_write(1);
+    assert!(rt; store.ceiling() == 1);
+    assert_eq!(rt; store.raise(2, 0), Ok(()));
+    assert_eq!(rt; store.ceiling(), 5);
+}
+
+/// The greatest ceiling that an opening and a raise with spare granted, which is tried twice, or 0; and
+/// the disk.
 fn granted(disk: Device, owner: Owner) -> (u64, Device) {
     match recover(disk, owner) {
         Ok(mut store) => {
             let first = store.ceiling();
-            if first < NUMBER_MAX && store.raise(first + 1).is_err() {
-                let _ = store.raise(first + 1);
+            if first < NUMBER_MAX && store.raise(first + 1, SPARE_MAX).is_err() {
+                let _ = store.raise(first + 1, SPARE_MAX);
             }
             (store.ceiling(), store.into_disk())
         }
@@ -413,7 +455,7 @@ fn real_file(rt: HostRuntime) -> Result<(), Fail> {
         let mut store = recover(disk, member(&rt, 1)).ok().expect(&rt, "an opening");
         assert!(rt; store.ceiling() == want);
         assert!(rt; want < NUMBER_MAX);
-        store.raise(want + 1)?;
+        store.raise(want + 1, 0)?;
     }
     fs::remove_file(&rt, "state")?;
     Ok(())

@@ -35,8 +35,8 @@ returns-clause-covered g c = λ keeps image left.
 
 pub invariant_of-self-2 : goal.invariant_of-self-2
 invariant_of-self-2 g c = record {
-  low = omega (arith, c.self.invariant.low, c.requires.above);
-  high = c.requires.bounded;
+  low = omega (arith, c.self.invariant.low, c.requires.above, c.min-ceiling.ensures);
+  high = omega (arith, c.min-ceiling.ensures);
   covered = returns-clause-covered g c;
   usable = λ _. c.in_ok-self-inside.ensures.usable;
   floor = λ _. c.in_ok-self-inside.ensures.floor;
