@@ -76,6 +76,7 @@ first_setup = record {
     suspect = 8;
     forget = 40;
     helpers = 2;
+    block = 1;
   };
   limit = 4096;
 }
@@ -89,6 +90,7 @@ with_setting s setting.Suspect n = record s { settings = record s.settings { sus
 with_setting s setting.Forget n = record s { settings = record s.settings { forget = n } }
 with_setting s setting.Helpers n = record s { settings = record s.settings { helpers = n } }
 with_setting s setting.Limit n = record s { limit = n }
+with_setting s setting.Block n = record s { settings = record s.settings { block = n } }
 
 -- another group or another member is named
 abbrev pub with_settings : Settings → Playing → Playing

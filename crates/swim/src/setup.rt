@@ -33,6 +33,7 @@ impl Setup {
             suspect: 8,
             forget: 40,
             helpers: 2,
+            block: 1,
         };
         Setup {
             settings,
@@ -52,6 +53,7 @@ impl Setup {
             Setting::Forget => self.settings.forget = u64::from(value),
             Setting::Helpers => self.settings.helpers = value as usize,
             Setting::Limit => self.limit = value,
+            Setting::Block => self.settings.block = u64::from(value),
         }
     }
 }

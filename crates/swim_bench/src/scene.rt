@@ -56,6 +56,7 @@ pub(crate) fn member_after(texts: &[u8], period: u64) -> Option<Member> {
         suspect: 100_000,
         forget: 1_000_000,
         helpers: 3,
+        block: 1,
     };
     if settings.check().is_err() {
         return None;

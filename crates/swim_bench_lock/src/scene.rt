@@ -44,6 +44,7 @@ pub(crate) fn opened(alloc: Global, limit: u32) -> Option<(Node<Device>, Plan)>
         suspect: 50,
         forget: 6000,
         helpers: 3,
+        block: 1,
     };
     settings.check().ok()?;
     let node = Node::open(alloc, disk, settings, limit).ok()?;

@@ -52,6 +52,7 @@ fn opened(alloc: Global) -> Option<Node<MemDisk>>
         suspect: 50,
         forget: 6000,
         helpers: 3,
+        block: 1,
     };
     settings.check().ok()?;
     let disk = new_disk(alloc, me).or_else(|| new_disk(alloc, me))?;

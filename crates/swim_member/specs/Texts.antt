@@ -15,6 +15,7 @@ setting_number setting.Direct = 3
 setting_number setting.Suspect = 4
 setting_number setting.Forget = 5
 setting_number setting.Helpers = 6
+setting_number setting.Block = 7
 
 abbrev pub setting_name : SettingsFault → List ℕ
 setting_name setting.Lambda = codes "Lambda"
@@ -23,6 +24,7 @@ setting_name setting.Direct = codes "Direct"
 setting_name setting.Suspect = codes "Suspect"
 setting_name setting.Forget = codes "Forget"
 setting_name setting.Helpers = codes "Helpers"
+setting_name setting.Block = codes "Block"
 
 abbrev pub setting_text : SettingsFault → List ℕ
 setting_text fault = number_and_name (setting_number fault) (setting_name fault)

@@ -27,7 +27,7 @@ pub use answer::{Answer, NOTES_MAX, OUTS_MAX, Out};
 pub use event::{Event, RECEIVED_MAX};
 pub use member::{Member, RELAYS_MAX};
 pub use note::Note;
-pub use settings::{HELPERS_MAX, Settings, SettingsFault};
+pub use settings::{BLOCK_MAX, HELPERS_MAX, Settings, SettingsFault};
 pub use state::{Counts, Joining, Phase, Probe, Relay};
 
 #[cfg(test)]

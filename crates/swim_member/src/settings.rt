@@ -1,13 +1,18 @@
 //! The settings of a member.
 
-ghost use Rattle.std.specs.Prelude.{◌≡◌, Some, OnOk, IfErr};
+ghost use Rattle.std.specs.Prelude.{◌≡◌, ◌≤◌, Some, OnOk, IfErr};
 ghost use Rattle.swim_member.specs.Checks.{AreSound, fault_of};
+ghost use Rattle.swim_member.specs.declared.settings.TheConstants.{BLOCK_MAX};
 
+use crate::member::Member;
 use std::{error, fmt};
 use swim_wire::Endpoint;
 
 /// The most members that are asked about one target.
 pub const HELPERS_MAX: usize = 8;
+
+/// The most numbers that one save reserves.
+pub const BLOCK_MAX: u64 = 1024;
 
 /// Which setting is out of its range: the first, in this order. It prints its number and name.
 #[derive(Clone, Copy, Debug, PartialEq, Eq)]
@@ -24,6 +29,8 @@ pub enum SettingsFault {
     Forget,
     /// `helpers` is over 8.
     Helpers,
+    /// `block` is not 1 to 1,024.
+    Block,
 }
 
 impl SettingsFault {
@@ -41,6 +48,7 @@ impl SettingsFault {
             SettingsFault::Suspect => 4,
             SettingsFault::Forget => 5,
             SettingsFault::Helpers => 6,
+            SettingsFault::Block => 7,
         }
     }
 
@@ -55,6 +63,7 @@ impl SettingsFault {
             SettingsFault::Suspect => "Suspect",
             SettingsFault::Forget => "Forget",
             SettingsFault::Helpers => "Helpers",
+            SettingsFault::Block => "Block",
         }
     }
 }
@@ -93,6 +102,8 @@ pub struct Settings {
     pub forget: u64,
     /// How many others are asked about a target that does not answer, 0 to 8.
     pub helpers: usize,
+    /// How many own numbers one save of the state file reserves, the wanted one included; 1 to 1,024.
+    pub block: u64,
 }
 
 impl Settings {
@@ -119,6 +130,19 @@ impl Settings {
         if HELPERS_MAX < self.helpers {
             return Err(SettingsFault::Helpers);
         }
+        if self.block < 1 || BLOCK_MAX < self.block {
+            return Err(SettingsFault::Block);
+        }
         Ok(())
+    }
+}
+
+impl Member {
+    /// How many own numbers one save of its state file reserves, 1 to 1,024.
+    pub fn block(&self) -> u64
+        ensures value { result ≡ self.now.settings.block }
+        ensures bounds { (1 ≤ result) × (result ≤ BLOCK_MAX) }
+    {
+        self.settings.block
     }
 }

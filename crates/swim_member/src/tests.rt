@@ -85,6 +85,7 @@ fn settings() -> Settings
         suspect: 8,
         forget: 40,
         helpers: 2,
+        block: 1,
     }
 }
 
@@ -328,7 +329,29 @@ fn checked(rt: HostRuntime) -> Result<(), Fail> {
             },
             "5 Forget",
         ),
-        (Settings { helpers: 9, ..good }, "6 Helpers"),
+        (
+            Settings {
+                helpers: 9,
+                block: 0,
+                ..good
+            },
+            "6 Helpers",
+        ),
+        (Settings { block: 0, ..good }, "7 Block"),
+        (
+            Settings {
+                block: 1024,
+                ..good
+            },
+            "",
+        ),
+        (
+            Settings {
+                block: 1025,
+                ..good
+            },
+            "7 Block",
+        ),
     ];
     for (settings, wanted) in rows {
         match settings.check() {

@@ -4,3 +4,4 @@ pub mod Nodes
 pub mod Lives
 pub mod Living
 pub mod Crosses
+mod Examples

@@ -21,7 +21,7 @@ use Rattle.swim_node.specs.declared.fault.ApplyFault.TheVariants.{NoMemory, EraF
 use Rattle.swim_node.specs.declared.fault.OpenFault.{OpenFault}
 use Rattle.swim_node.specs.History.{Base, IsLegal, state_after, granted_of, calls_by, taken_in}
 use Rattle.swim_node.specs.History.{lost_in}
-use Rattle.swim_node.specs.Saving.{Grants, Fails, broken_after}
+use Rattle.swim_node.specs.Saving.{Grants, Fails, broken_after, ceiling_asked}
 use Rattle.swim_node.specs.Sending.{HasTexts}
 use Rattle.swim_node.specs.Owns.{owns, greatest_of, AreAtMost, AreAtLeast}
 
@@ -120,8 +120,11 @@ pub record Added {D : Type 0} (keeps : Type 0) (state : D → DiskState) (old ne
   pub texts : HasTexts e
   pub kept : e.save ≡ Kept → new.disk ≡ old.disk
   pub broken : new.broken ≡ broken_after e.save old.broken
-  pub grants : Grants keeps (wanted (state_after old.base old.entries) event) e.save old.broken
-      (state old.disk) (state new.disk) (granted_of old.base old.entries) e.granted
+  pub grants : Grants keeps
+      (ceiling_asked old.base.state.settings.block
+      (wanted (state_after old.base old.entries) event))
+      e.save old.broken (state old.disk) (state new.disk)
+      (granted_of old.base old.entries) e.granted
   pub fails : Fails keeps e.save old.broken (state old.disk) (state new.disk)
   pub said : AreAll (state_after new.base new.entries).number
       (own_numbers_in new.base.state.settings.me e.outs.items)

@@ -1,8 +1,9 @@
 -- What a save does to a store.
-use Rattle.std.specs.Prelude.{◌≡◌, ◌≢◌, ◌⊎◌, ℕ, ◌+◌, ◌≤◌, ◌^◌, Bool, true, false, Option, Some}
+use Rattle.std.specs.Prelude.{◌≡◌, ◌≢◌, ◌⊎◌, ℕ, ◌+◌, ◌-◌, ◌≤◌, ◌^◌, Bool, true, false, Option}
+use Rattle.std.specs.Prelude.{Some, None}
 use Rattle.swim_disk.specs.Disk.{DiskState as DiskState, Rests}
 use Rattle.swim_state.specs.File.{floor}
-use Rattle.swim_state.specs.Store.{StoreView}
+use Rattle.swim_state.specs.Store.{StoreView, reserved}
 use Rattle.swim_state.specs.Held.{Held, HeldSince, Through, Covers}
 use Rattle.swim_node.specs.declared.entry.Save.{Save}
 use Rattle.swim_node.specs.declared.entry.Save.TheVariants.{Kept, Done, Failed}
@@ -15,14 +16,20 @@ broken_after Kept broken = broken
 broken_after Done broken = false
 broken_after Failed broken = true
 
--- what a save of this comes to, by the ceiling before and after it. Done
--- grants what is wanted, or the floor that a broken store reads, which
+-- the ceiling that a save asks for, if a number is wanted: the
+-- last of a block of so many numbers that begins with that one
+abbrev pub ceiling_asked : ℕ → Option ℕ → Option ℕ
+ceiling_asked block None = None
+ceiling_asked block (Some wanted) = Some (reserved wanted (block - 1))
+
+-- what a save that asks for this comes to, by the ceiling before and after it.
+-- Done grants what is asked for, or the floor that a broken store reads, which
 -- then is not written. Failed leaves the ceiling, or grants that floor.
-pub record Grants (keeps : Type 0) (wanted : Option ℕ) (save : Save) (broken : Bool)
+pub record Grants (keeps : Type 0) (asked : Option ℕ) (save : Save) (broken : Bool)
     (old new : DiskState) (before after : ℕ) : Type 0 where
-  pub exact : save ≡ Done → broken ≡ false → wanted ≡ Some after
+  pub exact : save ≡ Done → broken ≡ false → asked ≡ Some after
   pub done : keeps → save ≡ Done
-      → (wanted ≡ Some after) ⊎ ((broken ≡ true) × (after ≡ floor old.content) × Rests old new)
+      → (asked ≡ Some after) ⊎ ((broken ≡ true) × (after ≡ floor old.content) × Rests old new)
   pub steady : save ≡ Failed → broken ≡ false → after ≡ before
   pub failed : keeps → save ≡ Failed
       → (after ≡ before) ⊎ ((broken ≡ true) × (after ≡ floor old.content))
@@ -38,11 +45,11 @@ pub record Fails (keeps : Type 0) (save : Save) (broken : Bool) (old new : DiskS
   pub failed : keeps → save ≡ Failed → new.failures ≡ old.failures + 1
 
 -- a save, its answer, and the store before and after it
-pub record Saved {D : Type 0} (keeps : Type 0) (state : D → DiskState) (wanted : Option ℕ)
-    (save : Save) (old new : StoreView D) : Type 0 where
+pub record Saved {D : Type 0} (keeps : Type 0) (state : D → DiskState) (block : ℕ)
+    (wanted : Option ℕ) (save : Save) (old new : StoreView D) : Type 0 where
   pub saves : Saves wanted old.ceiling save new.ceiling
-  pub grants : Grants keeps wanted save old.broken (state old.disk)
-      (state new.disk) old.ceiling new.ceiling
+  pub grants : Grants keeps (ceiling_asked block wanted) save old.broken
+      (state old.disk) (state new.disk) old.ceiling new.ceiling
   pub fails : Fails keeps save old.broken (state old.disk) (state new.disk)
   pub broken : new.broken ≡ broken_after save old.broken
   pub grows : old.ceiling ≤ new.ceiling

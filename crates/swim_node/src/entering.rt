@@ -35,8 +35,8 @@ pub(crate) fn enter<D: Disk, L: Link>(
     event: &Event,
 ) -> Done
     requires low { member.old.number ≤ store.old.ceiling }
-    ensures saved { Saved D.keeps_model D.state (wanted member.old event.now)
-        result.save store.old store.new }
+    ensures saved { Saved D.keeps_model D.state member.old.settings.block
+        (wanted member.old event.now) result.save store.old store.new }
     ensures granted { result.granted ≡ store.new.ceiling }
     ensures steps { Steps member.old member.new event.now result.granted (record {
       outs = result.outs;
@@ -49,7 +49,7 @@ pub(crate) fn enter<D: Disk, L: Link>(
         (L.failures link.new) result.outs.items result.outcomes.items }
 {
     let wanted = member.plan(event);
-    let save = save(store, wanted);
+    let save = save(store, member.block(), wanted);
     let granted = store.ceiling();
     let answer = member.step(event, granted);
     let outcomes = send_all(link, &answer.outs);

@@ -28,6 +28,7 @@ fn settings(rt: &impl Abort, group: u64) -> Settings {
         suspect: 20,
         forget: 40,
         helpers: 3,
+        block: 1,
     }
 }
 

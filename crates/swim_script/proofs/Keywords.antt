@@ -41,6 +41,7 @@ setting_lacks setting.Suspect = lacks_byte 32 (codes "suspect") refl
 setting_lacks setting.Forget = lacks_byte 32 (codes "forget") refl
 setting_lacks setting.Helpers = lacks_byte 32 (codes "helpers") refl
 setting_lacks setting.Limit = lacks_byte 32 (codes "limit") refl
+setting_lacks setting.Block = lacks_byte 32 (codes "block") refl
 
 -- the keyword of a keyword's text
 abbrev named : List ℕ → Keyword

@@ -66,6 +66,7 @@ setting_text setting.Suspect = codes "suspect"
 setting_text setting.Forget = codes "forget"
 setting_text setting.Helpers = codes "helpers"
 setting_text setting.Limit = codes "limit"
+setting_text setting.Block = codes "block"
 
 -- the word is that of a setting
 abbrev pub IsSetting : List ℕ → Setting → Type 0

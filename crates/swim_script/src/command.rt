@@ -23,6 +23,8 @@ pub enum Setting {
     Helpers,
     /// Entries in an era.
     Limit,
+    /// Numbers that one save reserves.
+    Block,
 }
 
 /// What a line makes fail. The number counts the calls of its sort from now on, the next one being 1.

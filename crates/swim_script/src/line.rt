@@ -47,6 +47,7 @@ impl Setting {
             b"forget" => Some(Setting::Forget),
             b"helpers" => Some(Setting::Helpers),
             b"limit" => Some(Setting::Limit),
+            b"block" => Some(Setting::Block),
             _ => None,
         }
     }

@@ -29,7 +29,7 @@ fn faulty_lines(rt: HostRuntime) {
         ("start 4611686018427387905", FaultKind::Argument),
         ("group 18446744073709551616", FaultKind::Argument),
         ("set lambda 1000001", FaultKind::Argument),
-        ("set block 1", FaultKind::Argument),
+        ("set blocks 1", FaultKind::Argument),
         ("tick 4294967296", FaultKind::Argument),
         ("leave now", FaultKind::Argument),
         ("init 18446744073709551616", FaultKind::Argument),

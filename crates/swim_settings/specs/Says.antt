@@ -11,9 +11,9 @@ use Rattle.swim_words.specs.Words.{endpoint_text, No}
 use Rattle.swim_settings.specs.declared.key.Key.{Key}
 use Rattle.swim_settings.specs.declared.key.Key.TheVariants.{File, Group, Me, Control, TickMs}
 use Rattle.swim_settings.specs.declared.key.Key.TheVariants.{Lambda, Period, Direct, Suspect}
-use Rattle.swim_settings.specs.declared.key.Key.TheVariants.{Forget, Helpers, Limit, RandomKey}
-use Rattle.swim_settings.specs.declared.key.Key.TheVariants.{Join}
-use Rattle.swim_member.specs.declared.settings.TheConstants.{HELPERS_MAX}
+use Rattle.swim_settings.specs.declared.key.Key.TheVariants.{Forget, Helpers, Limit, Block}
+use Rattle.swim_settings.specs.declared.key.Key.TheVariants.{RandomKey, Join}
+use Rattle.swim_member.specs.declared.settings.TheConstants.{HELPERS_MAX, BLOCK_MAX}
 use Rattle.swim_member.specs.declared.settings.Settings.{Settings}
 use Rattle.swim_settings.specs.declared.refusal.Refusal.{Refusal}
 use Rattle.swim_settings.specs.declared.refusal.Refusal.TheVariants as refusals
@@ -62,7 +62,7 @@ AreEndpoints key table es =
     × AreTexts items es)
     ⊎ ((value_at key table ≡ None) × (es ≡ []))
 
--- the table says these settings of the member, its group and endpoint aside
+-- the table says these settings of the member; its group, endpoint and block aside
 pub record SaysMember (table : Members) (settings : Settings) : Type 0 where
   pub lambda : IsNumber Lambda 3 table settings.lambda
   pub period : IsNumber Period 10 table settings.period
@@ -80,6 +80,7 @@ pub record Says (table : Members) (run : RunSettings) : Type 0 where
   pub tick_ms : IsNumber TickMs 100 table run.tick_ms
   pub member : SaysMember table run.settings
   pub limit : IsNumber Limit 4096 table run.limit
+  pub block : IsNumber Block 1 table run.settings.block
   pub random_key : AreBytes RandomKey table run.random_key
   pub join : AreEndpoints Join table run.join.items
 
@@ -106,6 +107,7 @@ IsRefused Suspect table = No (IsWithin Suspect 50 1 100000 table)
 IsRefused Forget table = No (IsWithin Forget 6000 1 1000000 table)
 IsRefused Helpers table = No (IsWithin Helpers 3 0 HELPERS_MAX table)
 IsRefused Limit table = No (IsWithin Limit 4096 1 65536 table)
+IsRefused Block table = No (IsWithin Block 1 1 BLOCK_MAX table)
 IsRefused _ table = Unit
 
 -- the refusal is of the text, which is no TOML, or memory ran out
@@ -129,6 +131,7 @@ IsTaken Suspect table = (n : ℕ) × IsWithin Suspect 50 1 100000 table n
 IsTaken Forget table = (n : ℕ) × IsWithin Forget 6000 1 1000000 table n
 IsTaken Helpers table = (n : ℕ) × IsWithin Helpers 3 0 HELPERS_MAX table n
 IsTaken Limit table = (n : ℕ) × IsWithin Limit 4096 1 65536 table n
+IsTaken Block table = (n : ℕ) × IsWithin Block 1 1 BLOCK_MAX table n
 IsTaken _ table = Unit
 
 -- all keys before the key have what they take

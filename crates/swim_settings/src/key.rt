@@ -32,6 +32,8 @@ pub enum Key {
     Helpers,
     /// Entries in an era.
     Limit,
+    /// Numbers that one save reserves.
+    Block,
     /// The key of the generator that the ticker's words come from.
     RandomKey,
     /// Whom to join after the opening.
@@ -40,7 +42,7 @@ pub enum Key {
 
 impl Key {
     /// All keys, in the order in which a refused one is looked for.
-    pub const ALL: [Key; 14] = [
+    pub const ALL: [Key; 15] = [
         Key::File,
         Key::Group,
         Key::Me,
@@ -53,6 +55,7 @@ impl Key {
         Key::Forget,
         Key::Helpers,
         Key::Limit,
+        Key::Block,
         Key::RandomKey,
         Key::Join,
     ];
@@ -74,6 +77,7 @@ impl Key {
             Key::Forget => "forget",
             Key::Helpers => "helpers",
             Key::Limit => "limit",
+            Key::Block => "block",
             Key::RandomKey => "random_key",
             Key::Join => "join",
         }

@@ -16,7 +16,7 @@ use crate::value::{
 };
 use arrayvec::ArrayVec;
 use std::alloc::Global;
-use swim_member::{HELPERS_MAX, Settings};
+use swim_member::{BLOCK_MAX, HELPERS_MAX, Settings};
 use swim_wire::Endpoint;
 use toml::Table;
 
@@ -28,7 +28,7 @@ pub const JOIN_MAX: usize = 8;
 pub struct RunSettings {
     /// `file`: the path of the state file.
     pub file: String,
-    /// `group`, `me` and `lambda` to `helpers`: what the member is told.
+    /// `group`, `me`, `lambda` to `helpers`, and `block`: what the member is told.
     pub settings: Settings,
     /// `control`: the endpoint of the control socket.
     pub control: Endpoint,
@@ -66,7 +66,7 @@ fn refuse_unknown(alloc: Global, table: &Table) -> Result<(), Refusal>
     Ok(())
 }
 
-/// What the member is told, with this group and endpoint.
+/// What the member is told, with this group and endpoint, and a block of 1: its key comes later.
 fn read_member(table: &Table, group: u64, me: Endpoint) -> Result<Settings, Refusal>
     requires { AreTakenBefore keys.Lambda (table_view table.now) }
     ensures sound { IfOk result AreSound }
@@ -90,6 +90,7 @@ fn read_member(table: &Table, group: u64, me: Endpoint) -> Result<Settings, Refu
         suspect,
         forget,
         helpers: helpers as usize,
+        block: 1,
     })
 }
 
@@ -104,13 +105,14 @@ fn read_keys(alloc: Global, table: &Table) -> Result<RunSettings, Refusal>
     let me = read_endpoint_at(table, Key::Me)?;
     let control = read_endpoint_at(table, Key::Control)?;
     let tick_ms = read_within(table, Key::TickMs, 100, 1, 60_000)?;
-    let settings = read_member(table, group, me)?;
+    let member = read_member(table, group, me)?;
     let limit = read_within(table, Key::Limit, 4096, 1, 65_536)?;
+    let block = read_within(table, Key::Block, 1, 1, BLOCK_MAX)?;
     let random_key = read_bytes(table, Key::RandomKey)?;
     let join = read_endpoints(table, Key::Join)?;
     Ok(RunSettings {
         file: String::from_str(alloc, file)?,
-        settings,
+        settings: Settings { block, ..member },
         control,
         tick_ms,
         limit: limit as u32,

@@ -58,6 +58,7 @@ fn defaults(rt: HostRuntime) -> Result<(), Fail> {
     assert_eq!(rt; settings.forget, 6000);
     assert_eq!(rt; settings.helpers, 3);
     assert_eq!(rt; limit, 4096);
+    assert_eq!(rt; settings.block, 1);
     assert!(rt; random_key.is_none());
     assert_eq!(rt; join.len(), 0);
     Ok(())
@@ -66,7 +67,7 @@ fn defaults(rt: HostRuntime) -> Result<(), Fail> {
 #[test]
 fn every_key(rt: HostRuntime) -> Result<(), Fail> {
     let lines = "tick_ms = 20\nlambda = 5\nperiod = 8\ndirect = 7\nsuspect = 90\nforget = 400
-helpers = 0\nlimit = 20\njoin = ['10.0.0.2:7000', '10.0.0.3:7001']
+helpers = 0\nlimit = 20\nblock = 64\njoin = ['10.0.0.2:7000', '10.0.0.3:7001']
 random_key = '000102030405060708090a0b0c0d0e0f101112131415161718191A1B1C1D1E1F'\n";
     let text = file_with(rt.alloc(), Key::Join, lines)?;
     let run = read_settings(rt.alloc(), text.as_bytes())?;
@@ -78,6 +79,7 @@ random_key = '000102030405060708090a0b0c0d0e0f101112131415161718191A1B1C1D1E1F'\
     assert_eq!(rt; run.settings.forget, 400);
     assert_eq!(rt; run.settings.helpers, 0);
     assert_eq!(rt; run.limit, 20);
+    assert_eq!(rt; run.settings.block, 64);
     let peers = [
         Endpoint::new(0x0a00_0002, 7000),
         Endpoint::new(0x0a00_0003, 7001),
@@ -112,6 +114,8 @@ fn taken_values(rt: HostRuntime) -> Result<(), Fail> {
         (Key::Helpers, "helpers = 8"),
         (Key::Limit, "limit = 1"),
         (Key::Limit, "limit = 65536"),
+        (Key::Block, "block = 1"),
+        (Key::Block, "block = 1024"),
         (Key::Join, "join = []"),
         (
             Key::Join,
@@ -159,6 +163,9 @@ fn refused_values(rt: HostRuntime) -> Result<(), Fail> {
         (Key::Helpers, "helpers = 9"),
         (Key::Limit, "limit = 0"),
         (Key::Limit, "limit = 65537"),
+        (Key::Block, "block = 0"),
+        (Key::Block, "block = 1025"),
+        (Key::Block, "block = '1'"),
         (Key::RandomKey, "random_key = ''"),
         (Key::RandomKey, "random_key = 'zz'"),
         (Key::RandomKey, "random_key = 32"),
@@ -182,6 +189,8 @@ fn refused_values(rt: HostRuntime) -> Result<(), Fail> {
 fn first_refused(rt: HostRuntime) -> Result<(), Fail> {
     for (lines, want) in [
         ("limit = 0\nlambda = 0", "lambda"),
+        ("block = 0\nlimit = 0", "limit"),
+        ("random_key = 0\nblock = 0", "block"),
         ("alpha = 1\njoin = 0", "join"),
         ("beta = 1\nalpha = 1", "alpha"),
         ("[table]", "table"),

@@ -42,6 +42,7 @@ fn opened(alloc: Global) -> Option<Node<MemDisk>>
         suspect: 50,
         forget: 6000,
         helpers: 3,
+        block: 1,
     };
     settings.check().ok()?;
     Node::open(alloc, disk, settings, LIMIT).ok()

@@ -80,6 +80,7 @@ pub(super) fn opened<D: Disk + Drop>(
         suspect: 20,
         forget: 40,
         helpers: 3,
+        block: 1,
     };
     settings.check().ok().expect(rt, "sound settings");
     let node = Node::open(alloc, disk, settings, 20_000);

@@ -28,6 +28,7 @@ no_settings = record {
   suspect = 0;
   forget = 0;
   helpers = 0;
+  block = 0;
 }
 
 -- the base of no era

@@ -79,6 +79,7 @@ pub(super) fn opened(rt: &impl Abort, alloc: Global, limit: u32) -> (Node<Device
         suspect: 20,
         forget: 40,
         helpers: 3,
+        block: 1,
     };
     settings.check().ok().expect(rt, "sound settings");
     let node = Node::open(alloc, disk, settings, limit)

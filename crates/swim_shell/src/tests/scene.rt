@@ -89,6 +89,7 @@ fn opened(rt: &impl Abort, alloc: Global, limit: u32) -> Result<Node<MemDisk>, F
         suspect: 20,
         forget: 40,
         helpers: 3,
+        block: 1,
     };
     settings.check().ok().ok_or("sound settings")?;
     let node = Node::open(alloc, disk, settings, limit);

@@ -7,7 +7,7 @@ use Rattle.swim_node.specs.declared.entry.Entry.{Entry}
 use Rattle.swim_node.specs.History.{state_after, granted_of}
 use Rattle.swim_node.specs.Lives.{GoesOn}
 use Rattle.swim_node.specs.Node.{base_of, entry_with}
-use Rattle.swim_node.specs.Saving.{Fails, Grants, broken_after}
+use Rattle.swim_node.specs.Saving.{Fails, Grants, broken_after, ceiling_asked}
 use denote.Param.{param}
 use Rattle.swim_node.specs.contracts.node.Node.{the_view}
 use Rattle.swim_node.proofs.Lists.{granted_from-append}
@@ -47,10 +47,10 @@ module _ (g : Over) (c : goal.After-push g) where
   granted_now = ap (granted_of (base_of c.self.inside.base)) snoc ∙ granted_from-append c.self.inside.base.granted c.self.inside.journal.entries (entry ∷ [])
 
   -- what the save granted, said of what a caller sees
-  grants : Grants g.D.Disk.keeps_model (wanted (state_after c.args.self.now.base c.args.self.now.entries) c.args.event) c.enter-done.result.save c.args.self.now.broken (g.D.Disk.state c.args.self.now.disk) (g.D.Disk.state c.enter-done.new.store.disk) (granted_of c.args.self.now.base c.args.self.now.entries) c.enter-done.result.granted
+  grants : Grants g.D.Disk.keeps_model (ceiling_asked c.args.self.now.base.state.settings.block (wanted (state_after c.args.self.now.base c.args.self.now.entries) c.args.event)) c.enter-done.result.save c.args.self.now.broken (g.D.Disk.state c.args.self.now.disk) (g.D.Disk.state c.enter-done.new.store.disk) (granted_of c.args.self.now.base c.args.self.now.entries) c.enter-done.result.granted
   grants =
-      subst (λ v. Grants g.D.Disk.keeps_model (wanted (state_after v.base v.entries) c.args.event) c.enter-done.result.save v.broken (g.D.Disk.state v.disk) (g.D.Disk.state c.enter-done.new.store.disk) (granted_of v.base v.entries) c.enter-done.result.granted) c.self.view_is
-      (rw (c.self.invariant.0.member, c.self.invariant.0.granted, c.enter-done.ensures.granted) c.enter-done.ensures.saved.grants)
+      subst (λ v. Grants g.D.Disk.keeps_model (ceiling_asked v.base.state.settings.block (wanted (state_after v.base v.entries) c.args.event)) c.enter-done.result.save v.broken (g.D.Disk.state v.disk) (g.D.Disk.state c.enter-done.new.store.disk) (granted_of v.base v.entries) c.enter-done.result.granted) c.self.view_is
+      (rw (c.self.invariant.0.member, ← c.self.invariant.0.settings, c.self.invariant.0.granted, c.enter-done.ensures.granted) c.enter-done.ensures.saved.grants)
 
 pub returns-clause-grows : goal.returns-clause-grows
 returns-clause-grows g c =
