@@ -25,6 +25,9 @@ const SAVE_ROUNDS: u32 = 400;
 
 const SAVE: &str = "save of the state file";
 
+/// How many numbers a save reserves, case by case.
+const BLOCKS: [u64; 2] = [1, 64];
+
 /// Measures the cases whose name has this part.
 fn run(saving: &Path, calling: &Path, folder: &Path, part: &str) -> io::Result<()> {
     table::head();
@@ -44,6 +47,13 @@ fn run(saving: &Path, calling: &Path, folder: &Path, part: &str) -> io::Result<(
     if SAVE.contains(part) {
         let (proved, plain) = save::measure(saving, folder, SAVE_ROUNDS)?;
         table::row(SAVE, proved, plain, Some(1.05), "");
+    }
+    for block in BLOCKS {
+        let name = format!("refutation over a file, blocks of {block}");
+        if name.contains(part) {
+            let proved = save::refute(saving, folder, block, ROUNDS)?;
+            table::row_alone(&name, proved);
+        }
     }
     lock::run(calling, part)
 }

@@ -1,5 +1,6 @@
 //! Saves of the state file: the proved store, a program of its own since files need the runtime, beside the same writes
-//! and syncs by hand. Both files lie in one folder.
+//! and syncs by hand. Both files lie in one folder. The same program makes a member refute suspicions, which costs a save a
+//! block of numbers.
 
 use std::fs::{self, File, OpenOptions};
 use std::io::{self, BufRead, BufReader, Write};
@@ -10,6 +11,9 @@ use std::time::Instant;
 
 /// The saves of one run.
 const SAVES: u32 = 5;
+
+/// The refutations of one run.
+const REFUTATIONS: u32 = 64;
 
 /// Where the two slots have their body and their gate.
 const SLOTS: [(u64, u64); 2] = [(4096, 8192), (12288, 16384)];
@@ -63,7 +67,7 @@ impl Bare {
     }
 }
 
-/// The proved program, which saves on demand and tells the time that it took.
+/// The proved program, which takes turns on demand and tells the time that they took.
 struct Proved {
     child: Child,
     asks: ChildStdin,
@@ -71,9 +75,14 @@ struct Proved {
 }
 
 impl Proved {
-    fn start(program: &Path, file: &Path) -> io::Result<Proved> {
+    /// The program over a new file. Its turns are saves or, with a block, refutations.
+    fn start(program: &Path, file: &Path, block: Option<u64>) -> io::Result<Proved> {
+        if file.exists() {
+            fs::remove_file(file)?;
+        }
         let mut child = Command::new(program)
             .arg(file)
+            .args(block.map(|block| block.to_string()))
             .stdin(Stdio::piped())
             .stdout(Stdio::piped())
             .spawn()?;
@@ -83,12 +92,12 @@ impl Proved {
         Ok(Proved { child, asks, answers })
     }
 
-    fn timed(&mut self) -> io::Result<f64> {
-        writeln!(self.asks, "{SAVES}")?;
+    fn timed(&mut self, turns: u32) -> io::Result<f64> {
+        writeln!(self.asks, "{turns}")?;
         let mut line = String::new();
         self.answers.read_line(&mut line)?;
         let nanos: f64 = line.trim().parse().map_err(io::Error::other)?;
-        Ok(nanos / f64::from(SAVES))
+        Ok(nanos / f64::from(turns))
     }
 
     fn finish(self) -> io::Result<()> {
@@ -106,20 +115,28 @@ impl Proved {
 /// The least nanoseconds of a proved save and of a bare one, in so many rounds.
 pub fn measure(program: &Path, folder: &Path, rounds: u32) -> io::Result<(f64, f64)> {
     let (ours, theirs) = (folder.join("proved.state"), folder.join("bare.state"));
-    for file in [&ours, &theirs] {
-        if file.exists() {
-            fs::remove_file(file)?;
-        }
-    }
     let mut bare = Bare::create(&theirs)?;
-    let mut proved = Proved::start(program, &ours)?;
+    let mut proved = Proved::start(program, &ours, None)?;
     let (mut least_ours, mut least_theirs) = (f64::MAX, f64::MAX);
     for _ in 0..rounds {
-        least_ours = proved.timed()?.min(least_ours);
+        least_ours = proved.timed(SAVES)?.min(least_ours);
         least_theirs = bare.timed()?.min(least_theirs);
     }
     proved.finish()?;
     fs::remove_file(&ours)?;
     fs::remove_file(&theirs)?;
     Ok((least_ours, least_theirs))
+}
+
+/// The least nanoseconds of a refutation, a save reserving so many numbers, in so many rounds.
+pub fn refute(program: &Path, folder: &Path, block: u64, rounds: u32) -> io::Result<f64> {
+    let file = folder.join("refuted.state");
+    let mut proved = Proved::start(program, &file, Some(block))?;
+    let mut least = f64::MAX;
+    for _ in 0..rounds {
+        least = proved.timed(REFUTATIONS)?.min(least);
+    }
+    proved.finish()?;
+    fs::remove_file(&file)?;
+    Ok(least)
 }
