@@ -8,7 +8,10 @@ use Rattle.swim_wire.specs.declared.datagram.Kind.TheVariants.{PingReq}
 use Rattle.swim_member.specs.declared.state.Probe.{Probe}
 use Rattle.swim_member.specs.declared.answer.Out.{Out}
 use Rattle.swim_member.specs.State.{State, Change}
-use Rattle.swim_member.specs.Events.{Ask, perform, ask, ask_one, helpers_about, each_from, is_at, is_eligible_name, row_name, outs, send, datagram, carried_updates}
+use Rattle.swim_member.specs.Events.{Ask, perform, each_from, outs}
+use Rattle.swim_member.specs.Probe.{ask, ask_one, helpers_about, is_at}
+use Rattle.swim_member.specs.Member.{is_eligible_name, row_name}
+use Rattle.swim_member.specs.Send.{send, datagram, carried_updates}
 use Rattle.swim_member.specs.Machinery.Steps.{apply, apply_all, after, outs_by, after_asks, outs_of_asks, open_probe, asked_probe, is_helper}
 
 rest-some : (xs : List ℕ) (k y : ℕ) (ys : List ℕ) → drop k xs ≡ y ∷ ys → (slice_get xs k ≡ Some y) × (drop (suc k) xs ≡ ys)

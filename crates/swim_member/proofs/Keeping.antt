@@ -18,7 +18,7 @@ use Rattle.swim_member.specs.declared.state.Relay.{Relay}
 use Rattle.swim_member.specs.State.{State}
 use Rattle.swim_member.specs.Fit.{may_say, may_wait, may_stand}
 use Rattle.swim_member.proofs.Lows.{all-raised, all-without, say-offered, say-spoken, stand-put, stand-remove, low-found}
-use Rattle.swim_member.specs.Events.{expire_first}
+use Rattle.swim_member.specs.Expiry.{expire_first}
 use Rattle.swim_member.specs.Machinery.Steps.{apply_all, is_live}
 use Rattle.swim_member.specs.Machinery.Kept.{AllWait, IsKept, is_row}
 use Rattle.swim_member.proofs.Waits.{wait-put, wait-own, wait-room, wait-forgotten, wait-raised}

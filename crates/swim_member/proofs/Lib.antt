@@ -11,3 +11,4 @@ pub mod Asking
 pub mod Ticking
 pub mod Showing
 pub mod Bases
+pub mod Adding

@@ -1,14 +1,16 @@
 -- Rows that are eligible, relays that are the same, the last update, at most one datagram.
-use Rattle.std.proofs.Common.{◌≡◌, ℕ, ◌<◌, ◌≤◌, ◌==◌, Bool, true, false, cond, refl, sym, ◌∙◌, ap, List, [], ◌∷◌, length, suc, Option, Some, None, arith}
+use Rattle.std.proofs.Common.{◌≡◌, ℕ, not, ◌+◌, ◌<◌, ◌≤◌, ◌==◌, Bool, true, false, cond, refl, sym, ◌∙◌, ap, List, [], ◌∷◌, length, suc, Option, Some, None, arith}
 use Rattle.std.specs.List.{filter, list_any, remove}
 use Rattle.std.proofs.lemmas.Bool.{eqb-true, ne_eqb}
 use Rattle.swim_rules.specs.declared.table.Row.{Row}
-use Rattle.swim_rules.specs.Rows.{AreAbove, AreInOrder, row_of, is_eligible}
+use Rattle.swim_wire.specs.declared.update.UpdateKind.{UpdateKind}
+use Rattle.swim_wire.specs.declared.update.UpdateKind.TheVariants.{Alive, Suspect, Confirm}
+use Rattle.swim_rules.specs.Rows.{AreAbove, AreInOrder, row_of, is_eligible, is_kind, is_of_kind}
 use Rattle.swim_rules.proofs.Tables.{order-above}
 use Rattle.std.specs.Option.{option_to_list}
 use Rattle.swim_member.specs.declared.answer.Out.{Out}
 use Rattle.swim_member.specs.declared.state.Relay.{Relay}
-use Rattle.swim_member.specs.Events.{row_name}
+use Rattle.swim_member.specs.Member.{row_name}
 use Rattle.swim_member.specs.Readings.{is_relay, without_relay}
 use Rattle.swim_member.specs.Machinery.Steps.{relay_place}
 
@@ -56,3 +58,22 @@ without-place r (q ∷ relays) h = at (is_relay r q) h (λ k. without-place r re
 pub length-option : (o : Option Out) → length (option_to_list o) ≤ 1
 length-option None = omega arith
 length-option (Some out) = omega arith
+
+-- Counts by kind
+
+abbrev pub AreCounted : List Row → Type 0
+AreCounted rows =
+    (length (filter is_eligible rows) ≡ length (filter (is_of_kind Alive) rows) + length (filter (is_of_kind Suspect) rows))
+    × (length rows ≡ length (filter is_eligible rows) + length (filter (is_of_kind Confirm) rows))
+
+-- a row is eligible where it is Alive or Suspect, and Confirm where it is not
+pub counted : (rows : List Row) → AreCounted rows
+counted [] = (refl, refl)
+counted (r ∷ rows) = at r.update.kind (counted rows)
+  where
+    at : (k : UpdateKind) → AreCounted rows
+        → (length (cond (not (is_kind Confirm k)) (r ∷ filter is_eligible rows) (filter is_eligible rows)) ≡ length (cond (is_kind Alive k) (r ∷ filter (is_of_kind Alive) rows) (filter (is_of_kind Alive) rows)) + length (cond (is_kind Suspect k) (r ∷ filter (is_of_kind Suspect) rows) (filter (is_of_kind Suspect) rows)))
+        × (length (r ∷ rows) ≡ length (cond (not (is_kind Confirm k)) (r ∷ filter is_eligible rows) (filter is_eligible rows)) + length (cond (is_kind Confirm k) (r ∷ filter (is_of_kind Confirm) rows) (filter (is_of_kind Confirm) rows)))
+    at Alive h = let e = h.0 in let f = h.1 in (omega arith, omega arith)
+    at Suspect h = let e = h.0 in let f = h.1 in (omega arith, omega arith)
+    at Confirm h = let e = h.0 in let f = h.1 in (omega arith, omega arith)

@@ -1,5 +1,5 @@
 -- What shows no page, all moves but one, and what takes no number, all moves but one.
-use Rattle.std.proofs.Common.{◌≡◌, ℕ, zero, suc, ◌+◌, ◌-◌, ◌==◌, ◌||◌, ◌&&◌, not, nat_lt, nat_le, Bool, true, false, cond, refl, ◌∙◌, ap, List, [], ◌∷◌, ◌++◌, map, replicate, length, Option, Some, None, sym, Result, Ok, Err}
+use Rattle.std.proofs.Common.{◌≡◌, ℕ, ◌<◌, ◌≤◌, ◌^◌, arith, zero, suc, ◌+◌, ◌==◌, ◌&&◌, not, nat_lt, nat_le, Bool, true, false, cond, refl, ◌∙◌, ap, List, [], ◌∷◌, ◌++◌, map, replicate, length, Option, Some, None, sym}
 use Rattle.std.specs.List.{find, slice_get}
 use Rattle.swim_wire.specs.declared.update.Update.{Update}
 use Rattle.swim_wire.specs.declared.update.UpdateKind.TheVariants.{Alive, Suspect, Confirm}
@@ -16,20 +16,32 @@ use Rattle.swim_member.specs.declared.state.Probe.{Probe}
 use Rattle.swim_member.specs.declared.state.Relay.{Relay}
 use Rattle.swim_member.specs.declared.state.Joining.{Joining}
 use Rattle.swim_member.specs.declared.note.Note.TheVariants as note
-use Rattle.swim_member.specs.State.{State, Change, Queued, NumberRaised, Became, Probed, Joined, Paged, Noted}
-use Rattle.swim_member.specs.Events.{Action, Hear, Settle, Reply, Advance, Expire, Forget, Blame, Probe_next, Ask, Depart, Bye, Join_peer, Show, Take, perform, page, send, own_with, hear_own, heard_with, has_confirm, wanted_by, on_ping, on_ping_req, on_ack, on_other_ack, on_relayed_ack, on_page, join_to, relay_ping, reply, when_running, is_for, is_answered, is_eligible_name, last_name, expire_first, forget_first, blame, suspect_target, suspect_of, probe_row, chosen_row, ask, ask_one, helpers_about, bye, eligible, is_at, each_from, answer_in, datagram_actions, actions, actions_in, accepted_actions, tick_actions, refusal_of, wanted, wanted_in, greatest_asked, number_after}
+use Rattle.swim_member.specs.State.{State, Change, Queued, NumberRaised, Probed, Joined, Paged, Noted}
+use Rattle.swim_member.specs.Events.{Action, Hear, Settle, Reply, Advance, Expire, Forget, Blame, Probe_next, Ask, Depart, Bye, Join_peer, Show, Take, perform, page, when_running, each_from, answer_in, datagram_actions, number_after}
+use Rattle.swim_member.specs.Send.{send}
+use Rattle.swim_member.specs.OwnNumber.{own_with, hear_own}
+use Rattle.swim_member.specs.Hearing.{heard_with}
+use Rattle.swim_member.specs.Reply.{on_ping, on_ack, reply}
+use Rattle.swim_member.specs.Relay.{on_ping_req, on_other_ack, on_relayed_ack, relay_ping, is_for, is_answered}
+use Rattle.swim_member.specs.Join.{on_page, join_to, last_name}
+use Rattle.swim_member.specs.Member.{is_eligible_name, eligible}
+use Rattle.swim_member.specs.Expiry.{expire_first, forget_first}
+use Rattle.swim_member.specs.Probe.{blame, suspect_target, suspect_of, probe_row, chosen_row, ask, ask_one, helpers_about, is_at}
+use Rattle.swim_member.specs.Leave.{bye}
 use Rattle.swim_member.specs.declared.answer.Answer.{Answer}
-use Rattle.swim_wire.specs.Decoding.{decoded}
-use Rattle.swim_wire.specs.declared.fault.WireFault.{WireFault}
-use Rattle.swim_member.specs.declared.event.Event.{Event}
-use Rattle.swim_member.specs.declared.event.Event.TheVariants as event
-use Rattle.swim_member.specs.declared.note.Note.{Note}
-use Rattle.swim_member.specs.declared.settings.Settings.{Settings}
 use Rattle.std.proofs.lemmas.Bool.{false≢true}
+use Rattle.swim_member.specs.declared.own_number.OwnNumber.{OwnNumber}
+use Rattle.swim_member.specs.declared.own_number.OwnNumber.TheVariants.{Stays, Wanted, Confirmed}
+use Rattle.swim_member.specs.declared.own_number.Suspicion.{Suspicion}
+use Rattle.swim_member.specs.declared.own_number.Suspicion.TheVariants.{Passed, Leap, Last, Refutable}
+use Rattle.swim_member.specs.declared.judge.Judgement.{Judgement}
+use Rattle.swim_member.specs.declared.judge.Judgement.TheVariants as judged
+use Rattle.swim_member.specs.Judge.{number_wanted, MayAct}
+use Rattle.std.specs.Prelude.{IfSome}
+use Rattle.swim_member.specs.OwnNumber.{note_of, suspicion_of, wanted_number}
+use Rattle.swim_member.specs.Events.{actions_of}
 use Rattle.swim_member.specs.Machinery.Steps.{apply_all, after, changes_from, outs_by, notes_by, answer_by}
-use Rattle.swim_member.proofs.Actions.{outs-news, notes-news, after-append, settings-after}
-use Rattle.swim_member.specs.declared.tick.TheConstants.{LAST_TIME}
-use Rattle.swim_wire.specs.declared.update.TheConstants.{LEAP, NUMBER_MAX}
+use Rattle.swim_member.proofs.Actions.{outs-news, notes-news, after-append}
 
 -- none of it shows a page, or else none of it takes a number
 abbrev Lacks : Bool → List Change → Type 0
@@ -60,14 +72,14 @@ either : (w : Bool) → (b : Bool) (x y : List Change) → Lacks w x → Lacks w
 either w true x y p q = p
 either w false x y p q = q
 
+note_of-no : (w : Bool) → (x : Suspicion) → Lacks w (note_of x)
+note_of-no w Passed = tt
+note_of-no w Leap = tt
+note_of-no w Last = tt
+note_of-no w Refutable = tt
+
 own-no : (w : Bool) → (old : ℕ) (u : Update) → Lacks w (hear_own old u)
-own-no w old u = at (not (is_kind Suspect u.kind) || nat_lt u.number old) (nat_lt LEAP (u.number - old)) (u.number == NUMBER_MAX)
-  where
-    at : (a b c : Bool) → Lacks w (cond a [] (cond b (Noted note.Leap ∷ []) (cond c (Noted note.NoNumberLeft ∷ []) [])))
-    at true b c = tt
-    at false true c = tt
-    at false false true = tt
-    at false false false = tt
+own-no w old u = note_of-no w (suspicion_of old u)
 
 heard-no : (w : Bool) → (h : Hearing) (u : Update) → Lacks w (heard_with h u)
 heard-no w heard.Accepted u = tt
@@ -75,14 +87,14 @@ heard-no w heard.Kept u = tt
 heard-no w heard.Unknown u = tt
 heard-no w heard.Full u = tt
 
-settle_number-no : (w : Bool) → (s : State) (us : List Update) (granted : ℕ) → w ≡ true → Lacks w (perform s (Settle us granted))
-settle_number-no w s us granted h = at (has_confirm s.settings.me us) (wanted_by s us == 0) (nat_le (wanted_by s us) granted)
+settle_number-no : (w : Bool) → (s : State) (own : OwnNumber) (granted : ℕ) → w ≡ true → Lacks w (perform s (Settle own granted))
+settle_number-no w s Stays granted h = tt
+settle_number-no w s Confirmed granted h = tt
+settle_number-no w s (Wanted n) granted h = at (nat_le n granted)
   where
-    at : (a b c : Bool) → Lacks w (cond a (Noted note.Expelled ∷ Queued (own_with s Confirm s.number) ∷ Became Expelled ∷ []) (cond b [] (cond c (Queued (own_with s Alive (wanted_by s us)) ∷ NumberRaised (wanted_by s us) ∷ []) (Noted note.SaveFailed ∷ []))))
-    at true b c = tt
-    at false true c = tt
-    at false false true = (h, tt)
-    at false false false = tt
+    at : (c : Bool) → Lacks w (cond c (Queued (own_with s Alive n) ∷ NumberRaised n ∷ []) (Noted note.SaveFailed ∷ []))
+    at true = (h, tt)
+    at false = tt
 
 ping-no : (w : Bool) → (s : State) (p : Datagram) → Lacks w (on_ping s p)
 ping-no w s p = either w (p.subject == s.settings.me) (send s p.sender Ack p.seq s.settings.me ∷ []) (Noted note.Misdirected ∷ []) tt tt
@@ -161,7 +173,7 @@ bye-no w s (Some r) = tt
 -- a move that shows no page, or else one that takes no number
 abbrev IsQuiet : Bool → Action → Type 0
 IsQuiet w (Show cursor) = w ≡ false
-IsQuiet w (Settle us granted) = w ≡ true
+IsQuiet w (Settle own granted) = w ≡ true
 IsQuiet w _ = Unit {0}
 
 abbrev AreQuiet : Bool → List Action → Type 0
@@ -170,7 +182,7 @@ AreQuiet w (m ∷ ms) = IsQuiet w m × AreQuiet w ms
 
 perform-no : (w : Bool) → (s : State) (m : Action) → IsQuiet w m → Lacks w (perform s m)
 perform-no w s (Hear u) h = either w (u.who == s.settings.me) (hear_own s.number u) (heard_with (answer_to s.rows u) u) (own-no w s.number u) (heard-no w (answer_to s.rows u) u)
-perform-no w s (Settle us granted) h = settle_number-no w s us granted h
+perform-no w s (Settle own granted) h = settle_number-no w s own granted h
 perform-no w s (Reply p) h = reply-no w s p s.phase p.kind
 perform-no w s Advance h = tt
 perform-no w s Expire h = expire-no w (find (is_due Suspect s.settings.suspect s.time) s.rows)
@@ -206,9 +218,9 @@ quiet-each w f h zero k = tt
 quiet-each w f h (suc n) k = (h k, quiet-each w f h n (k + 1))
 
 -- a datagram shows no page
-pub page-received : (s : State) (p : Datagram) (granted : ℕ) → page (changes_from s (datagram_actions p granted)) ≡ []
-page-received s p granted =
-    no-page (changes_from s (datagram_actions p granted)) (news-no true s (datagram_actions p granted) (quiet-append true (map (λ u. Hear u) p.updates.items) (Settle p.updates.items granted ∷ Reply p ∷ []) (quiet-hear true p.updates.items) (refl, (tt, tt))))
+pub page-received : (s : State) (p : Datagram) (own : OwnNumber) (granted : ℕ) → page (changes_from s (datagram_actions p own granted)) ≡ []
+page-received s p own granted =
+    no-page (changes_from s (datagram_actions p own granted)) (news-no true s (datagram_actions p own granted) (quiet-append true (map (λ u. Hear u) p.updates.items) (Settle own granted ∷ Reply p ∷ []) (quiet-hear true p.updates.items) (refl, (tt, tt))))
 
 quiet-ticked : (w : Bool) (n k word : ℕ) → AreQuiet w (Advance ∷ replicate n Expire ++ replicate k Forget ++ Blame ∷ Probe_next word ∷ each_from 0 8 (λ j. Ask j))
 quiet-ticked w n k word = (
@@ -250,95 +262,55 @@ number-quiet : (s : State) (ms : List Action) → AreQuiet false ms → (after s
 number-quiet s [] h = refl
 number-quiet s (m ∷ ms) h = number-quiet (apply_all (perform s m) s) ms h.1 ∙ number-perform s m h.0
 
-abbrev wanted_here : ℕ → ℕ → List Update → ℕ
-wanted_here me n us = cond (has_confirm me us) 0 (greatest_asked me n us)
-
-abbrev number_with : ℕ → List Update → ℕ → ℕ → ℕ
-number_with me us granted n = number_after (cond (wanted_here me n us == 0) None (Some (wanted_here me n us))) granted n
-
-number-settled : (s : State) (us : List Update) (granted : ℕ) → (apply_all (perform s (Settle us granted)) s).number ≡ number_with s.settings.me us granted s.number
-number-settled s us granted =
-    at (wanted_by s us) (has_confirm s.settings.me us) (wanted_by s us == 0) (nat_le (wanted_by s us) granted) refl (λ e. ap (λ b. cond b 0 (greatest_asked s.settings.me s.number us) == 0) e)
+number-settled : (s : State) (own : OwnNumber) (granted : ℕ) → (apply_all (perform s (Settle own granted)) s).number ≡ number_after (wanted_number own) granted s.number
+number-settled s Stays granted = refl
+number-settled s Confirmed granted = refl
+number-settled s (Wanted n) granted = at (nat_le n granted)
   where
-    at : (w : ℕ) (a b c : Bool) → nat_le w granted ≡ c → (a ≡ true → b ≡ true) → (apply_all (cond a (Noted note.Expelled ∷ Queued (own_with s Confirm s.number) ∷ Became Expelled ∷ []) (cond b [] (cond c (Queued (own_with s Alive w) ∷ NumberRaised w ∷ []) (Noted note.SaveFailed ∷ [])))) s).number ≡ number_after (cond b None (Some w)) granted s.number
-    at w true true c e h = refl
-    at w true false c e h = absurd (false≢true (h refl))
-    at w false true c e h = refl
-    at w false false true e h = ap (λ b. cond b w s.number) (sym e)
-    at w false false false e h = ap (λ b. cond b w s.number) (sym e)
+    at : (c : Bool) → (apply_all (cond c (Queued (own_with s Alive n) ∷ NumberRaised n ∷ []) (Noted note.SaveFailed ∷ [])) s).number ≡ cond c n s.number
+    at true = refl
+    at false = refl
 
-number-received : (s : State) (p : Datagram) (granted : ℕ) → (after s (datagram_actions p granted)).number ≡ number_with s.settings.me p.updates.items granted s.number
-number-received s p granted =
+number-received : (s : State) (p : Datagram) (own : OwnNumber) (granted : ℕ) → (after s (datagram_actions p own granted)).number ≡ number_after (wanted_number own) granted s.number
+number-received s p own granted =
     let heard : State = after s (map (λ u. Hear u) p.updates.items) in
-    let settled : State = apply_all (perform heard (Settle p.updates.items granted)) heard in
-    ap (λ (t : State). t.number) (after-append s (map (λ u. Hear u) p.updates.items) (Settle p.updates.items granted ∷ Reply p ∷ []))
+    let settled : State = apply_all (perform heard (Settle own granted)) heard in
+    ap (λ (t : State). t.number) (after-append s (map (λ u. Hear u) p.updates.items) (Settle own granted ∷ Reply p ∷ []))
     ∙ number-perform settled (Reply p) tt
-    ∙ number-settled heard p.updates.items granted
-    ∙ ap (λ (t : Settings). number_with t.me p.updates.items granted heard.number) (settings-after s (map (λ u. Hear u) p.updates.items))
-    ∙ ap (λ n. number_with s.settings.me p.updates.items granted n) (number-quiet s (map (λ u. Hear u) p.updates.items) (quiet-hear false p.updates.items))
+    ∙ number-settled heard own granted
+    ∙ ap (λ n. number_after (wanted_number own) granted n) (number-quiet s (map (λ u. Hear u) p.updates.items) (quiet-hear false p.updates.items))
 
 number-ticked : (s : State) (n k word : ℕ) → (after s (Advance ∷ replicate n Expire ++ replicate k Forget ++ Blame ∷ Probe_next word ∷ each_from 0 8 (λ j. Ask j))).number ≡ s.number
 number-ticked s n k word =
     number-quiet s (Advance ∷ replicate n Expire ++ replicate k Forget ++ Blame ∷ Probe_next word ∷ each_from 0 8 (λ j. Ask j)) (quiet-ticked false n k word)
 
--- the own number after an event
-pub number-step : (s : State) (e : Event) (granted : ℕ) → (after s (actions s e granted)).number ≡ number_after (wanted s e) granted s.number
-number-step s (event.Datagram from bytes) granted = by_phase s.phase
-  where
-    by_note : (o : Option Note) (r : Result Datagram WireFault) → (after s (accepted_actions o r granted)).number ≡ number_after (wanted_in o Running s r) granted s.number
-    by_note (Some n) r = refl
-    by_note None (Err fault) = refl
-    by_note None (Ok p) = number-received s p granted
+-- the own number after an event, as it was judged
+pub number-judged : (s : State) (j : Judgement) (granted : ℕ) → (after s (actions_of j granted)).number ≡ number_after (number_wanted j) granted s.number
+number-judged s (judged.Note n) granted = refl
+number-judged s (judged.Tick word) granted = number-ticked s 256 256 word
+number-judged s (judged.Datagram p own) granted = number-received s p own granted
+number-judged s (judged.Join peer) granted = number-perform s (Join_peer peer) tt
+number-judged s judged.Leave granted = number-quiet s (Depart ∷ each_from 0 9 (λ j. Bye j)) (tt, quiet-each false (λ j. Bye j) (λ j. tt) 9 0)
+number-judged s (judged.Members cursor) granted = refl
 
-    left : (o : Option Note) (r : Result Datagram WireFault) → s.number ≡ number_after (wanted_in o Left s r) granted s.number
-    left None r = refl
-    left (Some n) r = refl
+raised : (n g : ℕ) (o : Option ℕ) → IfSome o (λ w. (n < w) × (w ≤ 2 ^ 62)) → n ≤ number_after o g n
+raised n g None h = omega arith
+raised n g (Some w) h = at (nat_le w g) h.0
+  where
+    at : (b : Bool) → n < w → n ≤ cond b w n
+    at true l = omega arith
+    at false l = omega arith
 
-    expelled : (o : Option Note) (r : Result Datagram WireFault) → s.number ≡ number_after (wanted_in o Expelled s r) granted s.number
-    expelled None r = refl
-    expelled (Some n) r = refl
+-- it does not fall
+pub number-grown : (s : State) (j : Judgement) (g : ℕ) → MayAct s j → s.number ≤ number_after (number_wanted j) g s.number
+number-grown s (judged.Note n) g h = omega arith
+number-grown s (judged.Tick word) g h = omega arith
+number-grown s (judged.Datagram p own) g h = raised s.number g (wanted_number own) h.1
+number-grown s (judged.Join peer) g h = omega arith
+number-grown s judged.Leave g h = omega arith
+number-grown s (judged.Members cursor) g h = omega arith
 
-    by_phase : (ph : Phase) → (after s (actions_in ph s (event.Datagram from bytes) granted)).number ≡ number_after (wanted_in (refusal_of s.settings from (decoded bytes.items)) ph s (decoded bytes.items)) granted s.number
-    by_phase Running = by_note (refusal_of s.settings from (decoded bytes.items)) (decoded bytes.items)
-    by_phase Left = left (refusal_of s.settings from (decoded bytes.items)) (decoded bytes.items)
-    by_phase Expelled = expelled (refusal_of s.settings from (decoded bytes.items)) (decoded bytes.items)
-number-step s (event.Tick word) granted = by_phase s.phase
-  where
-    by_time : (b : Bool) → (after s (cond b (Take note.TimeOver ∷ []) (tick_actions word))).number ≡ s.number
-    by_time true = refl
-    by_time false = number-ticked s 256 256 word
-
-    by_phase : (ph : Phase) → (after s (actions_in ph s (event.Tick word) granted)).number ≡ s.number
-    by_phase Running = by_time (s.time == LAST_TIME)
-    by_phase Left = refl
-    by_phase Expelled = refl
-number-step s event.ReceiveFailed granted = by_phase s.phase
-  where
-    by_phase : (ph : Phase) → (after s (actions_in ph s event.ReceiveFailed granted)).number ≡ s.number
-    by_phase Running = refl
-    by_phase Left = refl
-    by_phase Expelled = refl
-number-step s (event.SendFailed count) granted = by_phase s.phase
-  where
-    by_phase : (ph : Phase) → (after s (actions_in ph s (event.SendFailed count) granted)).number ≡ s.number
-    by_phase Running = refl
-    by_phase Left = refl
-    by_phase Expelled = refl
-number-step s (event.Join peer) granted = by_phase s.phase
-  where
-    by_phase : (ph : Phase) → (after s (actions_in ph s (event.Join peer) granted)).number ≡ s.number
-    by_phase Running = number-perform s (Join_peer peer) tt
-    by_phase Left = refl
-    by_phase Expelled = refl
-number-step s event.Leave granted = by_phase s.phase
-  where
-    by_phase : (ph : Phase) → (after s (actions_in ph s event.Leave granted)).number ≡ s.number
-    by_phase Running = number-quiet s (Depart ∷ each_from 0 9 (λ j. Bye j)) (tt, quiet-each false (λ j. Bye j) (λ j. tt) 9 0)
-    by_phase Left = refl
-    by_phase Expelled = refl
-number-step s (event.Members cursor) granted = by_phase s.phase
-  where
-    by_phase : (ph : Phase) → (after s (actions_in ph s (event.Members cursor) granted)).number ≡ s.number
-    by_phase Running = refl
-    by_phase Left = refl
-    by_phase Expelled = refl
+-- what is wanted is not above the last
+pub low-wanted : (n : ℕ) (o : Option ℕ) → IfSome o (λ w. (n < w) × (w ≤ 2 ^ 62)) → IfSome o (λ w. w ≤ 2 ^ 62)
+low-wanted n None h = h
+low-wanted n (Some w) h = h.1

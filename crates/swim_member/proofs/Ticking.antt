@@ -6,7 +6,12 @@ use Rattle.swim_rules.specs.Rows.{answer_to, is_kind, is_due, row_of}
 use Rattle.swim_wire.specs.declared.update.UpdateKind.TheVariants.{Alive, Suspect, Confirm}
 use Rattle.swim_member.specs.declared.state.Probe.{Probe}
 use Rattle.swim_member.specs.State.{State}
-use Rattle.swim_member.specs.Events.{Action, Advance, Expire, Forget, Blame, Probe_next, Ask, Bye, perform, outs, notes, expire_first, forget_first, blame, suspect_target, suspect_of, probe_row, chosen_row, ask, ask_one, helpers_about, is_eligible_name, bye, eligible, is_at, heard_with, each_from, tick_actions}
+use Rattle.swim_member.specs.Events.{Action, Advance, Expire, Forget, Blame, Probe_next, Ask, Bye, perform, outs, notes, each_from, tick_actions}
+use Rattle.swim_member.specs.Expiry.{expire_first, forget_first}
+use Rattle.swim_member.specs.Probe.{blame, suspect_target, suspect_of, probe_row, chosen_row, ask, ask_one, helpers_about, is_at}
+use Rattle.swim_member.specs.Member.{is_eligible_name, eligible}
+use Rattle.swim_member.specs.Leave.{bye}
+use Rattle.swim_member.specs.Hearing.{heard_with}
 use Rattle.swim_member.specs.Machinery.Steps.{apply_all, after, notes_by, outs_by}
 use Rattle.swim_member.proofs.Actions.{after-append, notes_by-append, outs_by-append, settings-apply_all, settings-after}
 use Rattle.swim_member.proofs.Received.{outs-heard_with}

@@ -1,5 +1,5 @@
 -- What a member may say of itself and others, and which of its datagrams can be written.
-use Rattle.std.specs.Prelude.{◌≡◌, ℕ, ◌^◌, ◌==◌, ◌&&◌, ◌||◌, nat_le, Bool, true, false, not, List}
+use Rattle.std.specs.Prelude.{◌≡◌, ℕ, ◌==◌, ◌&&◌, ◌||◌, nat_le, Bool, true, false, not, List}
 use Rattle.std.specs.Prelude.{[], ◌∷◌, ◌++◌}
 use Rattle.std.specs.List.{list_all}
 use Rattle.swim_wire.specs.declared.update.TheConstants.{NUMBER_MAX}

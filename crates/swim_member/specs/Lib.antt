@@ -1,6 +1,17 @@
 pub mod Checks
 pub mod State
 pub mod Readings
+pub mod Member
+pub mod Send
+pub mod Hearing
+pub mod OwnNumber
+pub mod Relay
+pub mod Probe
+pub mod Join
+pub mod Reply
+pub mod Expiry
+pub mod Leave
+pub mod Judge
 pub mod Events
 pub mod Fit
 pub mod Texts

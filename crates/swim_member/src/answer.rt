@@ -1,20 +1,18 @@
-//! What a step answers.
+//! What a step answers. It is lent downwards: whoever has something to say says it there.
 
-ghost use Rattle.std.specs.Prelude.{◌≡◌, ℕ, ◌<◌, [], ◌∷◌, ◌++◌, length, Some, None, true};
-ghost use Rattle.std.specs.List.{list_all};
-ghost use Rattle.std.specs.Option.{option_to_list};
-ghost use Rattle.swim_member.specs.Fit.{is_fit};
-ghost use Rattle.swim_member.specs.Machinery.Steps.{no_answer};
+ghost use Rattle.std.specs.Prelude.{◌≡◌, ◌<◌, [], ◌∷◌, ◌++◌, length};
+ghost use Rattle.swim_member.specs.Events.{no_answer};
 
 use crate::note::Note;
+use crate::settings::HELPERS_MAX;
 use arrayvec::ArrayVec;
 use swim_wire::{Cursor, Datagram, Endpoint, Kind, UPDATES_MAX, Update};
 
 /// The most datagrams that a step sends: `helpers + 2`, at the most helpers.
-pub const OUTS_MAX: usize = 10;
+pub const OUTS_MAX: usize = HELPERS_MAX + 2;
 
 /// The most notes that a step takes: one for each update of a datagram, and two more.
-pub const NOTES_MAX: usize = 32;
+pub const NOTES_MAX: usize = UPDATES_MAX + 2;
 
 /// A datagram and where it goes.
 #[derive(Debug, Drop)]
@@ -66,8 +64,8 @@ pub struct Answer {
 }
 
 impl Answer {
-    /// An answer that has nothing to say.
-    pub(crate) fn nothing() -> Answer
+    /// An answer that has nothing to say yet.
+    pub fn nothing() -> Answer
         ensures { result ≡ no_answer }
     {
         Answer {
@@ -77,39 +75,32 @@ impl Answer {
         }
     }
 
-    /// Takes a note, and says no more.
-    pub(crate) fn take_note(&mut self, note: Note)
-        requires { self.old ≡ no_answer }
-        ensures { self.new ≡ record {
-          outs = record { items = [] };
-          notes = record { items = note ∷ [] };
-          page = record { items = [] };
-        } }
+    /// Takes back all that was said. The places stay as they are.
+    pub fn clear(&mut self)
+        ensures { self.new ≡ no_answer }
+    {
+        self.outs.clear();
+        self.notes.clear();
+        self.page.clear();
+    }
+
+    /// Sends a datagram, after those before it.
+    pub(crate) fn send(&mut self, out: Out)
+        requires { length self.old.outs.items < OUTS_MAX }
+        ensures outs { self.new.outs.items ≡ self.old.outs.items ++ out ∷ [] }
+        ensures notes { self.new.notes ≡ self.old.notes }
+        ensures page { self.new.page ≡ self.old.page }
+    {
+        self.outs.push(out);
+    }
+
+    /// Takes a note, after those before it.
+    pub(crate) fn note(&mut self, note: Note)
+        requires { length self.old.notes.items < NOTES_MAX }
+        ensures outs { self.new.outs ≡ self.old.outs }
+        ensures notes { self.new.notes.items ≡ self.old.notes.items ++ note ∷ [] }
+        ensures page { self.new.page ≡ self.old.page }
     {
         self.notes.push(note);
-    }
-}
-
-/// Adds a note, if there is one.
-pub(crate) fn note_down(notes: &mut ArrayVec<Note, NOTES_MAX>, note: Option<Note>)
-    requires { length notes.old.items < NOTES_MAX }
-    ensures { notes.new.items ≡ notes.old.items ++ option_to_list note }
-{
-    if let Some(note) = note {
-        notes.push(note);
-    }
-}
-
-/// Adds a datagram, if there is one.
-pub(crate) fn send_out(outs: &mut ArrayVec<Out, OUTS_MAX>, out: Option<Out>)
-    requires { length outs.old.items < OUTS_MAX }
-    ensures items { outs.new.items ≡ outs.old.items ++ option_to_list out }
-    ensures fit { (me n : ℕ)
-        → list_all (is_fit me n) outs.old.items ≡ true
-        → list_all (is_fit me n) (option_to_list out) ≡ true
-        → list_all (is_fit me n) outs.new.items ≡ true }
-{
-    if let Some(out) = out {
-        outs.push(out);
     }
 }

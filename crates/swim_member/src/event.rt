@@ -3,10 +3,10 @@
 ghost use Rattle.std.specs.Prelude.{◌≡◌};
 
 use arrayvec::ArrayVec;
-use swim_wire::{Cursor, Endpoint};
+use swim_wire::{Cursor, DATAGRAM_MAX, Endpoint};
 
 /// The most bytes of a received datagram that are kept: one more than a datagram may have.
-pub const RECEIVED_MAX: usize = 513;
+pub const RECEIVED_MAX: usize = DATAGRAM_MAX + 1;
 
 /// What may happen to a member.
 #[derive(Drop)]

@@ -2,21 +2,20 @@
 //! what is shown, and a new state.
 #![tactic(auto)]
 
-mod ack;
 mod answer;
-mod ask;
 mod event;
-mod hear;
+mod expiry;
+mod hearing;
 mod join;
+mod judge;
 mod leave;
 mod member;
 mod note;
-mod page;
-mod ping;
-mod ping_req;
-mod plan;
+mod own_number;
+mod probe;
 mod receive;
-mod refute;
+mod relay;
+mod reply;
 mod send;
 mod settings;
 mod state;
@@ -25,8 +24,10 @@ mod tick;
 
 pub use answer::{Answer, NOTES_MAX, OUTS_MAX, Out};
 pub use event::{Event, RECEIVED_MAX};
+pub use judge::Judgement;
 pub use member::{Member, RELAYS_MAX};
 pub use note::Note;
+pub use own_number::OwnNumber;
 pub use settings::{BLOCK_MAX, HELPERS_MAX, Settings, SettingsFault};
 pub use state::{Counts, Joining, Phase, Probe, Relay};
 

@@ -1,16 +1,19 @@
 //! Datagrams that are sent, with what they carry.
 
-ghost use Rattle.std.specs.Prelude.{◌≡◌, ℕ, ◌+◌, ◌*◌, ◌<◌, ◌≤◌, ◌%◌, ◌^◌, true, map, length};
+ghost use Rattle.std.specs.Prelude.{◌≡◌, ◌*◌, ◌<◌, ◌≤◌, [], ◌∷◌, true, map, length};
 ghost use Rattle.std.specs.List.{filter, list_all};
-ghost use Rattle.swim_member.specs.Fit.{may_say, is_fit};
+ghost use Rattle.swim_member.specs.Fit.{may_say};
 ghost use Rattle.swim_rules.specs.Rows.{is_eligible};
 ghost use Rattle.swim_gossip.specs.Queue.{raise_all};
 ghost use Rattle.swim_member.specs.State.{SequenceTaken};
 ghost use Rattle.swim_member.specs.Readings.{carries_updates};
-ghost use Rattle.swim_member.specs.Events.{bits, limit, carried_updates, datagram, send};
+ghost use Rattle.swim_member.specs.Send.{bits, limit, carried_updates, send};
+ghost use Rattle.swim_member.specs.Events.{outs};
 ghost use Rattle.swim_member.specs.Machinery.Steps.{apply};
+ghost use Rattle.swim_member.specs.Machinery.Adding.{Adds};
+ghost use Rattle.swim_member.specs.declared.answer.TheConstants.{OUTS_MAX};
 
-use crate::answer::Out;
+use crate::answer::{Answer, Out};
 use crate::member::Member;
 use arrayvec::ArrayVec;
 use swim_gossip::Visits;
@@ -52,20 +55,6 @@ impl Member {
         self.settings.lambda * bits_of(1 + self.table.count())
     }
 
-    /// Gives what the next datagram carries, and counts the send.
-    fn carry(&mut self) -> ArrayVec<Update, UPDATES_MAX>
-        ensures carried { result.items ≡ carried_updates self.old }
-        ensures said { list_all (may_say self.new.settings.me self.new.number) result.items ≡ true }
-        ensures state { self.new
-            ≡ record self.old {
-              queue = map
-                  (raise_all (carried_updates self.old)) self.old.queue;
-            } }
-    {
-        let limit = self.limit();
-        self.buffer.pick(limit, UPDATES_MAX, &mut Visits::new())
-    }
-
     /// Takes the next sequence.
     pub(crate) fn take_seq(&mut self) -> u32
         ensures seq { result ≡ self.old.seq }
@@ -76,21 +65,27 @@ impl Member {
         seq
     }
 
-    /// A ping, a ping-req or an ack, with what waits.
-    pub(crate) fn send(&mut self, to: Endpoint, kind: Kind, seq: u32, subject: Endpoint) -> Out
-        requires { carries_updates kind ≡ true }
-        ensures out { result
-            ≡ record {
-              to = to;
-              datagram = datagram self.old kind seq subject (carried_updates self.old);
-            } }
+    /// Sends a ping, a ping-req or an ack, with what waits.
+    pub(crate) fn send(
+        &mut self,
+        to: Endpoint,
+        kind: Kind,
+        seq: u32,
+        subject: Endpoint,
+        answer: &mut Answer,
+    )
+        requires carries { carries_updates kind ≡ true }
+        requires room { length answer.old.outs.items < OUTS_MAX }
         ensures state { self.new ≡ apply (send self.old to kind seq subject) self.old }
-        ensures fit { is_fit self.new.settings.me self.new.number result ≡ true }
+        ensures answer { Adds self.old self.new answer.old answer.new
+            (outs (send self.old to kind seq subject ∷ [])) 1 [] }
     {
         // an endpoint is not 0, so what is sent has a text
         let _ = subject.number();
-        let updates = self.carry();
-        Out {
+        // picked here: a function that gave it back would move it once more
+        let limit = self.limit();
+        let updates = self.buffer.pick(limit, UPDATES_MAX, &mut Visits::new());
+        answer.send(Out {
             to,
             datagram: Datagram {
                 kind,
@@ -100,6 +95,6 @@ impl Member {
                 subject: Cursor::at(subject),
                 updates,
             },
-        }
+        });
     }
 }

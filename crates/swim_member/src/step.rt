@@ -4,15 +4,16 @@ ghost use Rattle.std.specs.Prelude.{◌≡◌, ◌≤◌, ◌+◌, ◌++◌, ◌
 ghost use Rattle.std.specs.List.{list_all};
 ghost use Rattle.swim_wire.specs.Spelling.{HasText};
 ghost use Rattle.swim_member.specs.State.{State};
-ghost use Rattle.swim_member.specs.Events.{Step, state_of, answer, number_after, wanted, actions, running_actions, stopped_actions, Show};
+ghost use Rattle.swim_member.specs.Judge.{judge, wanted, number_wanted, MayAct};
+ghost use Rattle.swim_member.specs.Events.{Step, state_of, answer, number_after, actions_of, Show, no_answer};
 ghost use Rattle.swim_member.specs.Fit.{is_fit, AreAll, own_numbers_in};
-ghost use Rattle.swim_member.specs.Machinery.Steps.{after, answer_by, no_answer};
+ghost use Rattle.swim_member.specs.Machinery.Steps.{after, answer_by};
+ghost use Rattle.swim_member.specs.declared.event.Event.{Event as Events};
 
 use crate::answer::Answer;
 use crate::event::Event;
+use crate::judge::Judgement;
 use crate::member::Member;
-use crate::note::Note;
-use crate::state::Phase;
 use swim_wire::Cursor;
 
 impl Member {
@@ -24,55 +25,59 @@ impl Member {
         answer.page = self.page_after(cursor);
     }
 
-    /// Takes an event while running.
-    fn act_running(&mut self, event: &Event, granted: u64, answer: &mut Answer)
-        requires { answer.old ≡ no_answer }
-        ensures state { self.new ≡ after self.old (running_actions self.old event.now granted) }
-        ensures answer { answer.new
-            ≡ answer_by self.old (running_actions self.old event.now granted) }
+    /// Does what was judged.
+    fn obey(&mut self, judged: &Judgement, granted: u64, answer: &mut Answer)
+        requires nothing { answer.old ≡ no_answer }
+        requires sound { MayAct self.old judged.now }
+        ensures state { self.new ≡ after self.old (actions_of judged.now granted) }
+        ensures answer { answer.new ≡ answer_by self.old (actions_of judged.now granted) }
         ensures fit { list_all (is_fit self.new.settings.me self.new.number) answer.new.outs.items
             ≡ true }
         ensures few { length answer.new.outs.items ≤ self.old.settings.helpers + 2 }
     {
-        match event {
-            Event::Tick { word } => self.on_tick(*word, answer),
-            Event::Datagram { from, bytes } => self.on_datagram(*from, bytes, granted, answer),
-            Event::ReceiveFailed => answer.take_note(Note::ReceiveFailed),
-            Event::SendFailed { count } => answer.take_note(Note::SendFailed(*count)),
-            Event::Join { peer } => self.start_join(*peer, answer),
-            Event::Leave => self.leave(answer),
-            Event::Members { after } => self.show(*after, answer),
+        match judged {
+            Judgement::Note(note) => answer.note(*note),
+            Judgement::Tick { word } => self.tick(*word, answer),
+            Judgement::Datagram { datagram, own } => {
+                self.receive(datagram, *own, granted, answer);
+            }
+            Judgement::Join { peer } => self.start_join(*peer, answer),
+            Judgement::Leave => self.leave(answer),
+            Judgement::Members { after } => self.show(*after, answer),
         }
     }
 
-    /// Takes an event after running: shows members, and nothing else.
-    fn act_stopped(&self, event: &Event, answer: &mut Answer)
-        requires { answer.old ≡ no_answer }
-        ensures answer { answer.new ≡ answer_by self.now (stopped_actions event.now) }
-        ensures fit { list_all (is_fit self.now.settings.me self.now.number) answer.new.outs.items
-            ≡ true }
-        ensures few { length answer.new.outs.items ≤ self.now.settings.helpers + 2 }
+    /// Acts on an event as it was judged, with the ceiling that was granted for it, and says in the
+    /// answer, which must be empty, what is sent, noted and shown. The member takes the number that
+    /// the event wants where the ceiling is at least that, and else keeps its own.
+    pub fn act(&mut self, judged: &Judgement, granted: u64, said: &mut Answer)
+        requires nothing { said.old ≡ no_answer }
+        requires sound { MayAct self.old judged.now }
+        requires low { self.old.number ≤ granted }
+        // whatever history this member's state is that of, with an event that is so judged it goes on
+        ensures state { (event : Events) → judge self.old event ≡ judged.now
+            → (base : State) → (steps : List Step)
+            → state_of base steps ≡ self.old
+            → state_of base (steps ++ record { event = event; granted = granted } ∷ [])
+            ≡ self.new }
+        ensures answer { (event : Events) → judge self.old event ≡ judged.now
+            → (base : State) → (steps : List Step)
+            → state_of base steps ≡ self.old
+            → answer base steps event granted ≡ said.new }
+        ensures few { length said.new.outs.items ≤ self.old.settings.helpers + 2 }
+        ensures fit { All (λ out. HasText out.datagram) said.new.outs.items }
+        ensures own { AreAll self.new.number
+            (own_numbers_in self.new.settings.me said.new.outs.items) }
+        ensures number { self.new.number
+            ≡ number_after (number_wanted judged.now) granted self.old.number }
+        // the own number does not fall
+        ensures grows { self.old.number ≤ self.new.number }
+        ensures settings { self.new.settings ≡ self.old.settings }
+        ensures base { state_of self.new [] ≡ self.new }
     {
-        match event {
-            Event::Members { after } => self.show(*after, answer),
-            _ => answer.take_note(Note::Stopped),
-        }
-    }
-
-    /// Takes an event.
-    fn act(&mut self, event: &Event, granted: u64, answer: &mut Answer)
-        requires { answer.old ≡ no_answer }
-        ensures state { self.new ≡ after self.old (actions self.old event.now granted) }
-        ensures answer { answer.new ≡ answer_by self.old (actions self.old event.now granted) }
-        ensures fit { list_all (is_fit self.new.settings.me self.new.number) answer.new.outs.items
-            ≡ true }
-        ensures few { length answer.new.outs.items ≤ self.old.settings.helpers + 2 }
-    {
-        if self.phase == Phase::Running {
-            self.act_running(event, granted, answer);
-        } else {
-            self.act_stopped(event, answer);
-        }
+        self.obey(judged, granted, said);
+        // the type's invariant holds of the new state
+        let _ = &self.settings;
     }
 
     /// Takes an event, with the ceiling that was granted for it, and gives what is sent, noted and
@@ -100,10 +105,9 @@ impl Member {
         // a history may begin anew from the new state
         ensures base { state_of self.new [] ≡ self.new }
     {
+        let judged = self.judge(event);
         let mut answer = Answer::nothing();
-        self.act(event, granted, &mut answer);
-        // the type's invariant holds of the new state
-        let _ = &self.settings;
+        self.act(&judged, granted, &mut answer);
         answer
     }
 }

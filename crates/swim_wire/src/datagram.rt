@@ -6,14 +6,15 @@ ghost use Rattle.swim_wire.specs.declared.datagram.Kind.{Kind as Kinds};
 
 use crate::cursor::Cursor;
 use crate::endpoint::Endpoint;
-use crate::update::{NUMBER_MAX, Update};
+use crate::head::HEAD_LEN;
+use crate::update::{NUMBER_MAX, UPDATE_LEN, Update};
 use arrayvec::ArrayVec;
 
 /// The most updates that a datagram holds.
 pub const UPDATES_MAX: usize = 30;
 
 /// The greatest length of a datagram, in bytes.
-pub const DATAGRAM_MAX: usize = 512;
+pub const DATAGRAM_MAX: usize = HEAD_LEN + UPDATES_MAX * UPDATE_LEN;
 
 /// The codes of the two kinds whose subject is a cursor.
 pub(crate) const JOIN: u8 = 4;
@@ -37,7 +38,7 @@ pub enum Kind {
 
 impl Kind {
     /// The kind with this code, or none: 1 ping, 2 ping-req, 3 ack, 4 join, 5 page.
-    pub(crate) fn from_code(code: u8) -> Option<Kind>
+    pub fn from_code(code: u8) -> Option<Kind>
         ensures some { IfSome result (λ kind. code ≡ kind_code kind) }
         ensures none { IfNone result ((kind : Kinds) → code ≢ kind_code kind) }
     {
@@ -52,7 +53,7 @@ impl Kind {
     }
 
     /// The byte that spells the kind.
-    pub(crate) fn code(self) -> u8
+    pub fn code(self) -> u8
         ensures { result ≡ kind_code self }
     {
         match self {
@@ -65,7 +66,7 @@ impl Kind {
     }
 
     /// Whether the subject may be the zero cursor, as in a join or a page.
-    pub(crate) fn may_have_zero(self) -> bool
+    pub fn may_have_zero(self) -> bool
         ensures { IsTrue result ↔ MayHaveZero self }
     {
         matches!(self, Kind::Join | Kind::Page)

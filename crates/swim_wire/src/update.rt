@@ -48,7 +48,7 @@ pub enum UpdateKind {
 
 impl UpdateKind {
     /// The kind with this code, or none: 1 alive, 2 suspect, 3 confirm.
-    pub(crate) fn from_code(code: u8) -> Option<UpdateKind>
+    pub fn from_code(code: u8) -> Option<UpdateKind>
         ensures some { IfSome result (λ kind. code ≡ update_code kind) }
         ensures none { IfNone result ((kind : UpdateKinds) → code ≢ update_code kind) }
     {
@@ -61,7 +61,7 @@ impl UpdateKind {
     }
 
     /// The byte that spells the kind.
-    pub(crate) fn code(self) -> u8
+    pub fn code(self) -> u8
         ensures { result ≡ update_code self }
     {
         match self {

@@ -21,9 +21,13 @@ use Rattle.swim_member.specs.State.{Became}
 use Rattle.swim_member.specs.State.{Ticked, SequenceTaken, Probed, Relayed, Unrelayed, Joined}
 use Rattle.swim_member.specs.State.{Paged, Noted}
 use Rattle.swim_member.specs.Readings.{carries_updates, is_relay, without_relay}
-use Rattle.swim_member.specs.Events.{Action, perform, actions, notes, outs, page, row_name, send}
-use Rattle.swim_member.specs.Events.{datagram}
-use Rattle.swim_member.specs.Events.{carried_updates, is_at, is_eligible_name}
+use Rattle.swim_member.specs.Events.{Action, perform, actions, notes, outs, page}
+use Rattle.swim_member.specs.Member.{row_name}
+use Rattle.swim_member.specs.Send.{send}
+use Rattle.swim_member.specs.Send.{datagram}
+use Rattle.swim_member.specs.Send.{carried_updates}
+use Rattle.swim_member.specs.Probe.{is_at}
+use Rattle.swim_member.specs.Member.{is_eligible_name}
 
 -- the relay is less than a period old
 abbrev pub is_live : ℕ → ℕ → Relay → Bool
@@ -94,14 +98,6 @@ relay_place r (q ∷ relays) = if is_relay r q then 0 else suc (relay_place r re
 -- the own update where it comes at all and before a row, else that of the row
 abbrev pub earlier_update : Update → Bool → Row → Update
 earlier_update own comes row = if comes && nat_lt own.who row.update.who then own else row.update
-
--- an answer that has nothing to say
-abbrev pub no_answer : Answer
-no_answer = record {
-  outs = record { items = [] };
-  notes = record { items = [] };
-  page = record { items = [] };
-}
 
 -- the answer of these moves
 abbrev pub answer_by : State → List Action → Answer

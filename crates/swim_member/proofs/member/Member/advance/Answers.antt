@@ -1,23 +1,18 @@
-use Rattle.std.proofs.Common.{◌≡◌, ◌+◌, ◌<◌, ◌^◌, ap, ◌∙◌, List, arith, rules}
-use Rattle.std.specs.List.{filter}
-use Rattle.arrayvec.proofs.ArrayVecLemmas.{filter-from_retain}
+use Rattle.std.proofs.Common.{◌+◌, ◌<◌, ◌^◌, ap, ◌∙◌, List, arith, rules}
 use Rattle.swim_member.specs.contracts.member.Member.{the_view}
 use Rattle.swim_member.specs.declared.state.Relay.{Relay}
 use Rattle.swim_member.specs.State.{Ticked}
-use Rattle.swim_member.specs.Machinery.Steps.{apply, is_live}
+use Rattle.swim_member.specs.Machinery.Steps.{apply}
 use Rattle.swim_member.proofs.Keeping.{keep-made}
 use Rattle.swim_member.proofs.Bases.{live-kept}
 use Rattle.swim_member.proofs.member.Member.advance.Goals as goal
 
-left : (c : goal.After-retain) → c.retain.new.self.items ≡ filter (is_live (c.self.inside.time + 1) c.self.inside.settings.period) c.self.inside.relays.items
-left c = filter-from_retain _ _ _ (λ x b f' y called. search rules) _ _ c.retain.ensures.filtered
-
 pub invariant_of-self : goal.invariant_of-self
 invariant_of-self c =
     let below : c.self.inside.time < 2 ^ 62 = search rules in
-    keep-made c.self.inside.settings c.self.inside.number c.self.inside.time (c.self.inside.time + 1) c.self.inside.table c.self.inside.buffer c.self.inside.relays.items c.retain.new.self.items
-    (omega arith) (live-kept (c.self.inside.time + 1) c.self.inside.settings.period c.self.inside.relays.items c.retain.new.self.items (left c)) c.self.invariant
+    keep-made c.self.inside.settings c.self.inside.number c.self.inside.time (c.self.inside.time + 1) c.self.inside.table c.self.inside.buffer c.self.inside.relays.items c.keep_live.new.relays.items
+    (omega arith) (live-kept (c.self.inside.time + 1) c.self.inside.settings.period c.self.inside.relays.items c.keep_live.new.relays.items c.keep_live.ensures) c.self.invariant
 
 pub returns : goal.returns
 returns c =
-    ap (λ (r : List Relay). record (the_view c.self.inside) { time = c.self.inside.time + 1; relays = r }) (left c) ∙ ap (apply Ticked) c.self.view_is
+    ap (λ (r : List Relay). record (the_view c.self.inside) { time = c.self.inside.time + 1; relays = r }) c.keep_live.ensures ∙ ap (apply Ticked) c.self.view_is

@@ -1,11 +1,12 @@
-use Rattle.std.proofs.Common.{◌≡◌, ◌≤◌, ◌++◌, List, map, take, length, ap, sym, ◌∙◌, nat_lt, Some, arith}
+use Rattle.std.proofs.Common.{◌≡◌, ◌≤◌, ◌++◌, List, map, take, length, ap, sym, ◌∙◌, nat_lt, refl, Some, arith}
 use Rattle.std.specs.List.{filter}
 use Rattle.swim_rules.specs.declared.table.Row.{Row}
 use Rattle.swim_rules.specs.Rows.{is_eligible}
-use Rattle.swim_member.specs.declared.answer.Out.{Out}
 use Rattle.swim_member.specs.State.{State}
-use Rattle.swim_member.specs.Events.{row_name, helpers_about}
+use Rattle.swim_member.specs.Member.{row_name}
+use Rattle.swim_member.specs.Probe.{helpers_about}
 use Rattle.swim_member.specs.Machinery.Steps.{asked_probe}
+use Rattle.swim_member.proofs.Adding.{adds-as}
 use Rattle.swim_member.proofs.Asking.{asks-all-state, asks-all-outs}
 use Rattle.swim_member.proofs.member.Member.ask_all.Goals as goal
 
@@ -27,6 +28,10 @@ pub returns-in-Some-clause-state : goal.returns-in-Some-clause-state
 returns-in-Some-clause-state c =
     c.ask_each.ensures.state ∙ sym (asks-all-state c.args.self.now c.in-Some.probe c.deref.result.now (is_asking c) (helpers c) (room c))
 
-pub returns-in-Some-clause-outs : goal.returns-in-Some-clause-outs
-returns-in-Some-clause-outs c =
-    c.ask_each.ensures.outs ∙ ap (λ (os : List Out). c.args.outs.now.items ++ os) (sym (asks-all-outs c.args.self.now c.in-Some.probe c.deref.result.now (is_asking c) (helpers c) (room c)))
+pub returns-in-Some-clause-answer : goal.returns-in-Some-clause-answer
+returns-in-Some-clause-answer c =
+    let few : length c.deref.result.now ≤ c.args.self.now.settings.helpers =
+    let count : length c.deref.result.now ≡ length c.helpers_about-helpers.result.items = ap length c.deref.ensures.0 in
+    let same : c.self.inside.settings.helpers ≡ c.args.self.now.settings.helpers = ap (λ (s : State). s.settings.helpers) c.self.view_is in
+    omega (arith, c.helpers_about-helpers.ensures.room) in
+    adds-as _ _ _ _ _ _ _ _ _ _ (sym (asks-all-outs c.args.self.now c.in-Some.probe c.deref.result.now (is_asking c) (helpers c) (room c))) few refl c.ask_each.ensures.answer

@@ -1,5 +1,5 @@
 use Rattle.std.proofs.Common.{sym}
-use Rattle.swim_member.specs.Events.{is_update_after}
+use Rattle.swim_member.specs.Join.{is_update_after}
 use Rattle.swim_member.proofs.Lows.{say-paged}
 use Rattle.swim_member.proofs.member.Member.page_after.Goals as goal
 

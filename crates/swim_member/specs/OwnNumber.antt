@@ -1,0 +1,98 @@
+-- The own number: what updates about oneself ask of it, and what becomes of it.
+use Rattle.std.specs.List.{list_any}
+use Rattle.std.specs.Prelude.{ℕ, ◌+◌, ◌-◌, ◌==◌, ◌&&◌, ◌||◌, nat_lt, nat_le, max, Bool, not, List}
+use Rattle.std.specs.Prelude.{[], ◌∷◌, if◌then◌else◌, Option, Some, None}
+use Rattle.swim_member.specs.State.{State, Change, Queued, NumberRaised, Became, Noted}
+use Rattle.swim_member.specs.declared.own_number.OwnNumber.{OwnNumber}
+use Rattle.swim_member.specs.declared.own_number.OwnNumber.TheVariants.{Stays, Wanted, Confirmed}
+use Rattle.swim_member.specs.declared.own_number.Suspicion.{Suspicion}
+use Rattle.swim_member.specs.declared.own_number.Suspicion.TheVariants.{Passed, Leap, Last}
+use Rattle.swim_member.specs.declared.own_number.Suspicion.TheVariants.{Refutable}
+use Rattle.swim_member.specs.declared.state.Phase.{Phase}
+use Rattle.swim_member.specs.declared.state.Phase.TheVariants.{Running, Left, Expelled}
+use Rattle.swim_rules.specs.Rows.{is_kind}
+use Rattle.swim_wire.specs.declared.update.TheConstants.{LEAP, NUMBER_MAX}
+use Rattle.swim_wire.specs.declared.update.Update.{Update}
+use Rattle.swim_wire.specs.declared.update.UpdateKind.{UpdateKind}
+use Rattle.swim_wire.specs.declared.update.UpdateKind.TheVariants.{Alive, Suspect, Confirm}
+use Rattle.swim_member.specs.declared.note.Note.TheVariants as note
+
+-- the kind of the own update, by the phase
+abbrev pub own_kind : Phase → UpdateKind
+own_kind Running = Alive
+own_kind Left = Confirm
+own_kind Expelled = Confirm
+
+-- the own update of this kind and number
+abbrev pub own_with : State → UpdateKind → ℕ → Update
+own_with s kind n = record { kind = kind; who = s.settings.me; number = n }
+
+-- the own update, which a page has in its order
+abbrev pub own : State → Update
+own s = own_with s (own_kind s.phase) s.number
+
+-- Which suspicions count
+
+-- what an update about oneself means for the own number
+abbrev pub suspicion_of : ℕ → Update → Suspicion
+suspicion_of old u =
+    if not (is_kind Suspect u.kind) || nat_lt u.number old then Passed
+    else (if nat_lt LEAP (u.number - old) then Leap
+    else (if nat_le NUMBER_MAX u.number then Last else Refutable))
+
+-- a suspicion that asks for too much is noted
+abbrev pub note_of : Suspicion → List Change
+note_of Passed = []
+note_of Leap = Noted note.Leap ∷ []
+note_of Last = Noted note.NoNumberLeft ∷ []
+note_of Refutable = []
+
+-- an update about oneself
+abbrev pub hear_own : ℕ → Update → List Change
+hear_own old u = note_of (suspicion_of old u)
+
+-- the number that refutes a suspicion of n, or 0 where it does not count
+abbrev pub refuting : Suspicion → ℕ → ℕ
+refuting Refutable n = n + 1
+refuting _ n = 0
+
+-- What is asked for
+
+-- the number that an update asks for, or 0
+abbrev pub number_asked : ℕ → ℕ → Update → ℕ
+number_asked me old u = if u.who == me then refuting (suspicion_of old u) u.number else 0
+
+-- the greatest number that is asked for, or 0
+abbrev pub greatest_asked : ℕ → ℕ → List Update → ℕ
+greatest_asked me old [] = 0
+greatest_asked me old (u ∷ updates) = max (number_asked me old u) (greatest_asked me old updates)
+
+-- one of them is a Confirm about me
+abbrev pub has_confirm : ℕ → List Update → Bool
+has_confirm me updates = list_any (λ u. u.who == me && is_kind Confirm u.kind) updates
+
+-- what the updates of a datagram ask of the own number: a Confirm
+-- about oneself ends it, and else the greatest number is wanted
+abbrev pub own_number_by : State → List Update → OwnNumber
+own_number_by s updates =
+    if has_confirm s.settings.me updates then Confirmed
+    else (if greatest_asked s.settings.me s.number updates == 0 then Stays
+    else Wanted (greatest_asked s.settings.me s.number updates))
+
+-- the number that is wanted, or none
+abbrev pub wanted_number : OwnNumber → Option ℕ
+wanted_number Stays = None
+wanted_number (Wanted n) = Some n
+wanted_number Confirmed = None
+
+-- What becomes of it
+
+-- after the updates of a datagram: a suspicion is refuted if the granted
+-- ceiling allows the wanted number; a Confirm about oneself expels
+abbrev pub settle_number : State → OwnNumber → ℕ → List Change
+settle_number s Stays granted = []
+settle_number s (Wanted n) granted =
+    if nat_le n granted then Queued (own_with s Alive n) ∷ NumberRaised n ∷ []
+    else Noted note.SaveFailed ∷ []
+settle_number s Confirmed granted =
+    Noted note.Expelled ∷ Queued (own_with s Confirm s.number) ∷ Became Expelled ∷ []

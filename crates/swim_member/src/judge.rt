@@ -1,0 +1,133 @@
+//! Judging: what a member makes of an event before it acts. Bytes are decoded here and nowhere else, and what an event
+//! wants is found here, so that it can be saved before the member acts.
+
+ghost use Rattle.std.specs.Prelude.{◌≡◌, ◌≤◌, ◌^◌, Ok, IfSome};
+ghost use Rattle.swim_wire.specs.declared.update.TheConstants.{NUMBER_MAX};
+ghost use Rattle.swim_wire.specs.Spelling.{HasText};
+ghost use Rattle.swim_wire.specs.Decoding.{decoded};
+ghost use Rattle.swim_member.specs.Judge.{refusal_of, judge_bytes, judge_stopped, judge, number_wanted, wanted, MayAct};
+
+use crate::event::Event;
+use crate::member::Member;
+use crate::note::Note;
+use crate::own_number::OwnNumber;
+use crate::state::Phase;
+use crate::tick::LAST_TIME;
+use swim_wire::{Cursor, Datagram, Endpoint, decode};
+
+/// What a member makes of an event before it acts on it.
+#[derive(Drop)]
+pub enum Judgement {
+    /// Nothing is done but to take this note.
+    Note(Note),
+    /// Time goes on.
+    Tick {
+        /// The random word, which chooses whom to probe.
+        word: u32,
+    },
+    /// A datagram is accepted.
+    Datagram {
+        /// What was received.
+        datagram: Datagram,
+        /// What its updates ask of the own number.
+        own: OwnNumber,
+    },
+    /// Another member is to be asked for all that it knows.
+    Join {
+        /// Whom to ask.
+        peer: Endpoint,
+    },
+    /// The group is to be left.
+    Leave,
+    /// Members are to be shown.
+    Members {
+        /// The cursor after which they begin.
+        after: Cursor,
+    },
+}
+
+impl Judgement {
+    /// The number that the event wants for the member, or none: at most `NUMBER_MAX`.
+    pub fn wanted(&self) -> Option<u64>
+        ensures { result ≡ number_wanted self.now }
+    {
+        match self {
+            Judgement::Datagram { datagram: _, own } => own.wanted(),
+            _ => None,
+        }
+    }
+}
+
+impl Member {
+    /// What refuses a datagram that came from here, if anything does.
+    fn refusal_of(&self, from: Endpoint, datagram: &Datagram) -> Option<Note>
+        ensures { result ≡ refusal_of self.now.settings from datagram.now }
+    {
+        if datagram.group != self.settings.group {
+            Some(Note::OtherGroup)
+        } else if datagram.sender != from {
+            Some(Note::NotSender)
+        } else if datagram.sender == self.settings.me {
+            Some(Note::FromSelf)
+        } else {
+            None
+        }
+    }
+
+    /// Judges an event of a member that takes no part: it shows its members, and notes everything else.
+    fn judge_stopped(event: &Event) -> Judgement
+        ensures { result ≡ judge_stopped event.now }
+    {
+        match event {
+            Event::Members { after } => Judgement::Members { after: *after },
+            _ => Judgement::Note(Note::Stopped),
+        }
+    }
+
+    /// Judges received bytes. The datagram goes straight from its decoding to where it is given back.
+    fn judge_bytes(&self, from: Endpoint, bytes: &[u8]) -> Judgement
+        ensures value { result ≡ judge_bytes self.now from (decoded bytes.now) }
+        ensures sound { MayAct self.now result }
+    {
+        let datagram = match decode(bytes) {
+            Err(fault) => return Judgement::Note(Note::BadDatagram(fault)),
+            Ok(datagram) => datagram,
+        };
+        if let Some(note) = self.refusal_of(from, &datagram) {
+            return Judgement::Note(note);
+        }
+        let own = self.own_number_by(&datagram.updates);
+        Judgement::Datagram { datagram, own }
+    }
+
+    /// Judges an event before the member acts on it: what it wants may be saved first.
+    pub fn judge(&self, event: &Event) -> Judgement
+        ensures value { result ≡ judge self.now event.now }
+        ensures sound { MayAct self.now result }
+        ensures bound { IfSome (number_wanted result) (λ n. n ≤ NUMBER_MAX) }
+    {
+        if self.phase != Phase::Running {
+            return Member::judge_stopped(event);
+        }
+        match event {
+            Event::Tick { word: _ } if self.time == LAST_TIME => Judgement::Note(Note::TimeOver),
+            Event::Tick { word } => Judgement::Tick { word: *word },
+            // as a value of the match it would be moved once more
+            Event::Datagram { from, bytes } => return self.judge_bytes(*from, bytes),
+            Event::ReceiveFailed => Judgement::Note(Note::ReceiveFailed),
+            Event::SendFailed { count } => Judgement::Note(Note::SendFailed(*count)),
+            Event::Join { peer } => Judgement::Join { peer: *peer },
+            Event::Leave => Judgement::Leave,
+            Event::Members { after } => Judgement::Members { after: *after },
+        }
+    }
+
+    /// The number that an event wants for this member, or none. The ceiling that is granted for the
+    /// step decides whether the member gets it.
+    pub fn plan(&self, event: &Event) -> Option<u64>
+        ensures value { result ≡ wanted self.now event.now }
+        ensures bound { IfSome result (λ n. n ≤ NUMBER_MAX) }
+    {
+        self.judge(event).wanted()
+    }
+}
