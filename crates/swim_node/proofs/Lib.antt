@@ -1,5 +1,4 @@
 pub mod Lists
-pub mod Wants
 pub mod Nodes
 pub mod Lives
 pub mod Living

@@ -6,7 +6,8 @@ use Rattle.std.proofs.lemmas.List.Elements.{All-append, All-cons, All-nil}
 use Rattle.swim_member.specs.declared.settings.Settings.{Settings}
 use Rattle.swim_member.specs.declared.event.Event.{Event}
 use Rattle.swim_member.specs.State.{State}
-use Rattle.swim_member.specs.Events.{Step, state_of, wanted, number_after}
+use Rattle.swim_member.specs.Events.{Step, state_of, number_after}
+use Rattle.swim_member.specs.Judge.{wanted}
 use Rattle.swim_member.specs.Fit.{AreAll, own_numbers_in}
 use Rattle.swim_node.specs.declared.entry.Entry.{Entry}
 use Rattle.swim_node.specs.declared.entry.Save.{Save}
@@ -16,7 +17,6 @@ use Rattle.swim_node.specs.Machinery.Entering.{Steps}
 use Rattle.swim_node.specs.Sending.{HasTexts}
 use Rattle.swim_node.specs.Owns.{owns, owns_in, AreAtMost, AreAtLeast, greatest_of, greatest_with, greater_of}
 use Rattle.swim_node.specs.Node.{IsNode, IsTurn}
-use Rattle.swim_node.proofs.Wants.{number-grown}
 use Rattle.swim_node.proofs.Lists.{steps-append, granted_from-append, owns_in-append, at_most-append, at_most-more, at_least-append, all-at_most, all-at_least, greatest_with-append}
 
 next-snoc : (base : Base) (before xs : List Entry) (e : Entry) → AreNext base before xs → IsNext base (before ++ xs) e → AreNext base before (xs ++ e ∷ [])
@@ -93,7 +93,7 @@ module _ (base : Base) (xs : List Entry) (e : Entry) (first : ℕ) (old new : St
   node-snoc n h room =
       let you : new.settings.me ≡ base.state.settings.me = ap (λ (s : Settings). s.me) (h.steps.settings ∙ n.settings) in
       let under : new.number ≤ high = rw (h.steps.number, ← h.granted) (number-low (wanted old e.event) e.granted old.number (omega (arith, n.low, h.grows, h.granted))) in
-      let over : first ≤ new.number = rw h.steps.number (let grown : old.number ≤ number_after (wanted old e.event) e.granted old.number = number-grown old e.event e.granted in omega (arith, grown, n.high)) in
+      let over : first ≤ new.number = let grown : old.number ≤ new.number = h.steps.grows in omega (arith, grown, n.high) in
       let said : AreAll new.number (own_numbers_in base.state.settings.me e.outs.items) = said-new n h in
       record {
         legal = legal-snoc base xs e n.legal (next-entered n h) room;

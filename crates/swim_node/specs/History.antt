@@ -7,7 +7,9 @@ use Rattle.swim_rules.specs.Rows.{is_of_kind}
 use Rattle.swim_member.specs.declared.answer.Answer.{Answer}
 use Rattle.swim_member.specs.declared.settings.Settings.{Settings}
 use Rattle.swim_member.specs.State.{State}
-use Rattle.swim_member.specs.Events.{Step, state_of, answer, wanted, new_state}
+use Rattle.swim_member.specs.Events.{Step, state_of, answer}
+use Rattle.swim_member.specs.Judge.{wanted}
+use Rattle.swim_member.specs.Member.{new_state}
 use Rattle.swim_node.specs.declared.entry.Entry.{Entry}
 use Rattle.swim_node.specs.declared.entry.Status.{Status}
 use Rattle.swim_node.specs.declared.entry.Save.{Save}

@@ -4,9 +4,10 @@ use Rattle.std.specs.Prelude.{Ok, Err, Option}
 use Rattle.swim_disk.specs.Disk.{DiskState as DiskState}
 use Rattle.swim_state.specs.declared.owner.Owner.{Owner}
 use Rattle.swim_member.specs.State.{State}
+use Rattle.swim_member.specs.declared.answer.Answer.{Answer}
 use Rattle.swim_member.specs.declared.event.Event.{Event}
 use Rattle.swim_member.specs.declared.settings.Settings.{Settings}
-use Rattle.swim_member.specs.Events.{wanted}
+use Rattle.swim_member.specs.Judge.{wanted}
 use Rattle.swim_member.specs.Fit.{AreAll, own_numbers_in}
 use Rattle.swim_node.specs.declared.opening.TheConstants.{LIMIT_MAX}
 use Rattle.swim_node.specs.declared.base.Base.{Base as Start}
@@ -92,22 +93,26 @@ abbrev pub disk_of : {D : Type 0} → Result (NodeView D) (D × OpenFault) → D
 disk_of (Ok node) = node.disk
 disk_of (Err refused) = refused.0
 
--- the entry of a call that did this, with the status after it
-abbrev pub entry_with : Tag → Event → Done → Status → Entry
-entry_with tag event done status = record {
+-- what the caller is told of a call that did this, with the status after it
+abbrev pub reply_with : Done → Answer → Status → Reply
+reply_with done answer status = record {
+  status = status;
+  notes = answer.notes;
+  page = answer.page;
+  sent = taken_in done.outcomes.items;
+  lost = lost_in done.outcomes.items;
+}
+
+-- the entry of a call that did this, with what the member answered and the status after it
+abbrev pub entry_with : Tag → Event → Done → Answer → Status → Entry
+entry_with tag event done answer status = record {
   tag = tag;
   event = event;
   granted = done.granted;
   save = done.save;
-  outs = done.outs;
+  outs = answer.outs;
   outcomes = done.outcomes;
-  reply = record {
-    status = status;
-    notes = done.notes;
-    page = done.page;
-    sent = taken_in done.outcomes.items;
-    lost = lost_in done.outcomes.items;
-  };
+  reply = reply_with done answer status;
 }
 
 -- one entry came: this caller's, with this event and this reply

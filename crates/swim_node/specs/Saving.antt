@@ -1,5 +1,5 @@
 -- What a save does to a store.
-use Rattle.std.specs.Prelude.{◌≡◌, ◌≢◌, ◌⊎◌, ℕ, ◌+◌, ◌-◌, ◌≤◌, ◌^◌, Bool, true, false, Option}
+use Rattle.std.specs.Prelude.{◌≡◌, ◌≢◌, ◌⊎◌, ℕ, ◌+◌, ◌-◌, ◌≤◌, Bool, true, false, Option}
 use Rattle.std.specs.Prelude.{Some, None}
 use Rattle.swim_disk.specs.Disk.{DiskState as DiskState, Rests}
 use Rattle.swim_state.specs.File.{floor}

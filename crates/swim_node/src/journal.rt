@@ -1,30 +1,40 @@
-//! The entries of an era, and how many each caller has.
+//! The entries of an era, and how many each caller has. Entries are large and stay where they are: an era that begins
+//! in the block of one before fills its places anew.
 
 ghost use Rattle.std.specs.Prelude.{◌≡◌, ◌+◌, ◌<◌, ◌≤◌, ◌++◌, ◌∷◌, [], length, OnOk};
 ghost use Rattle.swim_node.specs.declared.opening.TheConstants.{LIMIT_MAX};
 ghost use Rattle.swim_node.specs.History.{calls_by};
+ghost use Rattle.swim_node.specs.Node.{entry_with};
 
-use crate::Entry;
+use crate::entering::Done;
+use crate::filling::fill;
+use crate::{Entry, Reply, Save, Status, Tag};
+use arrayvec::ArrayVec;
 use std::alloc::{AllocError, Global};
 use std::marker::Model;
 use std::mem;
+use swim_member::{Answer, Event, Phase};
 
 /// The entries of an era.
 #[derive(Drop)]
 pub(crate) struct Journal {
-    entries: Vec<Entry>,
+    /// The places that were ever filled, of this era and of those before it.
+    places: Vec<Entry>,
+    /// How many of them this era has filled.
+    len: usize,
     turns: [u32; 16],
 }
 
 impl Model for Journal {
-    ghost use Rattle.swim_node.specs.Machinery.Turns.{JournalView, AreTurns};
-    ghost use Rattle.std.specs.Prelude.{vec_capacity};
+    ghost use Rattle.swim_node.specs.Machinery.Turns.{JournalView, journal_of, AreTurns};
+    ghost use Rattle.std.specs.Prelude.{◌≤◌, length, take};
 
     ghost Value = { JournalView };
 
-    ghost view = { λ j. record { entries = j.entries.items; room = vec_capacity j.entries } };
+    ghost view = { λ j. journal_of j.len j.places.items };
 
-    ghost invariant = { λ j. AreTurns j.turns j.entries.items };
+    ghost invariant = { λ j. (j.len ≤ length j.places.items)
+        × AreTurns j.turns (take j.len j.places.items) };
 }
 
 impl Journal {
@@ -32,29 +42,65 @@ impl Journal {
         ensures { result.entries ≡ [] }
     {
         Journal {
-            entries: Vec::new(alloc),
+            places: Vec::new(alloc),
+            len: 0,
             turns: [0; 16],
         }
     }
 
-    /// Takes a place for one more entry. A full block grows to twice its room, by a `realloc`, which moves the pages
+    /// Takes a place for one more entry, if the one after the last was never filled. A full block grows to twice its room, by a `realloc`, which moves the pages
     /// of a large block and copies none of its entries: an era of 65,536 has 589 MiB.
     pub(crate) fn reserve(&mut self) -> Result<(), AllocError>
         ensures entries { self.new.entries ≡ self.old.entries }
         ensures ok { OnOk result (length self.new.entries < self.new.room) }
     {
-        self.entries.reserve(1)
+        if self.len == self.places.len() {
+            self.places.reserve(1)?;
+            // written where it is made: a function that gave it back would move it twice more
+            self.places.push_reserved(Entry {
+                tag: Tag { caller: 0, turn: 0 },
+                event: Event::Leave,
+                granted: 0,
+                save: Save::Kept,
+                outs: ArrayVec::new(),
+                outcomes: ArrayVec::new(),
+                reply: Reply {
+                    status: Status {
+                        phase: Phase::Running,
+                        number: 0,
+                        alive: 0,
+                        suspect: 0,
+                        confirmed: 0,
+                        length: 0,
+                    },
+                    notes: ArrayVec::new(),
+                    page: ArrayVec::new(),
+                    sent: 0,
+                    lost: 0,
+                },
+            });
+        }
+        Ok(())
     }
 
-    /// Adds an entry in a place that was taken before.
-    pub(crate) fn push(&mut self, entry: Entry)
+    /// Adds the entry of a call, with the status after it, in a place that was taken before.
+    pub(crate) fn add(
+        &mut self,
+        tag: Tag,
+        event: Event,
+        done: Done,
+        answer: &mut Answer,
+        status: Status,
+    )
         requires room { length self.old.entries < self.old.room }
         requires few { length self.old.entries < LIMIT_MAX }
-        requires caller { entry.tag.caller < 16 }
-        ensures { self.new.entries ≡ self.old.entries ++ entry ∷ [] }
+        requires caller { tag.caller < 16 }
+        ensures { self.new.entries
+            ≡ self.old.entries ++ entry_with tag event done answer.old status ∷ [] }
     {
-        self.turns[entry.tag.caller as usize] += 1;
-        self.entries.push_reserved(entry);
+        self.turns[tag.caller as usize] += 1;
+        fill(&mut self.places[self.len], tag, event, done, answer, status);
+        self.len += 1;
     }
 
     /// How many entries a caller has.
@@ -71,7 +117,7 @@ impl Journal {
     pub(crate) fn entries(&self) -> &[Entry]
         ensures { result.now ≡ self.now.entries }
     {
-        self.entries.as_slice()
+        &self.places[..self.len]
     }
 
     /// Gives all entries away, with their block. It takes no memory.
@@ -79,16 +125,18 @@ impl Journal {
         ensures entries { result.items ≡ self.old.entries }
         ensures empty { self.new.entries ≡ [] }
     {
-        let alloc = *self.entries.allocator();
+        let alloc = *self.places.allocator();
+        self.places.truncate(self.len);
+        self.len = 0;
         self.turns = [0; 16];
-        mem::replace(&mut self.entries, Vec::new(alloc))
+        mem::replace(&mut self.places, Vec::new(alloc))
     }
 
-    /// Removes all entries. The block stays.
+    /// Removes all entries. Their places stay.
     pub(crate) fn clear(&mut self)
         ensures { self.new.entries ≡ [] }
     {
-        self.entries.clear();
+        self.len = 0;
         self.turns = [0; 16];
     }
 }

@@ -9,6 +9,7 @@ mod entering;
 mod entry;
 mod era;
 mod fault;
+mod filling;
 mod journal;
 mod laws;
 mod link;

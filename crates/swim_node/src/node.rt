@@ -6,20 +6,20 @@ ghost use Rattle.swim_node.specs.declared.opening.TheConstants.{LIMIT_MAX};
 ghost use Rattle.swim_node.specs.History.{calls_by, status_at, status_of, IsLegal, granted_of};
 ghost use Rattle.swim_node.specs.Owns.{owns, AreAtMost, AreAtLeast};
 ghost use Rattle.swim_node.specs.Lives.{EndsEra, GoesOn, MayEnd};
-ghost use Rattle.swim_node.specs.Node.{Added, IsTurn, Refused, base_of, entry_with, next_base};
+ghost use Rattle.swim_node.specs.Node.{Added, IsTurn, Refused, base_of, next_base};
 ghost use Rattle.swim_node.specs.Sending.{Sends, HasTexts};
 ghost use Rattle.swim_member.specs.Events.{state_of};
 
 use crate::base::Base;
 use crate::copies::copy_reply;
-use crate::counts::{count_lost, count_taken, greatest_own};
-use crate::entering::{Done, enter};
+use crate::counts::greatest_own;
+use crate::entering::enter;
 use crate::journal::Journal;
 use crate::{ApplyFault, Entry, Era, Link, Reply, Status, Tag};
 use std::marker::Model;
 use std::mem;
 use swim_disk::Disk;
-use swim_member::{Event, Member};
+use swim_member::{Answer, Event, Member};
 use swim_state::Store;
 
 /// A member with its state file and its journal.
@@ -31,6 +31,8 @@ pub struct Node<D: Disk> {
     pub(crate) store: Store<D>,
     pub(crate) first: u64,
     pub(crate) most: Option<u64>,
+    /// What the member says at the next call. It stays where it is, as it is large.
+    pub(crate) answer: Answer,
 }
 
 impl<D: Disk> Model for Node<D> {
@@ -79,28 +81,6 @@ fn base_at(member: &Member, granted: u64, past: Option<u64>, limit: u32) -> Base
         granted,
         past,
         limit,
-    }
-}
-
-/// The entry of a call that did this, with the status after it.
-fn entry_of(tag: Tag, event: Event, done: Done, status: Status) -> Entry
-    ensures { result ≡ entry_with tag event done status }
-{
-    let reply = Reply {
-        status,
-        notes: done.notes,
-        page: done.page,
-        sent: count_taken(&done.outcomes),
-        lost: count_lost(&done.outcomes),
-    };
-    Entry {
-        tag,
-        event,
-        granted: done.granted,
-        save: done.save,
-        outs: done.outs,
-        outcomes: done.outcomes,
-        reply,
     }
 }
 
@@ -183,6 +163,7 @@ impl<D: Disk> Node<D> {
             store,
             first: _,
             most: _,
+            answer: _,
         } = self;
         store.into_disk()
     }
@@ -300,12 +281,17 @@ impl<D: Disk> Node<D> {
         if self.journal.reserve().is_err() {
             return Err(ApplyFault::NoMemory);
         }
-        let done = enter(&mut self.member, &mut self.store, link, &event);
-        self.most = greatest_own(&done.outs, self.member.settings().me, self.most);
+        let done = enter(
+            &mut self.member,
+            &mut self.store,
+            link,
+            &event,
+            &mut self.answer,
+        );
+        self.most = greatest_own(&self.answer.outs, self.member.settings().me, self.most);
         let status = status_now(&self.member, self.journal.entries().len() + 1);
-        let entry = entry_of(tag, event, done, status);
-        let told = copy_reply(&entry.reply);
-        self.journal.push(entry);
-        Ok(told)
+        self.journal.add(tag, event, done, &mut self.answer, status);
+        let entries = self.journal.entries();
+        Ok(copy_reply(&entries[entries.len() - 1].reply))
     }
 }

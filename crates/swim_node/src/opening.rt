@@ -18,7 +18,7 @@ use crate::journal::Journal;
 use crate::{Node, OpenFault};
 use std::alloc::Global;
 use swim_disk::Disk;
-use swim_member::{Member, Settings};
+use swim_member::{Answer, Member, Settings};
 use swim_state::{Owner, recover};
 
 /// The most entries that an era may have.
@@ -124,6 +124,7 @@ impl<D: Disk> Node<D> {
                     store,
                     first,
                     most: None,
+                    answer: Answer::nothing(),
                 })
             }
         }
