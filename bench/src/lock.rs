@@ -189,7 +189,7 @@ pub fn run(program: &Path, part: &str) -> io::Result<()> {
     }
     for (load, (_, least)) in loads.iter().zip(&figures.0) {
         match least.plain {
-            Some(plain) => table::row(&load.name, least.proved, plain, load.bar, ""),
+            Some(plain) => table::row(&load.name, least.proved, plain, load.bar),
             None => table::row_alone(&load.name, least.proved),
         }
     }

@@ -1,8 +1,12 @@
-//! The proved crates beside plain Rust of the same work: nanoseconds, ratios, allocations. `bench/run` builds and runs it,
-//! with the program that saves, the one that calls a shared member and a folder for the state files as its words, and then a
-//! part of the cases' names, if any.
+//! The proved crates beside plain and tight Rust of the same work: nanoseconds, ratios, allocations. `bench/run` builds and
+//! runs it, with the program that saves, the one that calls a shared member and a folder for the state files as its words, and
+//! then a part of the cases' names, if any. Built by `bench/bytes` it counts bytes in place of nanoseconds.
+
+#![cfg_attr(feature = "bytes", allow(dead_code))]
 
 mod allocations;
+#[cfg(feature = "bytes")]
+mod bytes;
 mod cases;
 mod lock;
 mod measure;
@@ -11,6 +15,7 @@ mod proved;
 mod save;
 mod scene;
 mod table;
+mod tight;
 
 use std::env;
 use std::io;
@@ -34,19 +39,13 @@ fn run(saving: &Path, calling: &Path, folder: &Path, part: &str) -> io::Result<(
     for mut case in cases::cases() {
         if case.name.contains(part) {
             measure::check(&mut case);
-            let (proved, plain) = measure::measure(&mut case, ROUNDS);
-            table::row(
-                &case.name,
-                proved.nanos,
-                plain.nanos,
-                case.bar,
-                &table::counts(proved, plain),
-            );
+            let figures = measure::measure(&mut case, ROUNDS);
+            table::row_of(&case.name, figures, case.bar);
         }
     }
     if SAVE.contains(part) {
         let (proved, plain) = save::measure(saving, folder, SAVE_ROUNDS)?;
-        table::row(SAVE, proved, plain, Some(1.05), "");
+        table::row(SAVE, proved, plain, Some(1.05));
     }
     for block in BLOCKS {
         let name = format!("refutation over a file, blocks of {block}");
@@ -55,12 +54,23 @@ fn run(saving: &Path, calling: &Path, folder: &Path, part: &str) -> io::Result<(
             table::row_alone(&name, proved);
         }
     }
-    lock::run(calling, part)
+    lock::run(calling, part)?;
+    if "apply".contains(part) || part.contains("apply") {
+        println!();
+        cases::print_entries();
+    }
+    Ok(())
 }
 
-fn main() -> ExitCode {
-    let words: Vec<String> = env::args().skip(1).collect();
-    let (saving, calling, folder, part) = match words.as_slice() {
+#[cfg(feature = "bytes")]
+fn start(words: &[String]) -> ExitCode {
+    bytes::print(words.first().map_or("", String::as_str));
+    ExitCode::SUCCESS
+}
+
+#[cfg(not(feature = "bytes"))]
+fn start(words: &[String]) -> ExitCode {
+    let (saving, calling, folder, part) = match words {
         [saving, calling, folder] => (saving, calling, folder, ""),
         [saving, calling, folder, part] => (saving, calling, folder, part.as_str()),
         _ => {
@@ -75,4 +85,8 @@ fn main() -> ExitCode {
             ExitCode::FAILURE
         }
     }
+}
+
+fn main() -> ExitCode {
+    start(&env::args().skip(1).collect::<Vec<String>>())
 }

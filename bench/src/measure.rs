@@ -1,4 +1,4 @@
-//! Both sides of a case, checked and timed in turns.
+//! The sides of a case, checked and timed in turns.
 
 use crate::allocations;
 use crate::cases::{Case, Turns};
@@ -12,7 +12,7 @@ const ROOM: usize = 4096;
 pub struct Figure {
     /// The least nanoseconds of a turn.
     pub nanos: f64,
-    /// The calls that took memory.
+    /// The calls that took memory in the timed turns.
     pub allocations: u64,
 }
 
@@ -22,11 +22,18 @@ fn run(side: &mut Turns, turns: u32) -> (u64, [u8; ROOM]) {
     (count, out)
 }
 
-/// Stops where the two sides differ after some number of turns.
+/// Stops where a side differs from the proved one after some number of turns.
 pub fn check(case: &mut Case) {
     for turns in (0..40).chain([100, 300, case.warm + case.turns]) {
-        let alike = run(&mut case.proved, turns) == run(&mut case.plain, turns);
-        assert!(alike, "{}: the sides differ after {turns} turns", case.name);
+        let proved = run(&mut case.proved, turns);
+        for (side, turned) in [("plain", &mut case.plain), ("tight", &mut case.tight)] {
+            let alike = run(turned, turns) == proved;
+            assert!(
+                alike,
+                "{}: the {side} side differs after {turns} turns",
+                case.name
+            );
+        }
     }
 }
 
@@ -46,19 +53,22 @@ impl Least {
         }
     }
 
-    fn timed(&mut self, side: &mut Turns, turns: u32) -> f64 {
+    /// The nanoseconds of a run, and how often it took memory.
+    fn timed(side: &mut Turns, turns: u32) -> (f64, u64) {
         let before = allocations::calls();
         let mut out = [0; ROOM];
         let start = Instant::now();
         std::hint::black_box(side(turns, &mut out));
         let nanos = start.elapsed().as_nanos() as f64;
-        self.allocations += allocations::calls() - before;
-        nanos
+        (nanos, allocations::calls() - before)
     }
 
     fn round(&mut self, side: &mut Turns, warm: u32, turns: u32) {
-        self.before = self.timed(side, warm).min(self.before);
-        self.full = self.timed(side, warm + turns).min(self.full);
+        let (before, few) = Least::timed(side, warm);
+        let (full, all) = Least::timed(side, warm + turns);
+        self.before = before.min(self.before);
+        self.full = full.min(self.full);
+        self.allocations += all - few;
     }
 
     fn figure(&self, turns: u32) -> Figure {
@@ -69,12 +79,14 @@ impl Least {
     }
 }
 
-/// The proved and the plain side's figures, in so many rounds.
-pub fn measure(case: &mut Case, rounds: u32) -> (Figure, Figure) {
-    let (mut proved, mut plain) = (Least::new(), Least::new());
+/// The figures of the proved, the plain and the tight side, in so many rounds.
+pub fn measure(case: &mut Case, rounds: u32) -> [Figure; 3] {
+    let mut least = [Least::new(), Least::new(), Least::new()];
     for _ in 0..rounds {
-        proved.round(&mut case.proved, case.warm, case.turns);
-        plain.round(&mut case.plain, case.warm, case.turns);
+        let sides = [&mut case.proved, &mut case.plain, &mut case.tight];
+        for (least, side) in least.iter_mut().zip(sides) {
+            least.round(side, case.warm, case.turns);
+        }
     }
-    (proved.figure(case.turns), plain.figure(case.turns))
+    least.map(|least| least.figure(case.turns))
 }

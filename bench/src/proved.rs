@@ -31,6 +31,33 @@ mod exports {
             out: *mut u8,
             room: usize,
         ) -> u64;
+        pub fn swim_bench_entry_bytes() -> usize;
+        pub fn swim_bench_node_pings(
+            before: *const u8,
+            before_len: usize,
+            text: *const u8,
+            len: usize,
+            turns: u32,
+            out: *mut u8,
+            room: usize,
+        ) -> u64;
+        pub fn swim_bench_node_newer_pings(
+            before: *const u8,
+            before_len: usize,
+            text: *mut u8,
+            len: usize,
+            turns: u32,
+            out: *mut u8,
+            room: usize,
+        ) -> u64;
+        pub fn swim_bench_node_ticks(
+            before: *const u8,
+            before_len: usize,
+            period: u64,
+            turns: u32,
+            out: *mut u8,
+            room: usize,
+        ) -> u64;
         pub fn swim_bench_picks(members: u32, turns: u32, out: *mut u8, room: usize) -> u64;
         pub fn swim_bench_offers(members: u32, turns: u32, out: *mut u8, room: usize) -> u64;
         pub fn swim_bench_removals(members: u32, turns: u32, out: *mut u8, room: usize) -> u64;
@@ -47,6 +74,9 @@ mod exports {
 
 /// The room that the exports require of `out`, and `newer_ping_turns` of its text.
 const ROOM: usize = 512;
+
+/// The room that the exports of a node require of `out`.
+const SHOWN: usize = 1664;
 
 pub fn decode_turns(text: &[u8], turns: u32) -> u64 {
     // SAFETY: a slice crosses as pointer and length, and the contract requires nothing.
@@ -93,6 +123,62 @@ pub fn tick_turns(before: &[u8], period: u64, turns: u32, out: &mut [u8]) -> u64
     // SAFETY: as above.
     unsafe {
         exports::swim_bench_ticks(
+            before.as_ptr(),
+            before.len(),
+            period,
+            turns,
+            out.as_mut_ptr(),
+            out.len(),
+        )
+    }
+}
+
+/// The bytes of an entry.
+pub fn entry_bytes() -> usize {
+    // SAFETY: the contract requires nothing.
+    unsafe { exports::swim_bench_entry_bytes() }
+}
+
+pub fn node_ping_turns(before: &[u8], text: &[u8], turns: u32, out: &mut [u8]) -> u64 {
+    assert!(out.len() >= SHOWN);
+    let (before, before_len) = (before.as_ptr(), before.len());
+    // SAFETY: as above. What the contract takes by value, the right to call C's `malloc`, has no bytes.
+    unsafe {
+        exports::swim_bench_node_pings(
+            before,
+            before_len,
+            text.as_ptr(),
+            text.len(),
+            turns,
+            out.as_mut_ptr(),
+            out.len(),
+        )
+    }
+}
+
+pub fn node_newer_ping_turns(before: &[u8], text: &mut [u8], turns: u32, out: &mut [u8]) -> u64 {
+    assert!(out.len() >= SHOWN && text.len() >= ROOM);
+    let (before, before_len) = (before.as_ptr(), before.len());
+    // SAFETY: as above.
+    unsafe {
+        let (text, len) = (text.as_mut_ptr(), text.len());
+        exports::swim_bench_node_newer_pings(
+            before,
+            before_len,
+            text,
+            len,
+            turns,
+            out.as_mut_ptr(),
+            out.len(),
+        )
+    }
+}
+
+pub fn node_tick_turns(before: &[u8], period: u64, turns: u32, out: &mut [u8]) -> u64 {
+    assert!(out.len() >= SHOWN);
+    // SAFETY: as above.
+    unsafe {
+        exports::swim_bench_node_ticks(
             before.as_ptr(),
             before.len(),
             period,

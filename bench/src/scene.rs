@@ -14,19 +14,22 @@ pub const TEXT_LEN: usize = 512;
 /// The number of each row before the first turn.
 pub const NUMBER: u64 = 9;
 
-const ROWS: u32 = 256;
+/// The most rows.
+pub const ROWS: u32 = 256;
+/// The entries of an era. A run takes fewer turns.
+pub const ERA: usize = 1024;
 
 fn member(address: u32) -> Endpoint {
     Endpoint { address, port: PORT }
 }
 
-/// A ping of the first other, with updates about `count` others from this one on.
-pub fn ping(from: u32, count: u32, number: u64) -> Vec<u8> {
+/// A ping of the first other, with updates about `count` of the first `rows` others from this one on.
+pub fn ping(rows: u32, from: u32, count: u32, number: u64) -> Vec<u8> {
     let mut updates = Updates::new();
     for at in from..from + count {
         updates.push(Update {
             kind: UpdateKind::Alive,
-            who: member(OTHERS + at % ROWS),
+            who: member(OTHERS + at % rows),
             number,
         });
     }
@@ -42,9 +45,11 @@ pub fn ping(from: u32, count: u32, number: u64) -> Vec<u8> {
     encode(&ping).as_slice().to_vec()
 }
 
-/// Nine full pings, after which a table has 256 rows.
-pub fn before() -> Vec<u8> {
-    (0..9).flat_map(|text| ping(text * 30, 30, NUMBER)).collect()
+/// Nine full pings, after which a table has so many rows.
+pub fn before(rows: u32) -> Vec<u8> {
+    (0..9)
+        .flat_map(|text| ping(rows, text * 30, 30, NUMBER))
+        .collect()
 }
 
 /// Makes the updates of a full ping newer than all earlier ones, about others than in the turn before.

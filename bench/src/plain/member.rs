@@ -1,10 +1,8 @@
 //! The part of a member that pings and ticks need: the own number, table, buffer, the probe, the acks.
 
 use super::buffer::Buffer;
-use super::table::{Heard, Row, Table};
-use super::wire::{
-    Datagram, Endpoint, Kind, NUMBER_MAX, Packet, Update, UpdateKind, WireFault, decode, encode,
-};
+use super::table::{Counts, Heard, Row, Table};
+use super::wire::{Datagram, Endpoint, Kind, NUMBER_MAX, Update, UpdateKind, WireFault, decode};
 
 const LEAP: u64 = 1 << 20;
 const HELPERS_MAX: usize = 8;
@@ -23,7 +21,7 @@ pub struct Settings {
 }
 
 /// Why a datagram is not answered.
-#[derive(Clone, Copy, Debug, PartialEq, Eq)]
+#[derive(Clone, Copy, Debug, Default, PartialEq, Eq)]
 pub enum Refusal {
     BadDatagram(WireFault),
     OtherGroup,
@@ -31,6 +29,7 @@ pub enum Refusal {
     FromSelf,
     Expelled,
     Misdirected,
+    #[default]
     NotMeasured,
 }
 
@@ -80,6 +79,11 @@ impl Member {
         self.table.eligible_count()
     }
 
+    /// How many rows there are of each kind.
+    pub fn counts(&self) -> Counts {
+        self.table.counts()
+    }
+
     fn hear(&mut self, update: Update) {
         if self.table.hear(update, self.time) == Heard::Accepted {
             self.buffer.offer(update);
@@ -92,17 +96,17 @@ impl Member {
     }
 
     /// A ping, a ping-req or an ack, with what waits.
-    fn send(&mut self, kind: Kind, seq: u32, subject: Endpoint) -> Packet {
+    fn send(&mut self, kind: Kind, seq: u32, subject: Endpoint) -> Datagram {
         let updates = self.buffer.pick(self.limit());
         let Settings { group, me, .. } = self.settings;
-        encode(&Datagram {
+        Datagram {
             kind,
             group,
             seq,
             sender: me,
             subject,
             updates,
-        })
+        }
     }
 
     fn refuse(&self, from: Endpoint, datagram: &Datagram) -> Result<(), Refusal> {
@@ -118,22 +122,35 @@ impl Member {
         Ok(())
     }
 
+    /// The datagram that the bytes spell, or why it is not taken.
+    pub fn accept(&self, from: Endpoint, bytes: &[u8]) -> Result<Datagram, Refusal> {
+        let datagram = decode(bytes).map_err(Refusal::BadDatagram)?;
+        self.refuse(from, &datagram)?;
+        Ok(datagram)
+    }
+
+    /// The own number that the updates want, if any.
+    pub fn wanted(&self, updates: &[Update]) -> Option<u64> {
+        let own = updates.iter().filter(|update| {
+            update.who == self.settings.me
+                && update.kind == UpdateKind::Suspect
+                && update.number >= self.number
+                && update.number - self.number <= LEAP
+                && update.number < NUMBER_MAX
+        });
+        own.map(|update| update.number + 1).max()
+    }
+
     /// Hears the updates, and takes the number that they want where it is granted.
     fn hear_all(&mut self, updates: &[Update], granted: u64) -> Result<(), Refusal> {
-        let (me, old) = (self.settings.me, self.number);
-        let mut wanted = None;
+        let me = self.settings.me;
+        let wanted = self.wanted(updates);
         let mut expelled = false;
         for update in updates {
             if update.who != me {
                 self.hear(*update);
             } else if update.kind == UpdateKind::Confirm {
                 expelled = true;
-            } else if update.kind == UpdateKind::Suspect
-                && update.number >= old
-                && update.number - old <= LEAP
-                && update.number < NUMBER_MAX
-            {
-                wanted = wanted.max(Some(update.number + 1));
             }
         }
         if expelled {
@@ -150,10 +167,8 @@ impl Member {
         Ok(())
     }
 
-    /// One received datagram: the ack to a ping, or why there is none.
-    pub fn receive(&mut self, from: Endpoint, bytes: &[u8], granted: u64) -> Result<Packet, Refusal> {
-        let datagram = decode(bytes).map_err(Refusal::BadDatagram)?;
-        self.refuse(from, &datagram)?;
+    /// Takes an accepted datagram: the ack to a ping, or why there is none.
+    pub fn act(&mut self, datagram: &Datagram, granted: u64) -> Result<Datagram, Refusal> {
         self.hear_all(datagram.updates.as_slice(), granted)?;
         if datagram.kind != Kind::Ping {
             return Err(Refusal::NotMeasured);
@@ -163,6 +178,12 @@ impl Member {
             return Err(Refusal::Misdirected);
         }
         Ok(self.send(Kind::Ack, datagram.seq, me))
+    }
+
+    /// One received datagram: the ack to a ping, or why there is none.
+    pub fn receive(&mut self, from: Endpoint, bytes: &[u8], granted: u64) -> Result<Datagram, Refusal> {
+        let datagram = self.accept(from, bytes)?;
+        self.act(&datagram, granted)
     }
 
     /// Suspects and confirms in time, and forgets.
@@ -189,7 +210,7 @@ impl Member {
     }
 
     /// Pings the eligible member that the word chooses.
-    fn probe_next(&mut self, word: u32, sent: &mut impl FnMut(Endpoint, &Packet)) {
+    fn probe_next(&mut self, word: u32, sent: &mut impl FnMut(Endpoint, &Datagram)) {
         self.probe = None;
         let count = self.table.eligible_count();
         if count == 0 {
@@ -223,7 +244,7 @@ impl Member {
     }
 
     /// Asks others about the target of the probe.
-    fn ask_all(&mut self, sent: &mut impl FnMut(Endpoint, &Packet)) {
+    fn ask_all(&mut self, sent: &mut impl FnMut(Endpoint, &Datagram)) {
         let Some(Probe { target, seq }) = self.probe else {
             return;
         };
@@ -237,7 +258,7 @@ impl Member {
     }
 
     /// One tick, with what it sends.
-    pub fn tick(&mut self, word: u32, mut sent: impl FnMut(Endpoint, &Packet)) {
+    pub fn tick(&mut self, word: u32, mut sent: impl FnMut(Endpoint, &Datagram)) {
         self.time += 1;
         self.age();
         let Settings { period, direct, .. } = self.settings;

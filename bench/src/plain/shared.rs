@@ -1,7 +1,7 @@
 //! A member behind a lock, whose status is read without that lock, and a bounded queue of datagrams.
 
 use super::member::{Member, Settings};
-use super::wire::{DATAGRAM_MAX, Endpoint, Packet};
+use super::wire::{DATAGRAM_MAX, Endpoint, Packet, encode};
 use crate::scene::{GROUP, HELPERS, ME, OTHERS, PORT};
 use std::hint::black_box;
 use std::sync::atomic::{AtomicBool, Ordering};
@@ -59,7 +59,8 @@ impl Node {
 
     fn tick(&mut self, caller: u32, turn: u32, word: u32) -> Status {
         let mut sent = Vec::new();
-        self.member.tick(word, |to, packet| sent.push((to, *packet)));
+        self.member
+            .tick(word, |to, datagram| sent.push((to, encode(datagram))));
         let status = Status {
             number: self.member.number(),
             eligible: self.member.eligible_count(),

@@ -38,11 +38,29 @@ impl Row {
     }
 }
 
-/// The rows in the order of their endpoints, and how many of them are eligible.
+/// How many rows there are of each kind.
+#[derive(Clone, Copy, Default)]
+pub struct Counts {
+    pub alive: usize,
+    pub suspect: usize,
+    pub confirmed: usize,
+}
+
+impl Counts {
+    fn of(&mut self, kind: UpdateKind) -> &mut usize {
+        match kind {
+            UpdateKind::Alive => &mut self.alive,
+            UpdateKind::Suspect => &mut self.suspect,
+            UpdateKind::Confirm => &mut self.confirmed,
+        }
+    }
+}
+
+/// The rows in the order of their endpoints, and how many there are of each kind.
 pub struct Table {
     rows: [Row; ROWS_MAX],
     len: usize,
-    eligible: usize,
+    counts: Counts,
 }
 
 impl Table {
@@ -50,7 +68,7 @@ impl Table {
         Table {
             rows: [Row::default(); ROWS_MAX],
             len: 0,
-            eligible: 0,
+            counts: Counts::default(),
         }
     }
 
@@ -58,8 +76,12 @@ impl Table {
         &self.rows[..self.len]
     }
 
+    pub fn counts(&self) -> Counts {
+        self.counts
+    }
+
     pub fn eligible_count(&self) -> usize {
-        self.eligible
+        self.counts.alive + self.counts.suspect
     }
 
     fn find(&self, who: Endpoint) -> Result<usize, usize> {
@@ -76,9 +98,8 @@ impl Table {
                 if !overrides(&update, &self.rows[at].update) {
                     return Heard::Kept;
                 }
-                if update.kind == UpdateKind::Confirm {
-                    self.eligible -= 1;
-                }
+                *self.counts.of(self.rows[at].update.kind) -= 1;
+                *self.counts.of(update.kind) += 1;
                 self.rows[at] = Row { update, since: now };
                 Heard::Accepted
             }
@@ -88,7 +109,7 @@ impl Table {
                 self.rows.copy_within(at..self.len, at + 1);
                 self.rows[at] = Row { update, since: now };
                 self.len += 1;
-                self.eligible += 1;
+                *self.counts.of(update.kind) += 1;
                 Heard::Accepted
             }
         }
@@ -100,7 +121,8 @@ impl Table {
             if row.is_due(UpdateKind::Suspect, ticks, now) {
                 row.update.kind = UpdateKind::Confirm;
                 row.since = now;
-                self.eligible -= 1;
+                self.counts.suspect -= 1;
+                self.counts.confirmed += 1;
                 expired(row.update);
             }
         }
@@ -114,6 +136,7 @@ impl Table {
                 forgotten(self.rows[at].update.who);
                 self.rows.copy_within(at + 1..self.len, at);
                 self.len -= 1;
+                self.counts.confirmed -= 1;
             } else {
                 at += 1;
             }

@@ -1,5 +1,7 @@
 //! The datagram: 32 bytes of head, then up to 30 updates of 16 bytes, big-endian.
 
+use super::list::List;
+
 pub const NUMBER_MAX: u64 = 1 << 62;
 pub const UPDATES_MAX: usize = 30;
 pub const DATAGRAM_MAX: usize = 512;
@@ -28,8 +30,9 @@ pub struct Update {
     pub number: u64,
 }
 
-#[derive(Clone, Copy, Debug, PartialEq, Eq)]
+#[derive(Clone, Copy, Debug, Default, PartialEq, Eq)]
 pub enum Kind {
+    #[default]
     Ping,
     PingReq,
     Ack,
@@ -52,32 +55,10 @@ pub enum WireFault {
     Number,
 }
 
-/// A list of at most 30 updates that never allocates.
-#[derive(Clone, Copy)]
-pub struct Updates {
-    items: [Update; UPDATES_MAX],
-    len: usize,
-}
+/// The updates of a datagram.
+pub type Updates = List<Update, UPDATES_MAX>;
 
-impl Updates {
-    pub fn new() -> Updates {
-        Updates {
-            items: [Update::default(); UPDATES_MAX],
-            len: 0,
-        }
-    }
-
-    pub fn push(&mut self, update: Update) {
-        self.items[self.len] = update;
-        self.len += 1;
-    }
-
-    pub fn as_slice(&self) -> &[Update] {
-        &self.items[..self.len]
-    }
-}
-
-#[derive(Clone, Copy)]
+#[derive(Clone, Copy, Default)]
 pub struct Datagram {
     pub kind: Kind,
     pub group: u64,
@@ -225,7 +206,7 @@ fn put_head(head: &mut [u8], datagram: &Datagram) {
         Kind::Join => 4,
         Kind::Page => 5,
     };
-    head[6] = datagram.updates.len as u8;
+    head[6] = datagram.updates.as_slice().len() as u8;
     head[8..16].copy_from_slice(&datagram.group.to_be_bytes());
     head[16..20].copy_from_slice(&datagram.seq.to_be_bytes());
     put_endpoint(&mut head[20..26], datagram.sender);

@@ -1,10 +1,12 @@
 //! The turns of each case, as `crates/swim_bench` has them for the proved crates.
 
 use super::buckets::{BUCKETS_MAX, Buckets};
+use super::list::List;
 use super::member::{Member, Settings};
+use super::node::{Entry, Event, Link, Node, Reply, Save, Tag};
 use super::table::{Heard, Table};
 use super::wire::{Endpoint, Packet, Update, UpdateKind, decode, encode};
-use crate::scene::{GROUP, HELPERS, ME, OTHERS, PORT, TEXT_LEN, newer_text, word};
+use crate::scene::{ERA, GROUP, HELPERS, ME, OTHERS, PORT, TEXT_LEN, newer_text, word};
 use std::hint::black_box;
 
 const PEER: Endpoint = Endpoint {
@@ -37,8 +39,8 @@ pub fn encode_turns(text: &[u8], turns: u32, out: &mut [u8]) -> u64 {
     written as u64
 }
 
-fn full_member(before: &[u8], period: u64) -> Member {
-    let settings = Settings {
+pub fn settings_of(period: u64) -> Settings {
+    Settings {
         group: GROUP,
         me: Endpoint {
             address: ME,
@@ -50,8 +52,11 @@ fn full_member(before: &[u8], period: u64) -> Member {
         suspect: 100_000,
         forget: 1_000_000,
         helpers: HELPERS,
-    };
-    let mut member = Member::new(settings, 1);
+    }
+}
+
+fn full_member(before: &[u8], period: u64) -> Member {
+    let mut member = Member::new(settings_of(period), 1);
     for text in before.chunks_exact(TEXT_LEN) {
         black_box(member.receive(PEER, text, 1).is_ok());
     }
@@ -64,7 +69,7 @@ pub fn ping_turns(before: &[u8], text: &[u8], turns: u32, out: &mut [u8]) -> u64
     let mut acks = 0;
     for _ in 0..turns {
         if let Ok(ack) = member.receive(PEER, black_box(text), 1) {
-            write(&ack, out);
+            write(&encode(&ack), out);
             acks += 1;
         }
     }
@@ -78,7 +83,7 @@ pub fn newer_ping_turns(before: &[u8], text: &mut [u8], turns: u32, out: &mut [u
     for turn in 0..turns {
         newer_text(text, turn);
         if let Ok(ack) = member.receive(PEER, black_box(text), 1) {
-            write(&ack, out);
+            write(&encode(&ack), out);
             acks += 1;
         }
     }
@@ -90,9 +95,9 @@ pub fn tick_turns(before: &[u8], period: u64, turns: u32, out: &mut [u8]) -> u64
     let mut member = full_member(before, period);
     let mut sent = 0;
     for turn in 0..turns {
-        member.tick(word(turn), |to, packet| {
+        member.tick(word(turn), |to, datagram| {
             black_box(to);
-            write(packet, out);
+            write(&encode(datagram), out);
             sent += 1;
         });
     }
@@ -204,4 +209,129 @@ pub fn removal_turns(members: u32, turns: u32, out: &mut [u8]) -> u64 {
     }
     write_next(&mut buckets, out);
     buckets.len() as u64
+}
+
+fn received(text: &[u8]) -> Event {
+    Event::Datagram {
+        from: PEER,
+        bytes: List::copied(black_box(text)),
+    }
+}
+
+/// One call. Whether it was entered.
+fn call(node: &mut Node, link: &mut Link, event: Event) -> bool {
+    let tag = Tag {
+        caller: 0,
+        turn: node.turns(0) + 1,
+    };
+    black_box(node.apply(link, tag, event)).is_ok()
+}
+
+/// Fills an era with texts that are no datagrams, and begins the next, whose memory has then been written.
+fn fill_era(node: &mut Node, link: &mut Link) {
+    node.rebase();
+    for _ in 0..ERA {
+        call(node, link, received(&[]));
+    }
+    node.rebase();
+}
+
+fn full_node(before: &[u8], period: u64) -> Node {
+    let mut node = Node::new(settings_of(period), ERA);
+    let mut link = Link::new();
+    for text in before.chunks_exact(TEXT_LEN) {
+        call(&mut node, &mut link, received(text));
+    }
+    fill_era(&mut node, &mut link);
+    node
+}
+
+/// The numbers of an entry.
+fn numbers_of(entry: &Entry) -> [u64; 16] {
+    let Reply {
+        status,
+        notes,
+        page,
+        sent,
+        lost,
+    } = &entry.reply;
+    let source = match &entry.event {
+        Event::Tick { word } => *word,
+        Event::Datagram { from, .. } => from.address,
+    };
+    let target = entry.outs.as_slice().last().map_or(0, |out| out.to.address);
+    [
+        u64::from(entry.tag.turn),
+        entry.granted,
+        u64::from(entry.save == Save::Kept),
+        status.number,
+        status.counts.alive as u64,
+        status.counts.suspect as u64,
+        status.counts.confirmed as u64,
+        status.length as u64,
+        entry.outs.as_slice().len() as u64,
+        entry.outcomes.as_slice().len() as u64,
+        *sent as u64,
+        *lost as u64,
+        notes.as_slice().len() as u64,
+        page.as_slice().len() as u64,
+        u64::from(source),
+        u64::from(target),
+    ]
+}
+
+/// Writes the last entry: the last datagram that it has, the received bytes, what the link took last, and the numbers.
+fn write_last(node: &Node, link: &Link, out: &mut [u8]) {
+    out[1024..1536].copy_from_slice(&link.bytes);
+    let Some(entry) = node.journal().last() else {
+        return;
+    };
+    if let Some(last) = entry.outs.as_slice().last() {
+        write(&encode(&last.datagram), out);
+    }
+    if let Event::Datagram { bytes, .. } = &entry.event {
+        let bytes = bytes.as_slice();
+        out[512..512 + bytes.len()].copy_from_slice(bytes);
+    }
+    for (number, part) in numbers_of(entry).iter().zip(out[1536..].chunks_exact_mut(8)) {
+        part.copy_from_slice(&number.to_be_bytes());
+    }
+}
+
+/// Hands an event to a node in each turn, and gives how many calls were entered.
+fn node_turns(
+    before: &[u8],
+    period: u64,
+    turns: u32,
+    out: &mut [u8],
+    mut event: impl FnMut(u32) -> Event,
+) -> u64 {
+    let mut node = full_node(before, period);
+    let mut link = Link::new();
+    let mut entered = 0;
+    for turn in 0..turns {
+        entered += u64::from(call(&mut node, &mut link, event(turn)));
+    }
+    write_last(&node, &link, out);
+    entered
+}
+
+/// The same ping in each turn.
+pub fn node_ping_turns(before: &[u8], text: &[u8], turns: u32, out: &mut [u8]) -> u64 {
+    node_turns(before, 1000, turns, out, |_| received(text))
+}
+
+/// Pings whose updates are newer in each turn.
+pub fn node_newer_ping_turns(before: &[u8], text: &mut [u8], turns: u32, out: &mut [u8]) -> u64 {
+    node_turns(before, 1000, turns, out, |turn| {
+        newer_text(text, turn);
+        received(text)
+    })
+}
+
+/// Ticks.
+pub fn node_tick_turns(before: &[u8], period: u64, turns: u32, out: &mut [u8]) -> u64 {
+    node_turns(before, period, turns, out, |turn| Event::Tick {
+        word: word(turn),
+    })
 }

@@ -6,6 +6,7 @@
 
 mod buffer;
 mod codec;
+mod node;
 mod scene;
 mod steps;
 mod table;

@@ -1,11 +1,15 @@
 //! The member that takes the turns, and what it is given, as `bench/src/scene.rs` has them.
 
-ghost use Rattle.std.specs.Prelude.{◌≡◌, ◌≤◌, ◌<◌, length};
+ghost use Rattle.std.specs.Prelude.{◌≡◌, ◌≤◌, ◌<◌, length, IfSome};
+ghost use Rattle.swim_member.specs.Checks.{AreSound};
 
 use arrayvec::ArrayVec;
 use byteorder::{BigEndian, ByteOrder};
 use swim_member::{Event, Member, Settings};
 use swim_wire::{DATAGRAM_MAX, Endpoint};
+
+/// The group of all members.
+pub(crate) const GROUP: u64 = 7;
 
 /// The address of the member, 10.0.0.1.
 pub(crate) const ME: u32 = 0x0a00_0001;
@@ -44,11 +48,12 @@ pub(crate) fn received(text: &[u8]) -> Event {
     }
 }
 
-/// A member that probes once in so many ticks, after it has received the texts, each of 512 bytes. None
-/// where no member has such a period.
-pub(crate) fn member_after(texts: &[u8], period: u64) -> Option<Member> {
+/// The settings of a member that probes once in so many ticks. None where no member has such a period.
+pub(crate) fn settings_of(period: u64) -> Option<Settings>
+    ensures { IfSome result (λ s. AreSound s) }
+{
     let settings = Settings {
-        group: 7,
+        group: GROUP,
         me: endpoint(ME),
         lambda: 3,
         period,
@@ -58,10 +63,14 @@ pub(crate) fn member_after(texts: &[u8], period: u64) -> Option<Member> {
         helpers: 3,
         block: 1,
     };
-    if settings.check().is_err() {
-        return None;
-    }
-    let mut member = Member::new(settings, 1);
+    settings.check().ok()?;
+    Some(settings)
+}
+
+/// A member that probes once in so many ticks, after it has received the texts, each of 512 bytes. None
+/// where no member has such a period.
+pub(crate) fn member_after(texts: &[u8], period: u64) -> Option<Member> {
+    let mut member = Member::new(settings_of(period)?, 1);
     for text in texts.chunks_exact(DATAGRAM_MAX) {
         let granted = member.number();
         let _ = member.step(&received(text), granted);

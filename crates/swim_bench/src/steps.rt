@@ -11,7 +11,7 @@ use crate::scene::{make_newer, member_after, received, word};
 use swim_member::{Event, Member, Out};
 
 /// Writes the datagrams over the first bytes, one after the other, and answers how many there are.
-fn write_all(outs: &[Out], out: &mut [u8]) -> usize
+pub(crate) fn write_all(outs: &[Out], out: &mut [u8]) -> usize
     requires texts { All (λ o. HasText o.datagram) outs.now }
     requires room { DATAGRAM_MAX ≤ length out.old }
     ensures count { result ≡ length outs.now }

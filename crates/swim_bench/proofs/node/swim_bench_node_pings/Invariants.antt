@@ -1,0 +1,5 @@
+use Rattle.std.proofs.Common.{◌≤◌}
+use Rattle.swim_bench.proofs.node.swim_bench_node_pings.Given as goal
+
+abbrev pub invariant-loop : goal.invariant-loop
+invariant-loop l = l.entered ≤ l.counter
