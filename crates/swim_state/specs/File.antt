@@ -1,5 +1,5 @@
 -- What a state file says.
-use Rattle.std.specs.Prelude.{◌≡◌, ◌⊎◌, ◌≢◌, ℕ, ◌^◌, ◌≤◌, max, ◌==◌, List, ◌++◌, length, take}
+use Rattle.std.specs.Prelude.{◌≡◌, ◌⊎◌, ◌≢◌, ℕ, ◌≤◌, max, ◌==◌, List, ◌++◌, length, take}
 use Rattle.std.specs.Prelude.{slice_index, if◌then◌else◌, codes}
 use Rattle.byteorder.specs.Endian.{big_bytes}
 use Rattle.swim_state.specs.Layout.{Layout, bytes_from}

@@ -1,7 +1,7 @@
 -- Proofs that the parts of version 1 lie where a layout wants them: past the
 -- first block, within the file, and apart. A value of `Layout` has to carry them.
 use Rattle.std.proofs.Common.{arith, inl, inr}
-use Rattle.std.specs.Prelude.{ℕ, ◌+◌, ◌≤◌}
+use Rattle.std.specs.Prelude.{◌+◌, ◌≤◌}
 use Rattle.swim_state.specs.declared.layout.TheConstants.{BLOCK}
 use Rattle.swim_state.specs.Layout.{Apart, other_slot, body_of, gate_of}
 use Rattle.swim_state.specs.declared.layout.Slot.{Slot}
