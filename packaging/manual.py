@@ -1,0 +1,65 @@
+"""The manual page, made of the words that the program's own help has, and of the titles of the documents."""
+
+import re
+import subprocess
+from typing import NamedTuple
+
+
+class Help(NamedTuple):
+    """What a help text says: its first line, its usage, and its lists of pairs by their headings."""
+
+    about: str
+    usage: str
+    lists: dict
+
+
+def said(program, *words):
+    """What the program prints at these words."""
+    return subprocess.run([program, *words], check=True, capture_output=True, text=True).stdout
+
+
+def help_of(program, *words):
+    """The help text of the program or of one of its commands. A line of an unknown form ends the build."""
+    first, *lines = said(program, *words, "--help").splitlines()
+    usage, lists, pairs = None, {}, None
+    for line in filter(None, lines):
+        if found := re.fullmatch(r"Usage: (.+)", line):
+            usage = found[1]
+        elif found := re.fullmatch(r"(\w+):", line):
+            pairs = lists.setdefault(found[1], [])
+        elif (found := re.fullmatch(r" +(\S+(?: \S+)*)  +(\S.*)", line)) and pairs is not None:
+            pairs.append(found.groups())
+        else:
+            raise SystemExit(f"help of {words}: no line of a help text: {line!r}")
+    return Help(first, usage, lists)
+
+
+def spelled(text):
+    """A text as roff takes it: dashes stay dashes, and no line begins with a request."""
+    return re.sub(r"^([.'])", r"\\&\1", text.replace("\\", r"\e").replace("-", r"\-"))
+
+
+def tagged(pairs):
+    """A list of pairs."""
+    return [line for name, text in pairs for line in (".TP", f".B {spelled(name)}", spelled(text))]
+
+
+def command_section(help):
+    """A command: what it does, how it is called, and what its words mean."""
+    pairs = [pair for heading in help.lists.values() for pair in heading]
+    return [spelled(help.about), ".PP", f".B {spelled(help.usage)}", *tagged(pairs)]
+
+
+def manual(program, date, documents):
+    """The page. `documents` are the paths and the titles of what is installed beside it."""
+    whole = help_of(program)
+    name, version = said(program, "--version").split()
+    lines = [f'.TH {name.upper()} 1 {date} "{name} {version}"']
+    lines += [".SH NAME", rf"{name} \- {spelled(whole.about)}", ".SH SYNOPSIS", f".B {spelled(whole.usage)}", ".SH COMMANDS"]
+    for command, about in whole.lists.pop("Commands"):
+        lines.append(f".SS {command}")
+        lines += [spelled(about)] if command == "help" else command_section(help_of(program, command))
+    for heading, pairs in whole.lists.items():
+        lines += [f".SH {heading.upper()}", *tagged(pairs)]
+    lines += [".SH SEE ALSO", *tagged(documents)]
+    return "\n".join(lines) + "\n"
