@@ -11,17 +11,24 @@ ROOT = Path(__file__).resolve().parents[1]
 PROGRAM = ROOT / "crates" / "swim" / "out" / "swim"
 
 
-def read_words(doc, **counts):
-    """The words of a check: the program, the seed, and how much of each thing it is to try."""
+def parser_for(doc):
+    """A parser of a script's words, of which the program is the first."""
     about = doc.split("\n")
     shape = argparse.RawTextHelpFormatter
     parser = argparse.ArgumentParser(description=about[0], epilog="\n".join(about[1:]), formatter_class=shape)
-    parser.add_argument("program", nargs="?", default=PROGRAM, help="swim; without it, the one that `rt ci` leaves")
+    program = {"nargs": "?", "type": Path, "default": PROGRAM}
+    parser.add_argument("program", **program, help="swim; without it, the one that `rt ci` leaves")
+    return parser
+
+
+def read_words(doc, **counts):
+    """The words of a check: the program, the seed, and how much of each thing it is to try."""
+    parser = parser_for(doc)
     parser.add_argument("--seed", type=int, default=1)
     for name, count in counts.items():
         parser.add_argument(f"--{name}", type=int, default=count, help=f"{count} without it")
     words = parser.parse_args()
-    if not Path(words.program).is_file():
+    if not words.program.is_file():
         parser.error(f"{words.program} is not there; `rt ci`, or `rt run` in crates/swim, builds it")
     return words
 
