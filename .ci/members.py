@@ -230,9 +230,9 @@ class Member:
 class Peer:
     """A socket that speaks to members as another member would."""
 
-    def __init__(self):
+    def __init__(self, me=("127.0.0.1", 0)):
         self.socket = socket.socket(socket.AF_INET, socket.SOCK_DGRAM)
-        self.socket.bind(("127.0.0.1", 0))
+        self.socket.bind(me)
         self.me = Endpoint(*self.socket.getsockname())
         self.sequence = 0
         self.heard = []
