@@ -1,5 +1,5 @@
 """Members that run, and sockets that speak to them: what .ci/program, bench/program and the scripts of examples/ stand on.
-All sockets are on 127.0.0.1, at ports that were free."""
+All sockets are on 127.0.0.1, at ports that were free, where a test names no others."""
 
 import os
 import signal
@@ -16,6 +16,7 @@ from typing import NamedTuple
 
 PATIENCE = 20  # seconds that anything may take on a busy machine before a test fails
 GROUP = 7
+PAGE_ROWS = 30  # as many rows as one answer to `members` has at most
 
 PLACE = SimpleNamespace(program=None, folder=None)
 STARTED = []
@@ -164,10 +165,10 @@ def toml(keys):
 class Member:
     """A member that `swim run` runs, with quick ticks."""
 
-    def __init__(self, name, **keys):
+    def __init__(self, name, me=None, control=None, **keys):
         self.name = name
-        self.me = free_endpoint(socket.SOCK_DGRAM)
-        self.control = free_endpoint(socket.SOCK_STREAM)
+        self.me = me or free_endpoint(socket.SOCK_DGRAM)
+        self.control = control or free_endpoint(socket.SOCK_STREAM)
         self.file = PLACE.folder / f"{name}.state"
         self.config = PLACE.folder / f"{name}.toml"
         self.log = PLACE.folder / f"{name}.log"
@@ -199,9 +200,13 @@ class Member:
         except OSError:
             return None
 
+    def connect(self):
+        """A connection to its control socket."""
+        return socket.create_connection(self.control, PATIENCE)
+
     def talk(self, data):
         """The answers to these bytes, over a connection of their own."""
-        with socket.create_connection(self.control, PATIENCE) as stream:
+        with self.connect() as stream:
             stream.sendall(data)
             stream.shutdown(socket.SHUT_WR)
             return b"".join(iter(lambda: stream.recv(4096), b"")).decode()
@@ -209,11 +214,21 @@ class Member:
     def ask(self, line):
         return self.talk(f"{line}\n".encode())
 
+    def status(self):
+        """Its phase and its number."""
+        words = self.ask("status").split()
+        expect_true(words[:1] == ["ok"], f"status answers {words}")
+        return words[1], int(words[3])
+
     def rows(self):
         """What it holds of each member, itself among them, by the endpoint: the kind and the number."""
-        answer = self.ask("members").splitlines()
-        expect_true(answer and answer[0] == f"ok {len(answer) - 1}", f"members answers {answer}")
-        return {who: (kind, int(number)) for kind, who, number in map(str.split, answer[1:])}
+        rows, line = {}, "members"
+        while line:
+            answer = self.ask(line).splitlines()
+            expect_true(answer and answer[0] == f"ok {len(answer) - 1}", f"{line} answers {answer}")
+            rows |= {who: (kind, int(number)) for kind, who, number in map(str.split, answer[1:])}
+            line = f"members {answer[-1].split()[1]}" if len(answer) > PAGE_ROWS else None
+        return rows
 
     def holds(self, other):
         return self.rows().get(str(other.me), ("nothing", 0))
@@ -221,6 +236,14 @@ class Member:
     def kill(self):
         self.process.send_signal(signal.SIGKILL)
         self.process.wait(PATIENCE)
+
+    def evidence(self):
+        """What it says of itself and of the group, and the end of its log."""
+        try:
+            said = self.talk(b"status\nmembers\n")
+        except OSError as error:
+            said = f"{error}\n"
+        return f"{self.name}, {self.me}\n{said}{self.log.read_text()[-2000:]}"
 
     def stop(self):
         expect(self.ask("stop"), "ok stopping\n", "stop")
