@@ -2,15 +2,6 @@
 //! `swim play` plays a script over a member in memory.
 #![tactic(auto)]
 
-mod life;
-mod player;
-mod session;
-mod setup;
-#[cfg(test)]
-mod tests;
-mod transcript;
-
-use crate::player::play;
 use clap::Error;
 use clap::error::ErrorKind;
 use log::{Log, Logged};
@@ -20,6 +11,7 @@ use std::process::ExitCode;
 use std::sync::Wait;
 use std::thread::Threads;
 use std::time::Clock;
+use swim_play::play;
 use swim_run::{Ending, Stamped, Subcommand, ask, level, make, read_words, run};
 use swim_script::ScriptFault;
 

@@ -1,7 +1,0 @@
-use Rattle.swim.specs.Play.{first_scene}
-use Rattle.swim.proofs.Sessions.{plays-snoc}
-use Rattle.swim.proofs.player.run.Goals as goal
-
-pub loop-command-preserved : goal.loop-command-preserved
-loop-command-preserved c =
-    plays-snoc first_scene c.loop-command.yielded c.loop-command.player c.in-Some.command c.execute.new.self c.loop-command.invariant c.in_ok-execute.ensures

@@ -1,6 +1,0 @@
-use Rattle.swim.specs.Play.{Plays, first_scene}
-use Rattle.swim.proofs.player.run.Given as goal
-
--- what was done so far is what the lines so far may make of the beginning
-abbrev pub invariant-loop-command : goal.invariant-loop-command
-invariant-loop-command l = Plays first_scene l.yielded l.player
