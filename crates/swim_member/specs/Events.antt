@@ -2,6 +2,7 @@
 use Rattle.std.specs.List.{find}
 use Rattle.std.specs.Prelude.{ℕ, ◌+◌, ◌==◌, nat_le, List, [], ◌∷◌, ◌++◌, map, if◌then◌else◌}
 use Rattle.std.specs.Prelude.{Option, Some, None, replicate, slice_get, zero, suc}
+use Rattle.swim_member.specs.Checks.{rules_of}
 use Rattle.swim_member.specs.Expiry.{expire_first, forget_first}
 use Rattle.swim_member.specs.Hearing.{hear_other}
 use Rattle.swim_member.specs.Join.{page_after, join_to}
@@ -58,7 +59,9 @@ when_running Expelled happened = []
 
 -- what happens by a move, the newest first
 abbrev pub perform : State → Action → List Change
-perform s (Hear u) = if u.who == s.settings.me then hear_own s.number u else hear_other s u
+perform s (Hear u) =
+    if u.who == s.settings.me then hear_own (rules_of s.settings) s.number u
+    else hear_other s u
 perform s (Settle own granted) = settle_number s own granted
 perform s (Reply p) = when_running s.phase (reply s p.kind p)
 perform s Advance = Ticked ∷ []

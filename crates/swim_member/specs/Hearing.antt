@@ -1,5 +1,6 @@
 -- Updates about other members.
 use Rattle.std.specs.Prelude.{List, [], ◌∷◌}
+use Rattle.swim_member.specs.Checks.{rules_of}
 use Rattle.swim_member.specs.State.{State, Change, Heard, Queued, Noted}
 use Rattle.swim_rules.specs.Rows.{answer_to}
 use Rattle.swim_rules.specs.declared.table.Heard.{Heard as Hearing}
@@ -16,4 +17,4 @@ heard_with heard.Full u = Noted note.TableFull ∷ []
 
 -- an update about another member
 abbrev pub hear_other : State → Update → List Change
-hear_other s u = heard_with (answer_to s.rows u) u
+hear_other s u = heard_with (answer_to (rules_of s.settings) s.rows u) u

@@ -12,6 +12,7 @@ use Rattle.swim_member.specs.declared.state.Phase.TheVariants.{Running, Left, Ex
 use Rattle.swim_member.specs.declared.tick.TheConstants.{LAST_TIME}
 use Rattle.swim_wire.specs.Decoding.{decoded}
 use Rattle.swim_wire.specs.Spelling.{HasText}
+use Rattle.swim_wire.specs.Codes.{is_same_rules}
 use Rattle.swim_wire.specs.declared.datagram.Datagram.{Datagram}
 use Rattle.swim_wire.specs.declared.fault.WireFault.{WireFault}
 use Rattle.swim_wire.specs.declared.update.TheConstants.{NUMBER_MAX}
@@ -24,7 +25,8 @@ abbrev pub refusal_of : Settings → ℕ → Datagram → Option Note
 refusal_of settings from p =
     if not (p.group == settings.group) then Some note.OtherGroup
     else (if not (p.sender == from) then Some note.NotSender
-    else (if p.sender == settings.me then Some note.FromSelf else None))
+    else (if p.sender == settings.me then Some note.FromSelf else None)))
+    else (if not (is_same_rules p.version (rules_of settings)) then Some note.OtherVersion
 
 -- a datagram that was read: refused, or accepted with what it asks of the own number
 abbrev pub judge_read : State → Datagram → Option Note → Judgement

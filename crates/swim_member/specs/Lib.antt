@@ -1,4 +1,5 @@
 pub mod Checks
+pub mod Deals
 pub mod State
 pub mod Readings
 pub mod Member

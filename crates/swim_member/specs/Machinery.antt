@@ -2,3 +2,4 @@
 pub mod Steps
 pub mod Adding
 pub mod Kept
+pub mod Turns

@@ -18,9 +18,13 @@ eligible s = filter is_eligible s.rows
 abbrev pub row_name : Row → ℕ
 row_name row = row.update.who
 
+-- x has one of these rows, and it is Alive or Suspect
+abbrev pub is_eligible_in : List Row → ℕ → Bool
+is_eligible_in rows x = list_any (λ r. row_name r == x) (filter is_eligible rows)
+
 -- x has a row that is Alive or Suspect
 abbrev pub is_eligible_name : State → ℕ → Bool
-is_eligible_name s x = list_any (λ r. row_name r == x) (eligible s)
+is_eligible_name s x = is_eligible_in s.rows x
 
 -- how many rows are of this kind
 abbrev pub rows_of_kind : UpdateKind → State → ℕ

@@ -1,7 +1,9 @@
 -- The own number: what updates about oneself ask of it, and what becomes of it.
 use Rattle.std.specs.List.{list_any}
-use Rattle.std.specs.Prelude.{ℕ, ◌+◌, ◌-◌, ◌==◌, ◌&&◌, ◌||◌, nat_lt, nat_le, max, Bool, not, List}
+use Rattle.std.specs.Prelude.{ℕ, ◌+◌, ◌-◌, ◌==◌, ◌&&◌, ◌||◌, nat_lt, nat_le, max, Bool, true}
+use Rattle.std.specs.Prelude.{false, not, List}
 use Rattle.std.specs.Prelude.{[], ◌∷◌, if◌then◌else◌, Option, Some, None}
+use Rattle.swim_member.specs.Checks.{rules_of}
 use Rattle.swim_member.specs.State.{State, Change, Queued, NumberRaised, Became, Noted}
 use Rattle.swim_member.specs.declared.own_number.OwnNumber.{OwnNumber}
 use Rattle.swim_member.specs.declared.own_number.OwnNumber.TheVariants.{Stays, Wanted, Confirmed}
@@ -11,6 +13,8 @@ use Rattle.swim_member.specs.declared.own_number.Suspicion.TheVariants.{Refutabl
 use Rattle.swim_member.specs.declared.state.Phase.{Phase}
 use Rattle.swim_member.specs.declared.state.Phase.TheVariants.{Running, Left, Expelled}
 use Rattle.swim_rules.specs.Rows.{is_kind}
+use Rattle.swim_wire.specs.declared.rules.Rules.{Rules}
+use Rattle.swim_wire.specs.declared.rules.Rules.TheVariants.{One, Two}
 use Rattle.swim_wire.specs.declared.update.TheConstants.{LEAP, NUMBER_MAX}
 use Rattle.swim_wire.specs.declared.update.Update.{Update}
 use Rattle.swim_wire.specs.declared.update.UpdateKind.{UpdateKind}
@@ -33,6 +37,14 @@ own s = own_with s (own_kind s.phase) s.number
 
 -- Which suspicions count
 
+-- an update about oneself of this kind is a suspicion: a Suspect,
+-- and by rules 2 a Confirm too, since a greater number overrides it
+abbrev pub is_suspicion : Rules → UpdateKind → Bool
+is_suspicion rules Alive = false
+is_suspicion rules Suspect = true
+is_suspicion One Confirm = false
+is_suspicion Two Confirm = true
+
 -- what an update about oneself means for the own number
 abbrev pub suspicion_of : ℕ → Update → Suspicion
 suspicion_of old u =
@@ -48,8 +60,8 @@ note_of Last = Noted note.NoNumberLeft ∷ []
 note_of Refutable = []
 
 -- an update about oneself
-abbrev pub hear_own : ℕ → Update → List Change
-hear_own old u = note_of (suspicion_of old u)
+abbrev pub hear_own : Rules → ℕ → Update → List Change
+hear_own rules old u = note_of (suspicion_of rules old u)
 
 -- the number that refutes a suspicion of n, or 0 where it does not count
 abbrev pub refuting : Suspicion → ℕ → ℕ
@@ -59,13 +71,15 @@ refuting _ n = 0
 -- What is asked for
 
 -- the number that an update asks for, or 0
-abbrev pub number_asked : ℕ → ℕ → Update → ℕ
-number_asked me old u = if u.who == me then refuting (suspicion_of old u) u.number else 0
+abbrev pub number_asked : Rules → ℕ → ℕ → Update → ℕ
+number_asked rules me old u =
+    if u.who == me then refuting (suspicion_of rules old u) u.number else 0
 
 -- the greatest number that is asked for, or 0
-abbrev pub greatest_asked : ℕ → ℕ → List Update → ℕ
-greatest_asked me old [] = 0
-greatest_asked me old (u ∷ updates) = max (number_asked me old u) (greatest_asked me old updates)
+abbrev pub greatest_asked : Rules → ℕ → ℕ → List Update → ℕ
+greatest_asked rules me old [] = 0
+greatest_asked rules me old (u ∷ updates) =
+    max (number_asked rules me old u) (greatest_asked rules me old updates)
 
 -- one of them is a Confirm about me
 abbrev pub has_confirm : ℕ → List Update → Bool
@@ -75,9 +89,7 @@ has_confirm me updates = list_any (λ u. u.who == me && is_kind Confirm u.kind) 
 -- about oneself ends it, and else the greatest number is wanted
 abbrev pub own_number_by : State → List Update → OwnNumber
 own_number_by s updates =
-    if has_confirm s.settings.me updates then Confirmed
-    else (if greatest_asked s.settings.me s.number updates == 0 then Stays
-    else Wanted (greatest_asked s.settings.me s.number updates))
+    own_number_of (rules_of s.settings) s.settings.me s.number updates
 
 -- the number that is wanted, or none
 abbrev pub wanted_number : OwnNumber → Option ℕ
@@ -88,7 +100,7 @@ wanted_number Confirmed = None
 -- What becomes of it
 
 -- after the updates of a datagram: a suspicion is refuted if the granted
--- ceiling allows the wanted number; a Confirm about oneself expels
+-- ceiling allows the wanted number, and who is expelled takes no part any more
 abbrev pub settle_number : State → OwnNumber → ℕ → List Change
 settle_number s Stays granted = []
 settle_number s (Wanted n) granted =

@@ -1,7 +1,7 @@
--- The probe: choice, ping, helpers, and the suspicion at its end (SWIM, section 3.1).
+-- The probe: ping, helpers, and the suspicion at its end (SWIM, section 3.1).
 use Rattle.std.specs.List.{filter}
 use Rattle.std.specs.Prelude.{ℕ, ◌%◌, ◌==◌, ◌&&◌, nat_lt, Bool, false, not, List, [], ◌∷◌, ◌++◌}
-use Rattle.std.specs.Prelude.{map, take, length, if◌then◌else◌, Option, Some, None, slice_get}
+use Rattle.std.specs.Prelude.{map, take, if◌then◌else◌, Option, Some, None, slice_get}
 use Rattle.swim_member.specs.Hearing.{hear_other}
 use Rattle.swim_member.specs.Member.{eligible, row_name, is_eligible_name}
 use Rattle.swim_member.specs.Send.{send}

@@ -1,6 +1,7 @@
 -- Datagrams of this member, and what they carry.
 use Rattle.std.specs.Prelude.{ℕ, ◌+◌, ◌*◌, nat_lt, List, length, if◌then◌else◌}
 use Rattle.swim_gossip.specs.Queue.{picked_updates}
+use Rattle.swim_member.specs.Checks.{rules_of}
 use Rattle.swim_member.specs.Member.{eligible}
 use Rattle.swim_member.specs.State.{State, Change, Sent}
 use Rattle.swim_wire.specs.declared.datagram.Datagram.{Datagram}
@@ -32,6 +33,7 @@ carried_updates s = picked_updates (limit s) UPDATES_MAX s.queue
 abbrev pub datagram : State → Kind → ℕ → ℕ → List Update → Datagram
 datagram s kind seq subject updates =
     record {
+      version = rules_of s.settings;
       kind = kind;
       group = s.settings.group;
       seq = seq;

@@ -16,6 +16,7 @@ setting_number setting.Suspect = 4
 setting_number setting.Forget = 5
 setting_number setting.Helpers = 6
 setting_number setting.Block = 7
+setting_number setting.Rules = 8
 
 abbrev pub setting_name : SettingsFault → List ℕ
 setting_name setting.Lambda = codes "Lambda"
@@ -25,6 +26,7 @@ setting_name setting.Suspect = codes "Suspect"
 setting_name setting.Forget = codes "Forget"
 setting_name setting.Helpers = codes "Helpers"
 setting_name setting.Block = codes "Block"
+setting_name setting.Rules = codes "Rules"
 
 abbrev pub setting_text : SettingsFault → List ℕ
 setting_text fault = number_and_name (setting_number fault) (setting_name fault)
@@ -48,6 +50,7 @@ note_number note.Stopped = 14
 note_number note.ReceiveFailed = 15
 note_number (note.SendFailed count) = 16
 note_number note.TimeOver = 17
+note_number note.OtherVersion = 18
 
 abbrev pub note_name : Note → List ℕ
 note_name (note.BadDatagram fault) = codes "BadDatagram"
@@ -67,6 +70,7 @@ note_name note.Stopped = codes "Stopped"
 note_name note.ReceiveFailed = codes "ReceiveFailed"
 note_name (note.SendFailed count) = codes "SendFailed"
 note_name note.TimeOver = codes "TimeOver"
+note_name note.OtherVersion = codes "OtherVersion"
 
 -- what comes after the name: the fault of a datagram, or how many sends failed
 abbrev pub note_rest : Note → List ℕ

@@ -13,15 +13,16 @@ pub data Call : Type 0 where
 
 -- the table after a call, as the call's contract says
 abbrev pub table_after : Members → Call → Members
-table_after table (Hears u now) = record table { rows = hear_rows table.rows u now }
+table_after table (Hears u now) =
+    record table { rows = hear_rows table.rules table.rows u now }
 table_after table (Expires now) =
-    record table { rows = hear_option table.rows (due_confirm table now) now }
+    record table { rows = hear_option table.rules table.rows (due_confirm table now) now }
 table_after table (Forgets now) =
     record table { rows = remove_option table.rows (due_to_forget table now) }
 
 -- what a table was told, after a call
 abbrev pub told_after : Members → List Told → Call → List Told
-told_after table told (Hears u now) = told_with (answer_to table.rows u) told u now
+told_after table told (Hears u now) = told_with (answer_to table.rules table.rows u) told u now
 told_after table told (Expires now) = told_option told (due_confirm table now) now
 told_after table told (Forgets now) = untold_option told (due_to_forget table now)
 

@@ -3,6 +3,7 @@ use Rattle.std.specs.Prelude.{◌≡◌, ℕ, ◌-◌, ◌<◌, ◌≤◌, ◌==
 use Rattle.std.specs.Prelude.{not, List, [], ◌∷◌, length, if◌then◌else◌, Option, Some, None}
 use Rattle.std.specs.List.{find}
 use Rattle.std.specs.Option.{option_map}
+use Rattle.swim_wire.specs.declared.rules.Rules.{Rules}
 use Rattle.swim_wire.specs.declared.update.Update.{Update}
 use Rattle.swim_wire.specs.declared.update.UpdateKind.{UpdateKind}
 use Rattle.swim_wire.specs.declared.update.UpdateKind.TheVariants.{Alive, Suspect, Confirm}
@@ -35,13 +36,13 @@ heard_new Confirm full = Unknown
 heard_new _ full = if full then Full else Accepted
 
 -- the answer to an update about a member that has this row, if it has one
-abbrev pub heard_as : Option Row → Bool → Update → Heard
-heard_as (Some old) full u = if overrides u old.update then Accepted else Kept
-heard_as None full u = heard_new u.kind full
+abbrev pub heard_as : Rules → Option Row → Bool → Update → Heard
+heard_as rules (Some old) full u = if overrides rules u old.update then Accepted else Kept
+heard_as rules None full u = heard_new u.kind full
 
 -- the answer of a table with these rows
-abbrev pub answer_to : List Row → Update → Heard
-answer_to rows u = heard_as (row_of rows u.who) (length rows == ROWS_MAX) u
+abbrev pub answer_to : Rules → List Row → Update → Heard
+answer_to rules rows u = heard_as rules (row_of rows u.who) (length rows == ROWS_MAX) u
 
 -- the rows after an update with this answer
 abbrev pub rows_after : Heard → List Row → Row → List Row
@@ -49,8 +50,9 @@ rows_after Accepted rows r = put_row rows r
 rows_after _ rows r = rows
 
 -- the rows after an update was heard at this tick
-abbrev pub hear_rows : List Row → Update → ℕ → List Row
-hear_rows rows u now = rows_after (answer_to rows u) rows (record { update = u; since = now })
+abbrev pub hear_rows : Rules → List Row → Update → ℕ → List Row
+hear_rows rules rows u now =
+    rows_after (answer_to rules rows u) rows (record { update = u; since = now })
 
 -- the rows without that of x
 abbrev pub remove_row : List Row → ℕ → List Row
@@ -69,12 +71,13 @@ told_with Accepted told u now = Hear u now ∷ told
 told_with Kept told u now = Hear u now ∷ told
 told_with _ told u now = told
 
--- a table: whose it is, after how many ticks a Suspect
--- becomes Confirm and a Confirm is forgotten, and the rows
+-- a table: whose it is, after how many ticks a Suspect becomes Confirm and
+-- a Confirm is forgotten, by which rules updates override, and the rows
 pub record Members : Type 0 where
   pub me : ℕ
   pub suspect : ℕ
   pub forget : ℕ
+  pub rules : Rules
   pub rows : List Row
 
 -- none of the rows is about x
@@ -112,9 +115,9 @@ abbrev pub due_confirm : Members → ℕ → Option Update
 due_confirm table now = option_map confirm_of (find (is_due Suspect table.suspect now) table.rows)
 
 -- the rows after an update, if there is one
-abbrev pub hear_option : List Row → Option Update → ℕ → List Row
-hear_option rows None now = rows
-hear_option rows (Some u) now = hear_rows rows u now
+abbrev pub hear_option : Rules → List Row → Option Update → ℕ → List Row
+hear_option rules rows None now = rows
+hear_option rules rows (Some u) now = hear_rows rules rows u now
 
 -- the first member whose Confirm is due to be forgotten
 abbrev pub due_to_forget : Members → ℕ → Option ℕ
@@ -131,9 +134,10 @@ abbrev pub is_eligible : Row → Bool
 is_eligible row = not (is_kind Confirm row.update.kind)
 
 -- the rows after an update is heard about a member that has this row, if it has one
-abbrev pub heard_row : Option Row → List Row → Row → List Row
-heard_row None rows r = put_row rows r
-heard_row (Some t) rows r = if overrides r.update t.update then put_row rows r else rows
+abbrev pub heard_row : Rules → Option Row → List Row → Row → List Row
+heard_row rules None rows r = put_row rows r
+heard_row rules (Some t) rows r =
+    if overrides rules r.update t.update then put_row rows r else rows
 
 -- what a table was told with the Confirm of a Suspect that was due, if one was
 abbrev pub told_option : List Told → Option Update → ℕ → List Told

@@ -37,7 +37,7 @@ abbrev pub has_fault : WireFault → List ℕ → Bool
 has_fault TooShort bytes = nat_lt (length bytes) 32
 has_fault TooLong bytes = nat_lt DATAGRAM_MAX (length bytes)
 has_fault Magic bytes = not (bytes_eq (take 4 bytes) magic)
-has_fault Version bytes = not (slice_index bytes 4 == 1)
+has_fault Version bytes = not (is_code 2 (slice_index bytes 4))
 has_fault Kind bytes = not (is_code 5 (slice_index bytes 5))
 has_fault Count bytes = not (length bytes == 32 + 16 * slice_index bytes 6)
 has_fault Reserved bytes =

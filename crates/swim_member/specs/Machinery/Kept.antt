@@ -8,7 +8,7 @@ use Rattle.swim_gossip.specs.Queue.{Gossip, AreApart, is_queued}
 use Rattle.swim_member.specs.declared.settings.Settings.{Settings}
 use Rattle.std.specs.List.{filter, list_all}
 use Rattle.swim_member.specs.declared.state.Relay.{Relay}
-use Rattle.swim_member.specs.Checks.{AreSound}
+use Rattle.swim_member.specs.Checks.{AreSound, rules_of}
 use Rattle.swim_member.specs.Fit.{may_stand, may_wait}
 use Rattle.swim_member.specs.Machinery.Steps.{is_live}
 
@@ -28,6 +28,7 @@ pub record IsKept (s : Settings) (n t : ℕ) (members : Members) (b : Gossip) (m
   pub me : members.me ≡ s.me
   pub suspect : members.suspect ≡ s.suspect
   pub forget : members.forget ≡ s.forget
+  pub rules : members.rules ≡ rules_of s
   pub sound : AreSound s
   pub table : IsTable members
   pub wait : AllWait s.me members.rows b.queue

@@ -16,6 +16,7 @@ use Rattle.swim_member.specs.declared.note.Note.{Note}
 use Rattle.swim_member.specs.declared.answer.Out.{Out}
 use Rattle.swim_member.specs.declared.answer.Answer.{Answer}
 use Rattle.swim_member.specs.declared.event.Event.{Event}
+use Rattle.swim_member.specs.Checks.{rules_of}
 use Rattle.swim_member.specs.State.{State, Change, Heard, Forgot, Queued, Sent, NumberRaised}
 use Rattle.swim_member.specs.State.{Became}
 use Rattle.swim_member.specs.State.{Ticked, SequenceTaken, Probed, Relayed, Unrelayed, Joined}
@@ -38,11 +39,15 @@ abbrev pub queue_after : Datagram → List Waiting → List Waiting
 queue_after p waiting =
     if carries_updates p.kind then map (raise_all p.updates.items) waiting else waiting
 
+-- the rows after an update about another member
+abbrev pub rows_heard : State → Update → List Row
+rows_heard s u =
+    heard_row (rules_of s.settings) (row_of s.rows u.who) s.rows
+    (record { update = u; since = s.time })
+
 -- a state after a happening
 abbrev pub apply : Change → State → State
-apply (Heard u) s = record s {
-  rows = heard_row (row_of s.rows u.who) s.rows (record { update = u; since = s.time });
-}
+apply (Heard u) s = record s { rows = rows_heard s u }
 apply (Forgot x) s = record s { rows = remove_row s.rows x; queue = without x s.queue }
 apply (Queued u) s = record s { queue = offered_queue s.queue u }
 apply (Sent to p) s = record s { queue = queue_after p s.queue }
