@@ -10,10 +10,11 @@ use Rattle.swim_member.specs.Judge.{judge}
 use Rattle.swim_member.specs.Leave.{bye}
 use Rattle.swim_member.specs.Member.{eligible}
 use Rattle.swim_member.specs.OwnNumber.{own_with, hear_own, settle_number}
-use Rattle.swim_member.specs.Probe.{is_at, blame, probe_row, chosen_row, ask}
+use Rattle.swim_member.specs.Probe.{is_at, blame, ask}
 use Rattle.swim_member.specs.Readings.{state}
 use Rattle.swim_member.specs.Reply.{reply}
 use Rattle.swim_member.specs.State.{State, Change, Queued, Sent, Became, Ticked, Paged, Noted}
+use Rattle.swim_member.specs.Turn.{look}
 use Rattle.swim_member.specs.declared.answer.Answer.{Answer}
 use Rattle.swim_member.specs.declared.answer.Out.{Out}
 use Rattle.swim_member.specs.declared.event.Event.{Event}
@@ -43,7 +44,7 @@ pub data Action : Type 0 where
   Expire : Action
   Forget : Action
   Blame : Action
-  Probe_next : ℕ → Action  -- with the word
+  Probe_next : List ℕ → Action  -- with the deal
   Ask : ℕ → Action
   Depart : Action
   Bye : ℕ → Action
@@ -68,7 +69,7 @@ perform s Advance = Ticked ∷ []
 perform s Expire = expire_first (find (is_due Suspect s.settings.suspect s.time) s.rows)
 perform s Forget = forget_first (find (is_due Confirm s.settings.forget s.time) s.rows)
 perform s Blame = if is_at s 0 then blame s s.probe else []
-perform s (Probe_next word) = if is_at s 0 then probe_row s (chosen_row s word) else []
+perform s (Probe_next deal) = if is_at s 0 then look s deal else []
 perform s (Ask k) = if is_at s s.settings.direct then ask s s.probe k else []
 perform s Depart = Queued (own_with s Confirm s.number) ∷ Became Left ∷ []
 perform s (Bye k) = if nat_le k s.settings.helpers then bye s (slice_get (eligible s) k) else []
@@ -88,9 +89,9 @@ datagram_actions p own granted =
     map (λ u. Hear u) p.updates.items ++ Settle own granted ∷ Reply p ∷ []
 
 -- what is done at a tick that counts
-abbrev pub tick_actions : ℕ → List Action
-tick_actions word =
-    Advance ∷ replicate ROWS_MAX Expire ++ replicate ROWS_MAX Forget ++ Blame ∷ Probe_next word
+abbrev pub tick_actions : List ℕ → List Action
+tick_actions deal =
+    Advance ∷ replicate ROWS_MAX Expire ++ replicate ROWS_MAX Forget ++ Blame ∷ Probe_next deal
     ∷ each_from 0 HELPERS_MAX (λ k. Ask k)
 
 -- what is done at a leave
@@ -100,7 +101,7 @@ leave_actions = Depart ∷ each_from 0 BYES_MAX (λ k. Bye k)
 -- what is done at an event as it was judged, with the ceiling that was granted
 abbrev pub actions_of : Judgement → ℕ → List Action
 actions_of (judged.Note n) granted = Take n ∷ []
-actions_of (judged.Tick word) granted = tick_actions word
+actions_of (judged.Tick deal) granted = tick_actions deal
 actions_of (judged.Datagram p own) granted = datagram_actions p own granted
 actions_of (judged.Join peer) granted = Join_peer peer ∷ []
 actions_of judged.Leave granted = leave_actions

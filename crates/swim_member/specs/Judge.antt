@@ -1,6 +1,8 @@
 -- What a member makes of an event before it acts.
 use Rattle.std.specs.Prelude.{ℕ, ◌==◌, not, if◌then◌else◌, Option, Some, None, Result, Ok, Err}
 use Rattle.std.specs.Prelude.{IfSome, ◌<◌, ◌≤◌}
+use Rattle.swim_member.specs.Checks.{rules_of}
+use Rattle.swim_member.specs.Deals.{IsDeal}
 use Rattle.swim_member.specs.OwnNumber.{own_number_by, wanted_number}
 use Rattle.swim_member.specs.State.{State}
 use Rattle.swim_member.specs.declared.event.Event.{Event}
@@ -10,9 +12,9 @@ use Rattle.swim_member.specs.declared.settings.Settings.{Settings}
 use Rattle.swim_member.specs.declared.state.Phase.{Phase}
 use Rattle.swim_member.specs.declared.state.Phase.TheVariants.{Running, Left, Expelled}
 use Rattle.swim_member.specs.declared.tick.TheConstants.{LAST_TIME}
+use Rattle.swim_wire.specs.Codes.{is_same_rules}
 use Rattle.swim_wire.specs.Decoding.{decoded}
 use Rattle.swim_wire.specs.Spelling.{HasText}
-use Rattle.swim_wire.specs.Codes.{is_same_rules}
 use Rattle.swim_wire.specs.declared.datagram.Datagram.{Datagram}
 use Rattle.swim_wire.specs.declared.fault.WireFault.{WireFault}
 use Rattle.swim_wire.specs.declared.update.TheConstants.{NUMBER_MAX}
@@ -24,9 +26,9 @@ use Rattle.swim_member.specs.declared.note.Note.TheVariants as note
 abbrev pub refusal_of : Settings → ℕ → Datagram → Option Note
 refusal_of settings from p =
     if not (p.group == settings.group) then Some note.OtherGroup
+    else (if not (is_same_rules p.version (rules_of settings)) then Some note.OtherVersion
     else (if not (p.sender == from) then Some note.NotSender
     else (if p.sender == settings.me then Some note.FromSelf else None)))
-    else (if not (is_same_rules p.version (rules_of settings)) then Some note.OtherVersion
 
 -- a datagram that was read: refused, or accepted with what it asks of the own number
 abbrev pub judge_read : State → Datagram → Option Note → Judgement
@@ -40,8 +42,8 @@ judge_bytes s from (Ok p) = judge_read s p (refusal_of s.settings from p)
 
 -- an event of a member that takes part
 abbrev pub judge_running : State → Event → Judgement
-judge_running s (event.Tick word) =
-    if s.time == LAST_TIME then judged.Note note.TimeOver else judged.Tick word
+judge_running s (event.Tick deal) =
+    if s.time == LAST_TIME then judged.Note note.TimeOver else judged.Tick deal
 judge_running s (event.Datagram from bytes) = judge_bytes s from (decoded bytes.items)
 judge_running s event.ReceiveFailed = judged.Note note.ReceiveFailed
 judge_running s (event.SendFailed count) = judged.Note (note.SendFailed count)
@@ -60,6 +62,11 @@ judge_in Running s event = judge_running s event
 judge_in Left s event = judge_stopped event
 judge_in Expelled s event = judge_stopped event
 
+-- what a tick deals is a deal
+abbrev pub HasDeal : Event → Type 0
+HasDeal (event.Tick deal) = IsDeal deal
+HasDeal _ = Unit {0}
+
 -- what a member makes of an event
 abbrev pub judge : State → Event → Judgement
 judge s event = judge_in s.phase s event
@@ -76,7 +83,7 @@ wanted s event = number_wanted (judge s event)
 -- what an act relies on of what was judged: a tick counts, a datagram has
 -- a text, and what is wanted is above the own number, and not above the last
 abbrev pub MayAct : State → Judgement → Type 0
-MayAct s (judged.Tick word) = s.time < LAST_TIME
+MayAct s (judged.Tick deal) = s.time < LAST_TIME
 MayAct s (judged.Datagram p own) =
     HasText p × IfSome (wanted_number own) (λ n. (s.number < n) × (n ≤ NUMBER_MAX))
 MayAct s _ = Unit {0}

@@ -8,12 +8,14 @@ pub mod Hearing
 pub mod OwnNumber
 pub mod Relay
 pub mod Probe
+pub mod Turn
 pub mod Join
 pub mod Reply
 pub mod Expiry
 pub mod Leave
 pub mod Judge
 pub mod Events
+pub mod Looks
 pub mod Fit
 pub mod Texts
 pub mod Machinery

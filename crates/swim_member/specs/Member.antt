@@ -52,4 +52,6 @@ new_state settings first = record {
   probe = None;
   relays = [];
   joining = None;
+  listed = [];
+  place = 0;
 }

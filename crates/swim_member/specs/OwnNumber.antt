@@ -46,9 +46,9 @@ is_suspicion One Confirm = false
 is_suspicion Two Confirm = true
 
 -- what an update about oneself means for the own number
-abbrev pub suspicion_of : ℕ → Update → Suspicion
-suspicion_of old u =
-    if not (is_kind Suspect u.kind) || nat_lt u.number old then Passed
+abbrev pub suspicion_of : Rules → ℕ → Update → Suspicion
+suspicion_of rules old u =
+    if not (is_suspicion rules u.kind) || nat_lt u.number old then Passed
     else (if nat_lt LEAP (u.number - old) then Leap
     else (if nat_le NUMBER_MAX u.number then Last else Refutable))
 
@@ -85,8 +85,23 @@ greatest_asked rules me old (u ∷ updates) =
 abbrev pub has_confirm : ℕ → List Update → Bool
 has_confirm me updates = list_any (λ u. u.who == me && is_kind Confirm u.kind) updates
 
--- what the updates of a datagram ask of the own number: a Confirm
--- about oneself ends it, and else the greatest number is wanted
+-- they expel me: by rules 1 a Confirm about me is the last word
+abbrev pub is_expelled : Rules → ℕ → List Update → Bool
+is_expelled One me updates = has_confirm me updates
+is_expelled Two me updates = false
+
+-- they ask for this number, where it is not 0
+abbrev pub asked : ℕ → OwnNumber
+asked greatest = if greatest == 0 then Stays else Wanted greatest
+
+-- what the updates of a datagram ask of the own number of a member
+-- by these rules: they expel it, or the greatest number is wanted
+abbrev pub own_number_of : Rules → ℕ → ℕ → List Update → OwnNumber
+own_number_of rules me old updates =
+    if is_expelled rules me updates then Confirmed
+    else asked (greatest_asked rules me old updates)
+
+-- and of this member
 abbrev pub own_number_by : State → List Update → OwnNumber
 own_number_by s updates =
     own_number_of (rules_of s.settings) s.settings.me s.number updates

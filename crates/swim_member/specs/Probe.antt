@@ -38,16 +38,6 @@ probe_of s x =
     send s x Ping s.seq x
     ∷ Probed (Some (record { target = x; seq = s.seq; answered = false })) ∷ SequenceTaken ∷ []
 
--- the probe ends, and one of this row begins
-abbrev pub probe_row : State → Option Row → List Change
-probe_row s None = Probed None ∷ []
-probe_row s (Some r) = probe_of s (row_name r)
-
--- the eligible row that a word chooses
-abbrev pub chosen_row : State → ℕ → Option Row
-chosen_row s word =
-    if length (eligible s) == 0 then None else slice_get (eligible s) (word % length (eligible s))
-
 -- the members to ask about x: those after it and then those before it
 abbrev pub helpers_about : State → ℕ → List ℕ
 helpers_about s x =

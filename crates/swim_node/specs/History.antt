@@ -8,7 +8,7 @@ use Rattle.swim_member.specs.declared.answer.Answer.{Answer}
 use Rattle.swim_member.specs.declared.settings.Settings.{Settings}
 use Rattle.swim_member.specs.State.{State}
 use Rattle.swim_member.specs.Events.{Step, state_of, answer}
-use Rattle.swim_member.specs.Judge.{wanted}
+use Rattle.swim_member.specs.Judge.{wanted, HasDeal}
 use Rattle.swim_member.specs.Member.{new_state}
 use Rattle.swim_node.specs.declared.entry.Entry.{Entry}
 use Rattle.swim_node.specs.declared.entry.Status.{Status}
@@ -111,6 +111,7 @@ pub record Fits (base : Base) (history : List Entry) (e : Entry) : Type 0 where
 -- the entry is what the member answers after a history, with its status, its counts and its turn
 pub record IsNext (base : Base) (history : List Entry) (e : Entry) : Type 0 where
   pub fits : Fits base history e
+  pub deal : HasDeal e.event
   pub answered : answer base.state (steps history) e.event e.granted ≡ answer_in e
   pub status : e.reply.status ≡ status_of base (history ++ e ∷ [])
   pub sent : e.reply.sent ≡ taken_in e.outcomes.items

@@ -6,6 +6,7 @@ use Rattle.std.specs.List.{filter, slice_split, list_all}
 use Rattle.std.specs.Borrow.{Bor}
 use Rattle.std.specs.Fmt.{decimal}
 use Rattle.swim_wire.specs.Numbers.{IsEndpoint}
+use Rattle.swim_member.specs.Deals.{deal_from}
 use Rattle.swim_member.specs.declared.event.Event.{Event}
 use Rattle.swim_member.specs.declared.event.Event.TheVariants as event
 use Rattle.swim_disk.specs.declared.mem.Choice.{Choice}
@@ -17,6 +18,7 @@ use Rattle.swim_script.specs.declared.command.Command.{Command}
 use Rattle.swim_script.specs.declared.command.Command.TheVariants.{Group, Me, Set, Start, Init}
 use Rattle.swim_script.specs.declared.command.Command.TheVariants.{Open, Happen, Plan, Kill, Crash}
 use Rattle.swim_script.specs.declared.command.Command.TheVariants.{Overwrite, Slots, Rebase}
+use Rattle.swim_script.specs.declared.command.Command.TheVariants.{KeepPeers, Peers}
 use Rattle.swim_script.specs.declared.command.Setting.{Setting}
 use Rattle.swim_script.specs.declared.command.Setting.TheVariants as setting
 use Rattle.swim_script.specs.declared.command.Failure.{Failure}
@@ -52,6 +54,8 @@ keyword_text keyword.Crash = codes "crash"
 keyword_text keyword.Overwrite = codes "disk"
 keyword_text keyword.Slots = codes "slots"
 keyword_text keyword.Rebase = codes "rebase"
+keyword_text keyword.Keep = codes "keep"
+keyword_text keyword.Peers = codes "peers"
 
 -- the word is that of a keyword
 abbrev pub IsKeyword : List ℕ → Keyword → Type 0
@@ -67,6 +71,7 @@ setting_text setting.Forget = codes "forget"
 setting_text setting.Helpers = codes "helpers"
 setting_text setting.Limit = codes "limit"
 setting_text setting.Block = codes "block"
+setting_text setting.Rules = codes "rules"
 
 -- the word is that of a setting
 abbrev pub IsSetting : List ℕ → Setting → Type 0
@@ -95,9 +100,16 @@ pub record IsReceived (text : List ℕ) (from : ℕ) (bytes : List ℕ) : Type 0
   pub hex : IsCut word bytes
   pub says : text ≡ line_of keyword.Receive (spaced (endpoint_text from) word)
 
+-- a tick: its number, and the deal that begins with it
+pub record IsTick (text deal : List ℕ) : Type 0 where
+  pub number : ℕ
+  pub small : number < 2 ^ 32
+  pub dealt : deal ≡ deal_from number
+  pub says : text ≡ line_of keyword.Tick (decimal number)
+
 -- the text is an event line, with its numbers in range
 abbrev pub SaysEvent : List ℕ → Event → Type 0
-SaysEvent text (event.Tick word) = (text ≡ line_of keyword.Tick (decimal word)) × (word < 2 ^ 32)
+SaysEvent text (event.Tick deal) = IsTick text deal
 SaysEvent text (event.Datagram from bytes) = IsReceived text from bytes.items
 SaysEvent text event.ReceiveFailed = text ≡ keyword_text keyword.ReceiveFailed
 SaysEvent text (event.SendFailed count) =
@@ -171,6 +183,8 @@ Says text (Crash choice) = IsCrash text choice
 Says text (Overwrite patch) = IsOverwrite text patch
 Says text Slots = text ≡ keyword_text keyword.Slots
 Says text Rebase = text ≡ keyword_text keyword.Rebase
+Says text KeepPeers = text ≡ keyword_text keyword.Keep
+Says text Peers = text ≡ keyword_text keyword.Peers
 
 -- the lines of a script; the last one may lack its end
 abbrev pub lines_of : List ℕ → List (List ℕ)

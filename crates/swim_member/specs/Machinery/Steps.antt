@@ -20,7 +20,7 @@ use Rattle.swim_member.specs.Checks.{rules_of}
 use Rattle.swim_member.specs.State.{State, Change, Heard, Forgot, Queued, Sent, NumberRaised}
 use Rattle.swim_member.specs.State.{Became}
 use Rattle.swim_member.specs.State.{Ticked, SequenceTaken, Probed, Relayed, Unrelayed, Joined}
-use Rattle.swim_member.specs.State.{Paged, Noted}
+use Rattle.swim_member.specs.State.{Looked, Listed, Passed, Paged, Noted}
 use Rattle.swim_member.specs.Readings.{carries_updates, is_relay, without_relay}
 use Rattle.swim_member.specs.Events.{Action, perform, actions, notes, outs, page}
 use Rattle.swim_member.specs.Member.{row_name}
@@ -63,6 +63,9 @@ apply (Relayed r) s =
     record s { relays = s.relays ++ filter (is_live s.time s.settings.period) (r ∷ []) }
 apply (Unrelayed r) s = record s { relays = without_relay r s.relays }
 apply (Joined j) s = record s { joining = j }
+apply (Looked names) s = s
+apply (Listed names) s = record s { listed = names; place = 0 }
+apply (Passed n) s = record s { place = s.place + n }
 apply (Paged updates) s = s
 apply (Noted n) s = s
 
