@@ -7,20 +7,38 @@ use Rattle.std.proofs.lemmas.Bool.{cases_eq}
 use Rattle.std.proofs.lemmas.List.{drop-drop, get_or-drop, take-append-drop, append-nil}
 use Rattle.std.proofs.lemmas.List.Elements.{All-from_recursion, recursion_from_All}
 use Rattle.byteorder.specs.Numbers.{big_number-reads_back, big_from-lt}
+use Rattle.swim_wire.specs.declared.rules.Rules.{Rules}
+use Rattle.swim_wire.specs.declared.rules.Rules.TheVariants.{One, Two}
 use Rattle.swim_wire.specs.declared.datagram.Datagram.{Datagram}
 use Rattle.swim_wire.specs.declared.datagram.Kind.{Kind as Kinds}
 use Rattle.swim_wire.specs.declared.datagram.Kind.TheVariants.{Ping, PingReq, Ack, Join, Page}
 use Rattle.swim_wire.specs.declared.fault.WireFault.{WireFault}
 use Rattle.swim_wire.specs.declared.fault.WireFault.TheVariants.{TooShort, TooLong, Magic, Version, Kind, Count, Reserved, Endpoint, UpdateKind, Number}
 use Rattle.swim_wire.specs.Numbers.{number_at, IsEndpoint, IsCursor, AreBytes}
-use Rattle.swim_wire.specs.Codes.{kind_code, MayHaveZero}
+use Rattle.swim_wire.specs.Codes.{rules_code, kind_code, MayHaveZero}
 use Rattle.swim_wire.specs.Spelling.{magic, head_text, spelling, IsEncodable, Spells}
 use Rattle.swim_wire.specs.Updates.{update_text, UpdateFits, HasReservedUpdate, HasNoMember, HasUnknownCode, HasGreatNumber}
 use Rattle.swim_wire.specs.Faults.{Has, SomeUpdate, TakesCursor, HasNoSubject, IsFirstFault, IsFaultless, from_update}
-use Rattle.swim_wire.specs.Reading.{kind_of, updates_of, datagram_of}
+use Rattle.swim_wire.specs.Reading.{rules_of_code, kind_of, updates_of, datagram_of}
 use Rattle.swim_wire.proofs.Texts.{AreBytes-drop, take_split, cells_4, back_4, back_6, back_8, number_at-drop, endpoint_at}
 use Rattle.swim_wire.proofs.Order.{first_fault_one}
 use Rattle.swim_wire.proofs.Updates.{BeginsWell, same_number, updates_spelled, updates_fit, length-updates_of, updates_read_back, updates_are_well, length-updates}
+
+-- ---- rules
+
+pub rules_of_code-rules_code : (r : Rules) → rules_of_code (rules_code r) ≡ r
+rules_of_code-rules_code One = refl
+rules_of_code-rules_code Two = refl
+
+neither_is : (n : ℕ) → n ≢ 1 → n ≢ 2 → (r : Rules) → n ≢ rules_code r
+neither_is n a b One = a
+neither_is n a b Two = b
+
+rules_code-rules_of_code : (n : ℕ) → ¬ ((r : Rules) → n ≢ rules_code r) → rules_code (rules_of_code n) ≡ n
+rules_code-rules_of_code zero h = absurd (h (neither_is 0 (λ e. omega arith) (λ e. omega arith)))
+rules_code-rules_of_code (suc zero) h = refl
+rules_code-rules_of_code (suc (suc zero)) h = refl
+rules_code-rules_of_code (suc (suc (suc n))) h = absurd (h (neither_is (suc (suc (suc n))) (λ e. omega arith) (λ e. omega arith)))
 
 -- ---- kinds
 
@@ -142,7 +160,7 @@ head_spelled bytes fits none long =
     take_split 20 6 bytes ∙ ap (λ (t : List ℕ). t ++ take 6 (drop 20 bytes)) (
     take_split 16 4 bytes ∙ ap (λ (t : List ℕ). t ++ take 4 (drop 16 bytes)) (
     take_split 8 8 bytes ∙ ap (λ (t : List ℕ). t ++ take 8 (drop 8 bytes)) (take_split 4 4 bytes)))) in
-    let version = get_or-drop 4 bytes 0 0 ∙ same_number (slice_index bytes 4) 1 (none Version) in
+    let version = get_or-drop 4 bytes 0 0 ∙ sym (rules_code-rules_of_code (slice_index bytes 4) (none Version)) in
     let kind = get_or-drop 4 bytes 1 0 ∙ sym (kind_code-kind_of (slice_index bytes 5) (none Kind)) in
     let count = get_or-drop 4 bytes 2 0 ∙ sym (length-updates_of (slice_index bytes 6) (drop 32 bytes)) in
     let reserved = get_or-drop 4 bytes 3 0 ∙ same_number (slice_index bytes 7) 0 (λ h. none Reserved (inl h)) in
@@ -210,7 +228,7 @@ spelled_has : (d : Datagram) → IsEncodable d → (fault : WireFault) → ¬ Ha
 spelled_has d fits TooShort h = omega (arith, length-spelling d, h)
 spelled_has d fits TooLong h = omega (arith, length-spelling d, h, fits.head.count)
 spelled_has d fits Magic h = h refl
-spelled_has d fits Version h = h refl
+spelled_has d fits Version h = h d.version refl
 spelled_has d fits Kind h = h d.kind refl
 spelled_has d fits Count h = h (length-spelling d)
 spelled_has d fits Reserved (inl h) = h refl
@@ -235,13 +253,14 @@ datagram_of-spelling d fits =
     let after_sender = bytes_high_first 6 d.subject ++ after_subject in
     let after_seq = bytes_high_first 6 d.sender ++ after_sender in
     let after_group = bytes_high_first 4 d.seq ++ after_seq in
+    let version = rules_of_code-rules_code d.version in
     let kind = kind_of-kind_code d.kind in
     let group : number_at 8 8 (spelling d) ≡ d.group = big_number-reads_back 8 d.group after_group fits.head.group in
     let seq : number_at 16 4 (spelling d) ≡ d.seq = big_number-reads_back 4 d.seq after_seq fits.head.seq in
     let sender : number_at 20 6 (spelling d) ≡ d.sender = big_number-reads_back 6 d.sender after_sender fits.head.sender.six_bytes in
     let subject : number_at 26 6 (spelling d) ≡ d.subject = big_number-reads_back 6 d.subject after_subject (cursor_fits d.subject fits.head.subject) in
     let updates : updates_of (length us) after_subject ≡ us = ap (updates_of (length us)) (sym (append-nil after_subject)) ∙ updates_read_back us [] (recursion_from_All UpdateFits us fits.updates) in
-    λ i. record { kind = kind i; group = group i; seq = seq i; sender = sender i; subject = subject i; updates = record { items = updates i } }
+    λ i. record { version = version i; kind = kind i; group = group i; seq = seq i; sender = sender i; subject = subject i; updates = record { items = updates i } }
 
 -- the fields of a text that spells a datagram are that datagram's
 pub datagram_of_spelled : (bytes : List ℕ) (d : Datagram) → Spells bytes d → datagram_of bytes ≡ d

@@ -7,6 +7,8 @@ use Rattle.std.specs.List.{find}
 use Rattle.std.proofs.lemmas.Bool.{cases_Bool, cond-true, cond-false}
 use Rattle.std.proofs.lemmas.Bool.Decides.{Decides-eqb, Decides-ltb, Decides-like, Decides-not, Decides-and, Decides-or, Decides-below_or, not_from_Decides}
 use Rattle.std.proofs.lemmas.Slice.Eq.{bytes_eq-Decides}
+use Rattle.swim_wire.specs.declared.rules.Rules.{Rules}
+use Rattle.swim_wire.specs.declared.rules.Rules.TheVariants.{One, Two}
 use Rattle.swim_wire.specs.declared.datagram.Kind.{Kind as Kinds}
 use Rattle.swim_wire.specs.declared.datagram.Kind.TheVariants.{Ping, PingReq, Ack, Join, Page}
 use Rattle.swim_wire.specs.declared.update.UpdateKind.{UpdateKind as UpdateKinds}
@@ -15,7 +17,7 @@ use Rattle.swim_wire.specs.declared.fault.WireFault.{WireFault}
 use Rattle.swim_wire.specs.declared.fault.WireFault.TheVariants.{TooShort, TooLong, Magic, Version, Kind, Count, Reserved, Endpoint, UpdateKind, Number}
 use Rattle.swim_wire.specs.Numbers.{number_at, is_code}
 use Rattle.swim_wire.specs.Updates.{update_code, HasReservedUpdate, HasNoMember, HasUnknownCode, HasGreatNumber, has_reserved_update, has_no_member, has_unknown_code, has_great_number}
-use Rattle.swim_wire.specs.Codes.{kind_code, fault_number}
+use Rattle.swim_wire.specs.Codes.{rules_code, kind_code, fault_number}
 use Rattle.swim_wire.specs.Spelling.{magic}
 use Rattle.swim_wire.specs.Faults.{Has, SomeUpdate, HasNoSubject, TakesCursor, IsFirstFault, IsFaultless, from_update}
 use Rattle.swim_wire.specs.Reading.{datagram_of}
@@ -24,6 +26,19 @@ use Rattle.swim_wire.proofs.Order.{fault_number_one, fault_number_lt}
 use Rattle.swim_wire.specs.declared.update.TheConstants.{NUMBER_MAX}
 
 -- ---- each test
+
+is_version : (code : ℕ) → Decides (not (is_code 2 code)) ((r : Rules) → code ≢ rules_code r)
+is_version code = Decides-like (not (is_code 2 code)) other none (Decides-not (is_code 2 code) (Decides-and (nat_lt 0 code) (nat_lt code 3) (Decides-ltb 0 code) (Decides-ltb code 3)))
+  where
+    other : ¬ ((0 < code) × (code < 3)) → (r : Rules) → code ≢ rules_code r
+    other h One e = h (omega arith, omega arith)
+    other h Two e = h (omega arith, omega arith)
+
+    none : ((r : Rules) → code ≢ rules_code r) → ¬ ((0 < code) × (code < 3))
+    none h p =
+        let a : code ≢ 1 = h One in
+        let b : code ≢ 2 = h Two in
+        omega arith
 
 is_kind : (code : ℕ) → Decides (not (is_code 5 code)) ((k : Kinds) → code ≢ kind_code k)
 is_kind code = Decides-like (not (is_code 5 code)) other none (Decides-not (is_code 5 code) (Decides-and (nat_lt 0 code) (nat_lt code 6) (Decides-ltb 0 code) (Decides-ltb code 6)))
@@ -91,7 +106,7 @@ pub judged : (f : WireFault) (bytes : List ℕ) → Decides (has_fault f bytes) 
 judged TooShort bytes = Decides-ltb (length bytes) 32
 judged TooLong bytes = Decides-ltb 512 (length bytes)
 judged Magic bytes = Decides-not (bytes_eq (take 4 bytes) magic) (bytes_eq-Decides (take 4 bytes) magic)
-judged Version bytes = is_not (slice_index bytes 4) 1
+judged Version bytes = is_version (slice_index bytes 4)
 judged Kind bytes = is_kind (slice_index bytes 5)
 judged Count bytes = is_not (length bytes) (32 + 16 * slice_index bytes 6)
 judged Reserved bytes =

@@ -3,3 +3,4 @@ pub mod Order
 pub mod Updates
 pub mod Grammar
 pub mod Judging
+pub mod Examples

@@ -7,6 +7,7 @@ ghost use Rattle.swim_wire.specs.declared.datagram.Kind.{Kind as Kinds};
 use crate::cursor::Cursor;
 use crate::endpoint::Endpoint;
 use crate::head::HEAD_LEN;
+use crate::rules::Rules;
 use crate::update::{NUMBER_MAX, UPDATE_LEN, Update};
 use arrayvec::ArrayVec;
 
@@ -76,6 +77,8 @@ impl Kind {
 /// A datagram: a head and up to 30 updates.
 #[derive(Debug, Drop)]
 pub struct Datagram {
+    /// The rules by which the sender lives.
+    pub version: Rules,
     /// What the datagram asks or tells.
     pub kind: Kind,
     /// The number of the group that the sender belongs to.

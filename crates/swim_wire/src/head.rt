@@ -3,7 +3,7 @@
 //! | Offset | Size | Field |
 //! |---|---|---|
 //! | 0 | 4 | `SWIM` |
-//! | 4 | 1 | version, 1 |
+//! | 4 | 1 | version: 1 or 2, the rules of the sender |
 //! | 5 | 1 | kind: 1 ping, 2 ping-req, 3 ack, 4 join, 5 page |
 //! | 6 | 1 | count of updates, 0 to 30 |
 //! | 7 | 1 | 0 |
@@ -20,6 +20,7 @@ use crate::cursor::Cursor;
 use crate::datagram::{DATAGRAM_MAX, Datagram, JOIN, Kind, PAGE};
 use crate::endpoint::{Endpoint, PORT_AT};
 use crate::fault::WireFault;
+use crate::rules::Rules;
 use crate::update::UPDATE_LEN;
 use byteorder::{BigEndian, ByteOrder};
 
@@ -28,9 +29,6 @@ pub(crate) const HEAD_LEN: usize = 32;
 
 /// The bytes that begin each datagram.
 const MAGIC: [u8; 4] = *b"SWIM";
-
-/// The version of the format.
-const VERSION: u8 = 1;
 
 /// Offsets in the head, in bytes.
 const VERSION_AT: usize = 4;
@@ -52,6 +50,7 @@ const SUBJECT_AT: usize = 26;
 /// The fields of a head, the count of the updates aside.
 #[derive(Clone, Copy)]
 pub(crate) struct Head {
+    pub(crate) version: Rules,
     pub(crate) kind: Kind,
     pub(crate) group: u64,
     pub(crate) seq: u32,
@@ -68,10 +67,14 @@ impl Head {
         requires faultless { IsFaultless bytes.now }
         ensures { result ≡ head_of bytes.now }
     {
+        let Some(version) = Rules::from_code(bytes[VERSION_AT]) else {
+            unreachable!()
+        };
         let Some(kind) = Kind::from_code(bytes[KIND_AT]) else {
             unreachable!()
         };
         Head {
+            version,
             kind,
             group: BigEndian::read_u64(&bytes[GROUP_AT..]),
             seq: BigEndian::read_u32(&bytes[SEQ_AT..]),
@@ -89,7 +92,7 @@ pub(crate) fn head_bytes(datagram: &Datagram) -> [u8; HEAD_LEN]
     let (group, seq) = (datagram.group, datagram.seq);
     let mut bytes = [0; HEAD_LEN];
     bytes[..VERSION_AT].copy_from_slice(&MAGIC);
-    bytes[VERSION_AT] = VERSION;
+    bytes[VERSION_AT] = datagram.version.code();
     bytes[KIND_AT] = datagram.kind.code();
     bytes[COUNT_AT] = datagram.updates.len() as u8;
     BigEndian::write_u64(&mut bytes[GROUP_AT..], group);
@@ -122,7 +125,7 @@ pub(crate) fn shape_fault(bytes: &[u8]) -> Option<WireFault>
     if !bytes.starts_with(&MAGIC) {
         return Some(WireFault::Magic);
     }
-    if bytes[VERSION_AT] != VERSION {
+    if Rules::from_code(bytes[VERSION_AT]).is_none() {
         return Some(WireFault::Version);
     }
     if Kind::from_code(bytes[KIND_AT]).is_none() {

@@ -15,6 +15,7 @@ mod fault;
 mod head;
 mod laws;
 mod reading;
+mod rules;
 mod update;
 mod writing;
 
@@ -26,6 +27,7 @@ pub use laws::{
     datagram_has_one_text, own_numbers_of_spelled, spelled_or_faulty, text_spells_one_datagram,
 };
 pub use reading::decode;
+pub use rules::Rules;
 pub use update::{LEAP, NUMBER_MAX, Update, UpdateKind};
 pub use writing::encode;
 

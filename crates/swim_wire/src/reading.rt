@@ -159,6 +159,7 @@ pub fn decode(bytes: &[u8]) -> Result<Datagram, WireFault>
     let head = Head::from_bytes(bytes);
     // The updates are read where they stand: each function that returned them would move them once more.
     let mut datagram = Datagram {
+        version: head.version,
         kind: head.kind,
         group: head.group,
         seq: head.seq,
