@@ -1,5 +1,6 @@
 -- How many rows are eligible, when one is put, replaced or removed.
 use Rattle.std.proofs.Common.{◌≡◌, ℕ, ◌+◌, ◌<◌, ◌≤◌, Bool, true, false, cond, refl, ap, List, [], ◌∷◌, length, suc, zero, slice_set, get_or, arith}
+use mir.Val.{bool_byte}
 use Rattle.std.specs.List.{filter, insert, remove}
 use Rattle.swim_rules.specs.declared.table.Row.{Row}
 use Rattle.swim_rules.specs.Rows.{is_eligible}
@@ -9,12 +10,19 @@ abbrev pub count : List Row → ℕ
 count rows = length (filter is_eligible rows)
 
 abbrev pub one : Row → ℕ
-one r = cond (is_eligible r) 1 0
+one r = bool_byte (is_eligible r)
 
 count-more : (r : Row) (rows : List Row) → count (r ∷ rows) ≡ one r + count rows
 count-more r rows = at (is_eligible r)
   where
-    at : (b : Bool) → length (cond b (r ∷ filter is_eligible rows) (filter is_eligible rows)) ≡ cond b 1 0 + count rows
+    at : (b : Bool) → length (cond b (r ∷ filter is_eligible rows) (filter is_eligible rows)) ≡ bool_byte b + count rows
+    at true = omega arith
+    at false = omega arith
+
+pub one-most : (r : Row) → one r ≤ 1
+one-most r = at (is_eligible r)
+  where
+    at : (b : Bool) → bool_byte b ≤ 1
     at true = omega arith
     at false = omega arith
 
@@ -23,12 +31,8 @@ count-most [] = omega arith
 count-most (r ∷ rows) =
     let more : count (r ∷ rows) ≡ one r + count rows = count-more r rows in
     let rest : count rows ≤ length rows = count-most rows in
-    let single : one r ≤ 1 = at (is_eligible r) in
+    let single : one r ≤ 1 = one-most r in
     omega arith
-  where
-    at : (b : Bool) → cond b 1 0 ≤ 1
-    at true = omega arith
-    at false = omega arith
 
 pub count-set : (rows : List Row) (i : ℕ) (r d : Row) → i < length rows → count (slice_set rows i r) + one (get_or rows i d) ≡ count rows + one r
 count-set [] i r d h = absurd (omega arith)
@@ -72,11 +76,11 @@ count-eligible rows i d h k =
     let single : one (get_or rows i d) ≡ 1 = one-eligible (get_or rows i d) k in
     omega arith
 
--- an eligible row goes, and another comes
-pub count-replaced : (rows : List Row) (i : ℕ) (r : Row) (n : ℕ) → i < length rows → is_eligible (get_or rows i r) ≡ true → n ≡ count rows → count (slice_set rows i r) + 1 ≡ n + one r
-count-replaced rows i r n h k e =
-    let parts : count (slice_set rows i r) + one (get_or rows i r) ≡ count rows + one r = count-set rows i r r h in
-    let single : one (get_or rows i r) ≡ 1 = one-eligible (get_or rows i r) k in
+-- a row goes, and another comes
+pub count-replaced : (rows : List Row) (i : ℕ) (old r : Row) (n : ℕ) → i < length rows → old ≡ get_or rows i old → n ≡ count rows → count (slice_set rows i r) + one old ≡ n + one r
+count-replaced rows i old r n h k e =
+    let parts : count (slice_set rows i r) + one (get_or rows i old) ≡ count rows + one r = count-set rows i r old h in
+    let same : one old ≡ one (get_or rows i old) = ap one k in
     omega arith
 
 -- a row goes

@@ -1,14 +1,13 @@
 //! What a member believes of the others: which update overrides which, and the table of the other
 //! members with the update that holds for each.
 //!
-//! | New | overrides | where |
-//! |---|---|---|
-//! | Alive i | Alive j, Suspect j | i > j |
-//! | Suspect i | Suspect j | i > j |
-//! | Suspect i | Alive j | i >= j |
-//! | Confirm i | Alive j, Suspect j | always |
-//!
-//! Nothing overrides a Confirm.
+//! | New | overrides | by rules 1 where | by rules 2 where |
+//! |---|---|---|---|
+//! | Alive i | Alive j, Suspect j | i > j | i > j |
+//! | Suspect i | Suspect j | i > j | i > j |
+//! | Suspect i | Alive j | i >= j | i >= j |
+//! | Confirm i | Alive j, Suspect j | always | i >= j |
+//! | any i | Confirm j | never | i > j |
 #![tactic(auto)]
 
 mod laws;

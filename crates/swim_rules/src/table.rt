@@ -1,6 +1,6 @@
 //! The table of the other members.
 
-ghost use Rattle.std.specs.Prelude.{◌≡◌, ◌≢◌, ℕ, ◌+◌, ◌<◌, ◌≤◌, IsTrue, List, length, MatchResult, true, slice_get, slice_set, slice_index_or, nat_le, []};
+ghost use Rattle.std.specs.Prelude.{◌≡◌, ◌≢◌, ℕ, ◌+◌, ◌<◌, ◌≤◌, IsTrue, List, length, MatchResult, true, slice_get, slice_set, nat_le, []};
 ghost use Rattle.swim_wire.specs.Filler.{filler};
 ghost use Rattle.std.specs.List.{find, filter, insert, remove, position_or_len};
 ghost use Rattle.std.specs.Option.{option_map, option_copied};
@@ -11,7 +11,7 @@ ghost use Rattle.swim_rules.specs.Machinery.Places.{IsRowAt, IsGapAt, row_place,
 use crate::overriding::overrides;
 use arrayvec::ArrayVec;
 use std::marker::Model;
-use swim_wire::{Cursor, Endpoint, Update, UpdateKind};
+use swim_wire::{Cursor, Endpoint, Rules, Update, UpdateKind};
 
 /// The most rows of a table.
 pub const ROWS_MAX: usize = 256;
@@ -89,6 +89,8 @@ pub struct Table {
     me: Endpoint,
     suspect: u64,
     forget: u64,
+    /// By which rules an update overrides another.
+    rules: Rules,
     rows: ArrayVec<Row, ROWS_MAX>,
     /// How many rows are Alive or Suspect.
     eligible: usize,
@@ -105,6 +107,7 @@ impl Model for Table {
       me = t.me;
       suspect = t.suspect;
       forget = t.forget;
+      rules = t.rules;
       rows = t.rows.items;
     } };
 
@@ -175,18 +178,17 @@ fn put(rows: &mut ArrayVec<Row, ROWS_MAX>, place: usize, row: Row)
     rows[place] = row;
 }
 
-/// Puts a row in the place of one that is Alive or Suspect.
+/// Puts a row in the place of another, and counts both.
 fn replace(rows: &mut ArrayVec<Row, ROWS_MAX>, eligible: &mut usize, place: usize, row: Row)
     requires place { place < length rows.old.items }
-    requires old { is_eligible (slice_index_or rows.old.items place row) ≡ true }
     requires counted { eligible.old ≡ length (filter is_eligible rows.old.items) }
     ensures rows { rows.new.items ≡ slice_set rows.old.items place row }
     ensures counted { eligible.new ≡ length (filter is_eligible rows.new.items) }
 {
+    let old = rows[place];
     put(rows, place, row);
-    if !row.is_eligible() {
-        *eligible -= 1;
-    }
+    *eligible += usize::from(row.is_eligible());
+    *eligible -= usize::from(old.is_eligible());
 }
 
 /// Puts a row that is Alive or Suspect before the one at this place.
@@ -202,24 +204,25 @@ fn insert(rows: &mut ArrayVec<Row, ROWS_MAX>, eligible: &mut usize, place: usize
     *eligible += 1;
 }
 
-/// Hears an update about the member of one of these rows, or about a new one.
+/// Hears an update about the member of one of these rows, or about a new one, by these rules.
 fn hear_in(
     rows: &mut ArrayVec<Row, ROWS_MAX>,
     eligible: &mut usize,
     update: Update,
     now: u64,
+    rules: Rules,
 ) -> Heard
     requires order { AreInOrder rows.old.items }
     requires counted { eligible.old ≡ length (filter is_eligible rows.old.items) }
-    ensures answer { result ≡ answer_to rows.old.items update }
-    ensures rows { rows.new.items ≡ hear_rows rows.old.items update now }
+    ensures answer { result ≡ answer_to rules rows.old.items update }
+    ensures rows { rows.new.items ≡ hear_rows rules rows.old.items update now }
     ensures counted { eligible.new ≡ length (filter is_eligible rows.new.items) }
     ensures most { length rows.new.items ≤ ROWS_MAX }
 {
     let row = Row { update, since: now };
     match find_row(rows, update.who) {
         Ok(place) => {
-            if !overrides(&update, &rows[place].update) {
+            if !overrides(&update, &rows[place].update, rules) {
                 return Heard::Kept;
             }
             replace(rows, eligible, place, row);
@@ -299,14 +302,22 @@ fn nth_eligible(rows: &[Row], number: usize) -> Option<Row>
 
 impl Table {
     /// A table with no rows. It is that of the member `me`, which never gets a row. A Suspect becomes
-    /// Confirm after `suspect` ticks, and a Confirm is forgotten after `forget` ticks.
-    pub fn new(me: Endpoint, suspect: u64, forget: u64) -> Table
-        ensures { result ≡ record { me = me; suspect = suspect; forget = forget; rows = [] } }
+    /// Confirm after `suspect` ticks, and a Confirm is forgotten after `forget` ticks. By `rules` an
+    /// update overrides another.
+    pub fn new(me: Endpoint, suspect: u64, forget: u64, rules: Rules) -> Table
+        ensures { result ≡ record {
+          me = me;
+          suspect = suspect;
+          forget = forget;
+          rules = rules;
+          rows = [];
+        } }
     {
         Table {
             me,
             suspect,
             forget,
+            rules,
             rows: ArrayVec::new(),
             eligible: 0,
         }
@@ -315,30 +326,40 @@ impl Table {
     /// Hears an update about another member at the tick `now`, and answers what became of it.
     pub fn hear(&mut self, update: Update, now: u64) -> Heard
         requires { update.who ≢ self.old.me }
-        ensures answer { result ≡ answer_to self.old.rows update }
-        ensures rows { self.new ≡ record self.old { rows = hear_rows self.old.rows update now } }
+        ensures answer { result ≡ answer_to self.old.rules self.old.rows update }
+        ensures rows { self.new
+            ≡ record self.old { rows = hear_rows self.old.rules self.old.rows update now } }
         ensures kept { IsTable self.new }
         // rows that are the tops of what was told stay so
-        ensures tops { (base : List Row) (told : List Told) → rows base told ≡ self.old.rows
-            → rows base (told_with result told update now) ≡ self.new.rows }
+        ensures tops { (base : List Row) (told : List Told)
+            → rows self.old.rules base told ≡ self.old.rows
+            → rows self.old.rules base (told_with result told update now) ≡ self.new.rows }
     {
-        hear_in(&mut self.rows, &mut self.eligible, update, now)
+        hear_in(&mut self.rows, &mut self.eligible, update, now, self.rules)
     }
 
     /// Turns the first Suspect that is due at the tick `now`, in the order of the members, into a
     /// Confirm with its number, and gives that, or none where no Suspect is due.
     pub fn expire(&mut self, now: u64) -> Option<Update>
         ensures answer { result ≡ due_confirm self.old now }
-        ensures rows { self.new
-            ≡ record self.old { rows = hear_option self.old.rows (due_confirm self.old now) now } }
+        ensures rows { self.new ≡ record self.old {
+          rows = hear_option self.old.rules self.old.rows (due_confirm self.old now) now;
+        } }
         ensures kept { IsTable self.new }
-        ensures tops { (base : List Row) (told : List Told) → rows base told ≡ self.old.rows
-            → rows base (told_option told result now) ≡ self.new.rows }
+        ensures tops { (base : List Row) (told : List Told)
+            → rows self.old.rules base told ≡ self.old.rows
+            → rows self.old.rules base (told_option told result now) ≡ self.new.rows }
     {
         match first_due(&self.rows, UpdateKind::Suspect, self.suspect, now) {
             None => None,
             Some(row) => {
-                hear_in(&mut self.rows, &mut self.eligible, row.confirm(), now);
+                hear_in(
+                    &mut self.rows,
+                    &mut self.eligible,
+                    row.confirm(),
+                    now,
+                    self.rules,
+                );
                 Some(row.confirm())
             }
         }
@@ -351,8 +372,9 @@ impl Table {
         ensures rows { self.new
             ≡ record self.old { rows = remove_option self.old.rows (due_to_forget self.old now) } }
         ensures kept { IsTable self.new }
-        ensures tops { (base : List Row) (told : List Told) → rows base told ≡ self.old.rows
-            → rows base (untold_option told result) ≡ self.new.rows }
+        ensures tops { (base : List Row) (told : List Told)
+            → rows self.old.rules base told ≡ self.old.rows
+            → rows self.old.rules base (untold_option told result) ≡ self.new.rows }
     {
         match first_due(&self.rows, UpdateKind::Confirm, self.forget, now) {
             None => None,
@@ -368,8 +390,9 @@ impl Table {
     pub fn get(&self, who: Endpoint) -> Option<Row>
         ensures row { result ≡ row_of self.now.rows who }
         // it is the top of what was heard of the member
-        ensures top { (base : List Row) (told : List Told) → rows base told ≡ self.now.rows
-            → result ≡ row base told who }
+        ensures top { (base : List Row) (told : List Told)
+            → rows self.now.rules base told ≡ self.now.rows
+            → result ≡ row self.now.rules base told who }
         ensures kept { IsTable self.now }
     {
         row_in(&self.rows, who)

@@ -4,7 +4,7 @@ ghost use Rattle.std.specs.Prelude.{◌≡◌, ◌+◌, ◌*◌, ◌<◌};
 
 use super::*;
 use std::process::Abort;
-use swim_wire::{Cursor, Endpoint, Update, UpdateKind};
+use swim_wire::{Cursor, Endpoint, Rules, Update, UpdateKind};
 
 /// The member 10.0.0.0 plus `last`, at port 7000.
 fn member(last: u32) -> Endpoint
@@ -14,8 +14,8 @@ fn member(last: u32) -> Endpoint
     Endpoint::new(0x0a00_0000 + last, 7000).unwrap()
 }
 
-/// The table of 10.0.0.1:7000: a Suspect becomes Confirm after 8 ticks, and a Confirm is forgotten
-/// after 40.
+/// The table of 10.0.0.1:7000, by these rules: a Suspect becomes Confirm after 8 ticks, and a Confirm
+/// is forgotten after 40.
 #[derive(Drop)]
 struct OwnTable {
     table: Table,
@@ -23,9 +23,9 @@ struct OwnTable {
 }
 
 impl OwnTable {
-    fn new() -> OwnTable {
+    fn new(rules: Rules) -> OwnTable {
         OwnTable {
-            table: Table::new(member(1), 8, 40),
+            table: Table::new(member(1), 8, 40, rules),
         }
     }
 
@@ -93,8 +93,8 @@ fn shows(table: &Table, last: u32, wanted: Option<(UpdateKind, u64, u64)>) -> bo
 }
 
 /// Makes these calls of a new table, each at its tick.
-fn run(rt: &impl Abort, calls: &[(u64, Call)]) {
-    let mut own = OwnTable::new();
+fn run(rt: &impl Abort, rules: Rules, calls: &[(u64, Call)]) {
+    let mut own = OwnTable::new(rules);
     for (now, call) in calls {
         assert!(rt; answers(&mut own, *now, *call), "{call:?} at {now}");
     }
@@ -113,7 +113,7 @@ fn heard_in_any_order(rt: HostRuntime) {
         (0, Hear(Alive, 3, 4, Accepted)),
         (0, Get(3, Some((Alive, 4, 0)))),
     ];
-    run(&rt, &in_order);
+    run(&rt, Rules::One, &in_order);
     let reversed = [
         (0, Hear(Alive, 3, 4, Accepted)),
         (0, Hear(Alive, 3, 3, Kept)),
@@ -121,7 +121,7 @@ fn heard_in_any_order(rt: HostRuntime) {
         (0, Hear(Alive, 3, 3, Kept)),
         (0, Get(3, Some((Alive, 4, 0)))),
     ];
-    run(&rt, &reversed);
+    run(&rt, Rules::One, &reversed);
 }
 
 #[test]
@@ -134,7 +134,7 @@ fn confirm_and_forget(rt: HostRuntime) {
         (39, Hear(Alive, 3, 1, Kept)),
         (39, Get(3, Some((Confirm, 0, 0)))),
     ];
-    run(&rt, &kept);
+    run(&rt, Rules::One, &kept);
     let forgotten = [
         (0, Hear(Alive, 3, 9, Accepted)),
         (0, Hear(Confirm, 3, 0, Accepted)),
@@ -144,9 +144,61 @@ fn confirm_and_forget(rt: HostRuntime) {
         (40, Hear(Alive, 3, 1, Accepted)),
         (40, Get(3, Some((Alive, 1, 40)))),
     ];
-    run(&rt, &forgotten);
+    run(&rt, Rules::One, &forgotten);
     let unknown = [(0, Hear(Confirm, 3, 5, Unknown)), (0, Get(3, None))];
-    run(&rt, &unknown);
+    run(&rt, Rules::One, &unknown);
+}
+
+#[test]
+fn back_after_a_confirm(rt: HostRuntime) {
+    let stands = [
+        (0, Hear(Alive, 3, 1, Accepted)),
+        (0, Hear(Confirm, 3, 9, Accepted)),
+        (0, Hear(Alive, 3, 9, Kept)),
+        (0, Get(3, Some((Confirm, 9, 0)))),
+    ];
+    run(&rt, Rules::Two, &stands);
+    let back = [
+        (0, Hear(Alive, 3, 1, Accepted)),
+        (0, Hear(Confirm, 3, 9, Accepted)),
+        (1, Hear(Alive, 3, 10, Accepted)),
+        (1, Get(3, Some((Alive, 10, 1)))),
+    ];
+    run(&rt, Rules::Two, &back);
+    let late = [
+        (0, Hear(Alive, 3, 10, Accepted)),
+        (1, Hear(Confirm, 3, 9, Kept)),
+        (1, Get(3, Some((Alive, 10, 0)))),
+    ];
+    run(&rt, Rules::Two, &late);
+    let unknown = [
+        (0, Hear(Confirm, 3, 5, Unknown)),
+        (0, Hear(Alive, 3, 4, Accepted)),
+        (0, Get(3, Some((Alive, 4, 0)))),
+    ];
+    run(&rt, Rules::Two, &unknown);
+    let known = [
+        (0, Hear(Alive, 3, 4, Accepted)),
+        (0, Hear(Confirm, 3, 5, Accepted)),
+        (0, Get(3, Some((Confirm, 5, 0)))),
+    ];
+    run(&rt, Rules::Two, &known);
+}
+
+#[test]
+fn counted_again(rt: HostRuntime) {
+    let mut own = OwnTable::new(Rules::Two);
+    let heard = [
+        (Alive, 1, 1),
+        (Confirm, 9, 0),
+        (Confirm, 10, 0),
+        (Alive, 11, 1),
+        (Suspect, 11, 1),
+    ];
+    for (kind, number, count) in heard {
+        assert_eq!(rt; own.hear(kind, 3, number, 0), Some(Accepted));
+        assert_eq!(rt; own.table.count(), count, "{kind:?} {number}");
+    }
 }
 
 #[test]
@@ -159,14 +211,14 @@ fn suspected_too_long(rt: HostRuntime) {
         (47, Forget(None)),
         (48, Forget(Some(3))),
     ];
-    run(&rt, &once);
+    run(&rt, Rules::One, &once);
     let again = [
         (0, Hear(Suspect, 3, 3, Accepted)),
         (7, Hear(Suspect, 3, 4, Accepted)),
         (14, Expire(None)),
         (15, Expire(Some((3, 4)))),
     ];
-    run(&rt, &again);
+    run(&rt, Rules::One, &again);
     let two = [
         (0, Hear(Suspect, 5, 1, Accepted)),
         (0, Hear(Suspect, 4, 2, Accepted)),
@@ -174,12 +226,12 @@ fn suspected_too_long(rt: HostRuntime) {
         (9, Expire(Some((5, 1)))),
         (9, Expire(None)),
     ];
-    run(&rt, &two);
+    run(&rt, Rules::One, &two);
 }
 
 #[test]
 fn a_full_table(rt: HostRuntime) {
-    let mut full = OwnTable::new();
+    let mut full = OwnTable::new(Rules::One);
     for last in 256..512 {
         assert_eq!(rt; full.hear(Alive, last, 1, 0), Some(Accepted));
     }
@@ -200,7 +252,7 @@ fn a_full_table(rt: HostRuntime) {
 
 #[test]
 fn readers(rt: HostRuntime) {
-    let mut three = OwnTable::new();
+    let mut three = OwnTable::new(Rules::One);
     for (kind, last) in [(Alive, 5), (Suspect, 3), (Alive, 4), (Confirm, 4)] {
         assert_eq!(rt; three.hear(kind, last, 1, 0), Some(Accepted));
     }
@@ -230,22 +282,29 @@ fn readers(rt: HostRuntime) {
 
 #[test]
 fn which_overrides_which(rt: HostRuntime) {
-    // The new kind and number, the old ones, and whether the new update overrides the old one.
+    // The new kind and number, the old ones, and whether the new update overrides the old one by
+    // rules 1 and by rules 2.
     let pairs = [
-        ((Alive, 4), (Alive, 3), true),
-        ((Alive, 3), (Alive, 3), false),
-        ((Alive, 4), (Suspect, 3), true),
-        ((Alive, 3), (Suspect, 3), false),
-        ((Suspect, 4), (Suspect, 3), true),
-        ((Suspect, 3), (Suspect, 3), false),
-        ((Suspect, 3), (Alive, 3), true),
-        ((Suspect, 2), (Alive, 3), false),
-        ((Confirm, 0), (Alive, 3), true),
-        ((Confirm, 0), (Suspect, 3), true),
-        ((Confirm, 4), (Confirm, 3), false),
-        ((Alive, 4), (Confirm, 3), false),
+        ((Alive, 4), (Alive, 3), true, true),
+        ((Alive, 3), (Alive, 3), false, false),
+        ((Alive, 4), (Suspect, 3), true, true),
+        ((Alive, 3), (Suspect, 3), false, false),
+        ((Suspect, 4), (Suspect, 3), true, true),
+        ((Suspect, 3), (Suspect, 3), false, false),
+        ((Suspect, 3), (Alive, 3), true, true),
+        ((Suspect, 2), (Alive, 3), false, false),
+        ((Confirm, 3), (Alive, 3), true, true),
+        ((Confirm, 2), (Alive, 3), true, false),
+        ((Confirm, 3), (Suspect, 3), true, true),
+        ((Confirm, 2), (Suspect, 3), true, false),
+        ((Confirm, 4), (Confirm, 3), false, true),
+        ((Confirm, 3), (Confirm, 3), false, false),
+        ((Alive, 4), (Confirm, 3), false, true),
+        ((Alive, 3), (Confirm, 3), false, false),
+        ((Suspect, 4), (Confirm, 3), false, true),
+        ((Suspect, 3), (Confirm, 3), false, false),
     ];
-    for ((kind, number), (old_kind, old_number), wanted) in pairs {
+    for ((kind, number), (old_kind, old_number), by_one, by_two) in pairs {
         let who = member(3);
         let new = Update { kind, who, number };
         let old = Update {
@@ -253,7 +312,13 @@ fn which_overrides_which(rt: HostRuntime) {
             who,
             number: old_number,
         };
-        assert_eq!(rt; overrides(&new, &old), wanted, "{new:?} over {old:?}");
+        for (rules, wanted) in [(Rules::One, by_one), (Rules::Two, by_two)] {
+            assert_eq!(rt;
+                overrides(&new, &old, rules),
+                wanted,
+                "{new:?} over {old:?} by {rules:?}"
+            );
+        }
     }
 }
 
