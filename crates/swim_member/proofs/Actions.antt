@@ -1,6 +1,6 @@
 -- Actions one after another.
 use Rattle.std.proofs.Common.{◌≡◌, ℕ, ◌+◌, ◌-◌, refl, sym, ◌∙◌, ap, List, [], ◌∷◌, ◌++◌, append_assoc, append-nil, replicate, zero, suc, ◌<◌, arith}
-use Rattle.swim_member.specs.State.{State, Change, Heard, Forgot, Queued, Sent, NumberRaised, Became, Ticked, SequenceTaken, Probed, Relayed, Unrelayed, Joined, Paged, Noted}
+use Rattle.swim_member.specs.State.{State, Change, Heard, Forgot, Queued, Sent, NumberRaised, Became, Ticked, SequenceTaken, Probed, Relayed, Unrelayed, Joined, Looked, Listed, Passed, Paged, Noted}
 use Rattle.swim_member.specs.Events.{Action, perform, each_from, outs, notes}
 use Rattle.swim_member.specs.Machinery.Steps.{apply, apply_all, changes_from, after, notes_by, outs_by}
 
@@ -18,7 +18,7 @@ outs_by-append s [] gs = refl
 outs_by-append s (m ∷ fs) gs =
     ap (λ n. outs (perform s m) ++ n) (outs_by-append (apply_all (perform s m) s) fs gs) ∙ sym (append_assoc (outs (perform s m)) (outs_by (apply_all (perform s m) s) fs) (outs_by (after (apply_all (perform s m) s) fs) gs))
 
-apply_all-append : (fs gs : List Change) (s : State) → apply_all (fs ++ gs) s ≡ apply_all fs (apply_all gs s)
+pub apply_all-append : (fs gs : List Change) (s : State) → apply_all (fs ++ gs) s ≡ apply_all fs (apply_all gs s)
 apply_all-append [] gs s = refl
 apply_all-append (h ∷ fs) gs s = ap (apply h) (apply_all-append fs gs s)
 
@@ -37,9 +37,12 @@ notes-append (Probed p ∷ fs) gs = notes-append fs gs
 notes-append (Relayed r ∷ fs) gs = notes-append fs gs
 notes-append (Unrelayed r ∷ fs) gs = notes-append fs gs
 notes-append (Joined j ∷ fs) gs = notes-append fs gs
+notes-append (Looked names ∷ fs) gs = notes-append fs gs
+notes-append (Listed names ∷ fs) gs = notes-append fs gs
+notes-append (Passed n ∷ fs) gs = notes-append fs gs
 notes-append (Paged updates ∷ fs) gs = notes-append fs gs
 
-outs-append : (fs gs : List Change) → outs (fs ++ gs) ≡ outs gs ++ outs fs
+pub outs-append : (fs gs : List Change) → outs (fs ++ gs) ≡ outs gs ++ outs fs
 outs-append [] gs = sym (append-nil (outs gs))
 outs-append (Sent to p ∷ fs) gs = ap (λ ns. ns ++ record { to = to; datagram = p } ∷ []) (outs-append fs gs) ∙ append_assoc (outs gs) (outs fs) (record { to = to; datagram = p } ∷ [])
 outs-append (Heard u ∷ fs) gs = outs-append fs gs
@@ -54,6 +57,9 @@ outs-append (Probed p ∷ fs) gs = outs-append fs gs
 outs-append (Relayed r ∷ fs) gs = outs-append fs gs
 outs-append (Unrelayed r ∷ fs) gs = outs-append fs gs
 outs-append (Joined j ∷ fs) gs = outs-append fs gs
+outs-append (Looked names ∷ fs) gs = outs-append fs gs
+outs-append (Listed names ∷ fs) gs = outs-append fs gs
+outs-append (Passed n ∷ fs) gs = outs-append fs gs
 outs-append (Paged updates ∷ fs) gs = outs-append fs gs
 
 pub after-news : (s : State) (ms : List Action) → apply_all (changes_from s ms) s ≡ after s ms
@@ -100,6 +106,9 @@ apply-settings (Probed p) s = refl
 apply-settings (Relayed r) s = refl
 apply-settings (Unrelayed r) s = refl
 apply-settings (Joined j) s = refl
+apply-settings (Looked names) s = refl
+apply-settings (Listed names) s = refl
+apply-settings (Passed n) s = refl
 apply-settings (Paged updates) s = refl
 apply-settings (Noted n) s = refl
 

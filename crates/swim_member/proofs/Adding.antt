@@ -41,6 +41,17 @@ adds-then s t u a b c os ps m n ns ms h k = record {
   fit = λ f. k.fit (h.fit f);
 }
 
+-- the member was another before, with the same settings and the same number
+pub adds-from : (s t u : State) (a b : Answer) (os ps : List Out) (m : ℕ) (ns : List Note)
+    → t.settings ≡ s.settings → t.number ≡ s.number → os ≡ ps → Adds t u a b os m ns → Adds s u a b ps m ns
+adds-from s t u a b os ps m ns settings number e k = record {
+  outs = k.outs ∙ ap (λ x. a.outs.items ++ x) e;
+  notes = k.notes;
+  page = k.page;
+  few = k.few;
+  fit = λ f. k.fit (ap (λ (x : Settings). list_all (is_fit x.me t.number) a.outs.items) settings ∙ ap (λ n. list_all (is_fit s.settings.me n) a.outs.items) number ∙ f);
+}
+
 -- before anything was sent, the member may change as it likes
 pub adds-start : (s t u : State) (a b : Answer) (os : List Out) (m : ℕ) (ns : List Note)
     → a.outs.items ≡ [] → Adds t u a b os m ns → Adds s u a b os m ns

@@ -2,7 +2,9 @@
 use Rattle.std.proofs.Common.{◌≡◌, ◌≢◌, ℕ, ◌<◌, ◌≤◌, ◌^◌, Bool, true, false, cond, ◌==◌, refl, sym, ◌∙◌, ap, List, [], ◌∷◌, map, length, Option, Some, None, arith}
 use Rattle.std.specs.List.{find, filter, list_all}
 use Rattle.std.specs.Option.{option_map}
-use Rattle.std.proofs.lemmas.Bool.{and_parts, false≢true}
+use Rattle.std.proofs.lemmas.Bool.{and_parts, false≢true, le-leb}
+use Rattle.swim_wire.specs.declared.rules.Rules.{Rules}
+use Rattle.swim_wire.specs.declared.rules.Rules.TheVariants.{One, Two}
 use Rattle.swim_wire.specs.declared.update.Update.{Update}
 use Rattle.swim_wire.specs.declared.update.UpdateKind.{UpdateKind}
 use Rattle.swim_wire.specs.declared.update.UpdateKind.TheVariants.{Alive, Suspect, Confirm}
@@ -15,21 +17,22 @@ use Rattle.swim_gossip.specs.declared.buffer.Waiting.{Waiting}
 use Rattle.swim_gossip.specs.Queue.{Gossip, offered_queue, without, raise_all}
 use Rattle.swim_member.specs.declared.settings.Settings.{Settings}
 use Rattle.swim_member.specs.declared.state.Relay.{Relay}
+use Rattle.swim_member.specs.Checks.{rules_of}
 use Rattle.swim_member.specs.State.{State}
 use Rattle.swim_member.specs.Fit.{may_say, may_wait, may_stand}
 use Rattle.swim_member.proofs.Lows.{all-raised, all-without, say-offered, say-spoken, stand-put, stand-remove, low-found}
 use Rattle.swim_member.specs.Expiry.{expire_first}
-use Rattle.swim_member.specs.Machinery.Steps.{apply_all, is_live}
+use Rattle.swim_member.specs.Machinery.Steps.{apply_all, is_live, rows_heard}
 use Rattle.swim_member.specs.Machinery.Kept.{AllWait, IsKept, is_row}
 use Rattle.swim_member.proofs.Waits.{wait-put, wait-own, wait-room, wait-forgotten, wait-raised}
 
 -- another queue in which all wait
 pub keep-queue : (s : Settings) (n t : ℕ) (members : Members) (b : Gossip) (p : List Waiting) (made : List Relay) → IsKept s n t members b made → AllWait s.me members.rows p → list_all (may_wait s.me n) p ≡ true → IsKept s n t members (record b { queue = p }) made
-keep-queue s n t members b p made h w low = record { me = h.me; suspect = h.suspect; forget = h.forget; sound = h.sound; table = h.table; wait = w; most = h.most; number = h.number; time = h.time; stand = h.stand; say = low; live = h.live }
+keep-queue s n t members b p made h w low = record { me = h.me; suspect = h.suspect; forget = h.forget; rules = h.rules; sound = h.sound; table = h.table; wait = w; most = h.most; number = h.number; time = h.time; stand = h.stand; say = low; live = h.live }
 
 -- the own update begins to wait, with the own number as it then is
 pub keep-own : (s : Settings) (n m t : ℕ) (members : Members) (b : Gossip) (made : List Relay) (u : Update) → u.who ≡ s.me → u.number ≡ m → m ≤ 2 ^ 62 → IsKept s n t members b made → IsKept s m t members (record b { queue = offered_queue b.queue u }) made
-keep-own s n m t members b made u e same l h = record { me = h.me; suspect = h.suspect; forget = h.forget; sound = h.sound; table = h.table; wait = wait-own s.me members.rows b.queue u e h.wait; most = h.most; number = l; time = h.time; stand = h.stand; say = say-spoken s.me n m b.queue u e same l h.say; live = h.live }
+keep-own s n m t members b made u e same l h = record { me = h.me; suspect = h.suspect; forget = h.forget; rules = h.rules; sound = h.sound; table = h.table; wait = wait-own s.me members.rows b.queue u e h.wait; most = h.most; number = l; time = h.time; stand = h.stand; say = say-spoken s.me n m b.queue u e same l h.say; live = h.live }
 
 pub room-own : (s : Settings) (n t : ℕ) (members : Members) (b : Gossip) (made : List Relay) (u : Update) → u.who ≡ s.me → IsKept s n t members b made → length (without u.who b.queue) < 257
 room-own s n t members b made u e h = wait-room s.me members.rows b.queue u (wait-own s.me members.rows b.queue u e h.wait) h.table.most
@@ -39,17 +42,19 @@ pub keep-raised : (s : Settings) (n t : ℕ) (members : Members) (b : Gossip) (m
 keep-raised s n t members b made sent h = keep-queue s n t members b (map (raise_all sent) b.queue) made h (wait-raised s.me members.rows b.queue sent h.wait) (all-raised (may_say s.me n) sent b.queue h.say)
 
 -- an update is accepted
-pub keep-heard : (s : Settings) (n t : ℕ) (members after : Members) (b : Gossip) (made : List Relay) (u : Update) (now : ℕ) → u.who ≢ s.me → u.number ≤ 2 ^ 62 → answer_to members.rows u ≡ Accepted → after ≡ record members { rows = hear_rows members.rows u now } → IsTable after → IsKept s n t members b made → IsKept s n t after (record b { queue = offered_queue b.queue u }) made
+pub keep-heard : (s : Settings) (n t : ℕ) (members after : Members) (b : Gossip) (made : List Relay) (u : Update) (now : ℕ) → u.who ≢ s.me → u.number ≤ 2 ^ 62 → answer_to members.rules members.rows u ≡ Accepted → after ≡ record members { rows = hear_rows members.rules members.rows u now } → IsTable after → IsKept s n t members b made → IsKept s n t after (record b { queue = offered_queue b.queue u }) made
 keep-heard s n t members after b made u now other l e k table h =
     let rows : after.rows ≡ put_row members.rows (record { update = u; since = now }) =
     ap (λ (m : Members). m.rows) k ∙ ap (λ a. rows_after a members.rows (record { update = u; since = now })) e in
     let me : after.me ≡ s.me = ap (λ (m : Members). m.me) k ∙ h.me in
     let suspect : after.suspect ≡ s.suspect = ap (λ (m : Members). m.suspect) k ∙ h.suspect in
     let forget : after.forget ≡ s.forget = ap (λ (m : Members). m.forget) k ∙ h.forget in
+    let by_rules : after.rules ≡ rules_of s = ap (λ (m : Members). m.rules) k ∙ h.rules in
     record {
       me = me;
       suspect = suspect;
       forget = forget;
+      rules = by_rules;
       sound = h.sound;
       table = table;
       wait = rw rows (wait-put s.me members.rows b.queue u now h.table.order other h.wait);
@@ -61,7 +66,7 @@ keep-heard s n t members after b made u now other l e k table h =
       live = h.live;
     }
 
-pub room-heard : (s : Settings) (n t : ℕ) (members after : Members) (b : Gossip) (made : List Relay) (u : Update) (now : ℕ) → u.who ≢ s.me → u.number ≤ 2 ^ 62 → answer_to members.rows u ≡ Accepted → after ≡ record members { rows = hear_rows members.rows u now } → IsTable after → IsKept s n t members b made → length (without u.who b.queue) < 257
+pub room-heard : (s : Settings) (n t : ℕ) (members after : Members) (b : Gossip) (made : List Relay) (u : Update) (now : ℕ) → u.who ≢ s.me → u.number ≤ 2 ^ 62 → answer_to members.rules members.rows u ≡ Accepted → after ≡ record members { rows = hear_rows members.rules members.rows u now } → IsTable after → IsKept s n t members b made → length (without u.who b.queue) < 257
 room-heard s n t members after b made u now other l e k table h =
     wait-room s.me after.rows b.queue u (IsKept.wait (keep-heard s n t members after b made u now other l e k table h)) table.most
 
@@ -75,15 +80,16 @@ find-passes test (x ∷ rows) r e = at (test x) refl e (λ k. find-passes test r
     at false t k f = f k
 
 -- a Suspect that is due is overridden by its Confirm
-pub due-accepted : (ticks now : ℕ) (rows : List Row) (r : Row) → AreInOrder rows → find (is_due Suspect ticks now) rows ≡ Some r → answer_to rows (confirm_of r) ≡ Accepted
-due-accepted ticks now rows r order e =
-    ap (λ o. heard_as o (length rows == 256) (confirm_of r)) (found_here (is_due Suspect ticks now) rows r order e)
-    ∙ ap (λ b. cond b Accepted Kept) (over r.update.kind (due_kind rows e))
+pub due-accepted : (rules : Rules) (ticks now : ℕ) (rows : List Row) (r : Row) → AreInOrder rows → find (is_due Suspect ticks now) rows ≡ Some r → answer_to rules rows (confirm_of r) ≡ Accepted
+due-accepted rules ticks now rows r order e =
+    ap (λ o. heard_as rules o (length rows == 256) (confirm_of r)) (found_here (is_due Suspect ticks now) rows r order e)
+    ∙ ap (λ b. cond b Accepted Kept) (over rules r.update.kind (due_kind rows e))
   where
-    over : (k : UpdateKind) → is_kind Suspect k ≡ true → beats Confirm r.update.number k r.update.number ≡ true
-    over Alive h = refl
-    over Suspect h = refl
-    over Confirm h = absurd (false≢true h)
+    over : (rules : Rules) (k : UpdateKind) → is_kind Suspect k ≡ true → beats rules Confirm r.update.number k r.update.number ≡ true
+    over One Suspect h = refl
+    over Two Suspect h = le-leb r.update.number r.update.number (omega arith)
+    over rules Alive h = absurd (false≢true h)
+    over rules Confirm h = absurd (false≢true h)
 
     passes : (rows : List Row) → find (is_due Suspect ticks now) rows ≡ Some r → is_due Suspect ticks now r ≡ true
     passes rows e = find-passes (is_due Suspect ticks now) rows r e
@@ -104,10 +110,10 @@ expired-row members now u e = by_row (find (is_due Suspect members.suspect now) 
     by_row None f k = absurd (cc)
     by_row (Some r) f k = record { row = r; found = f; update = cc }
 
-pub expired-accepted : (members : Members) (now : ℕ) (u : Update) → IsTable members → due_confirm members now ≡ Some u → answer_to members.rows u ≡ Accepted
+pub expired-accepted : (members : Members) (now : ℕ) (u : Update) → IsTable members → due_confirm members now ≡ Some u → answer_to members.rules members.rows u ≡ Accepted
 expired-accepted members now u h e =
     let x : ExpiredRow members now u = expired-row members now u e in
-    ap (answer_to members.rows) (sym x.update) ∙ due-accepted members.suspect now members.rows x.row h.order x.found
+    ap (answer_to members.rules members.rows) (sym x.update) ∙ due-accepted members.rules members.suspect now members.rows x.row h.order x.found
 
 pub expired-other : (members : Members) (now : ℕ) (u : Update) → IsTable members → due_confirm members now ≡ Some u → u.who ≢ members.me
 expired-other members now u h e k =
@@ -123,17 +129,18 @@ expired-low me members now u h e =
     omega arith
 
 -- the state after a Suspect expired
-pub expired-state : (s : State) (members after : Members) (queue : List Waiting) (u : Update) → members.rows ≡ s.rows → members.suspect ≡ s.settings.suspect → IsTable members → due_confirm members s.time ≡ Some u → after.rows ≡ hear_rows members.rows u s.time → queue ≡ offered_queue s.queue u → record s { rows = after.rows; queue = queue } ≡ apply_all (expire_first (find (is_due Suspect s.settings.suspect s.time) s.rows)) s
-expired-state s members after queue u same ticks h e k q =
+pub expired-state : (s : State) (members after : Members) (queue : List Waiting) (u : Update) → members.rows ≡ s.rows → members.rules ≡ rules_of s.settings → members.suspect ≡ s.settings.suspect → IsTable members → due_confirm members s.time ≡ Some u → after.rows ≡ hear_rows members.rules members.rows u s.time → queue ≡ offered_queue s.queue u → record s { rows = after.rows; queue = queue } ≡ apply_all (expire_first (find (is_due Suspect s.settings.suspect s.time) s.rows)) s
+expired-state s members after queue u same by_rules ticks h e k q =
     let x : ExpiredRow members s.time u = expired-row members s.time u e in
     let found : find (is_due Suspect s.settings.suspect s.time) s.rows ≡ Some x.row =
     ap (λ n. find (is_due Suspect n s.time) s.rows) (sym ticks) ∙ ap (λ rows. find (is_due Suspect members.suspect s.time) rows) (sym same) ∙ x.found in
-    let heard : after.rows ≡ heard_row (row_of s.rows x.row.update.who) s.rows (record { update = confirm_of x.row; since = s.time }) =
-    k ∙ ap (λ v. hear_rows members.rows v s.time) (sym x.update)
-    ∙ hear-found (is_due Suspect members.suspect s.time) members.rows x.row s.time h.order x.found
-    ∙ ap (λ rows. heard_row (row_of rows x.row.update.who) rows (record { update = confirm_of x.row; since = s.time })) same in
+    let heard : after.rows ≡ rows_heard s (confirm_of x.row) =
+    k ∙ ap (λ v. hear_rows members.rules members.rows v s.time) (sym x.update)
+    ∙ hear-found members.rules (is_due Suspect members.suspect s.time) members.rows x.row s.time h.order x.found
+    ∙ ap (λ rows. heard_row members.rules (row_of rows x.row.update.who) rows (record { update = confirm_of x.row; since = s.time })) same
+    ∙ ap (λ rules. heard_row rules (row_of s.rows x.row.update.who) s.rows (record { update = confirm_of x.row; since = s.time })) by_rules in
     ap (λ rows. record s { rows = rows; queue = queue }) heard
-    ∙ ap (λ w. record s { rows = heard_row (row_of s.rows x.row.update.who) s.rows (record { update = confirm_of x.row; since = s.time }); queue = w }) (q ∙ ap (offered_queue s.queue) (sym x.update))
+    ∙ ap (λ w. record s { rows = rows_heard s (confirm_of x.row); queue = w }) (q ∙ ap (offered_queue s.queue) (sym x.update))
     ∙ ap (λ o. apply_all (expire_first o) s) (sym found)
 
 -- the row that was forgotten
@@ -157,10 +164,12 @@ keep-forgotten s n t members after b made now x e k table h =
     let me : after.me ≡ s.me = ap (λ (m : Members). m.me) k ∙ h.me in
     let suspect : after.suspect ≡ s.suspect = ap (λ (m : Members). m.suspect) k ∙ h.suspect in
     let forget : after.forget ≡ s.forget = ap (λ (m : Members). m.forget) k ∙ h.forget in
+    let by_rules : after.rules ≡ rules_of s = ap (λ (m : Members). m.rules) k ∙ h.rules in
     record {
       me = me;
       suspect = suspect;
       forget = forget;
+      rules = by_rules;
       sound = h.sound;
       table = table;
       wait = rw rows (wait-forgotten s.me members.rows b.queue x h.table.order
@@ -176,4 +185,4 @@ keep-forgotten s n t members after b made now x e k table h =
 
 -- other relays, all of them live at this time
 pub keep-made : (s : Settings) (n t now : ℕ) (members : Members) (b : Gossip) (made left : List Relay) → now ≤ 2 ^ 62 → filter (is_live now s.period) left ≡ left → IsKept s n t members b made → IsKept s n now members b left
-keep-made s n t now members b made left l live h = record { me = h.me; suspect = h.suspect; forget = h.forget; sound = h.sound; table = h.table; wait = h.wait; most = h.most; number = h.number; time = l; stand = h.stand; say = h.say; live = live }
+keep-made s n t now members b made left l live h = record { me = h.me; suspect = h.suspect; forget = h.forget; rules = h.rules; sound = h.sound; table = h.table; wait = h.wait; most = h.most; number = h.number; time = l; stand = h.stand; say = h.say; live = live }

@@ -8,7 +8,12 @@ pub mod Parts
 pub mod Received
 pub mod Examples
 pub mod Asking
+pub mod Dealing
+pub mod Turning
 pub mod Ticking
 pub mod Showing
 pub mod Bases
 pub mod Adding
+pub mod TurnLists
+pub mod FewRows
+pub mod TurnNews

@@ -1,4 +1,4 @@
--- Rows that are eligible, relays that are the same, the last update, at most one datagram.
+-- Rows that are eligible, relays that are the same, the last update.
 use Rattle.std.proofs.Common.{◌≡◌, ℕ, not, ◌+◌, ◌<◌, ◌≤◌, ◌==◌, Bool, true, false, cond, refl, sym, ◌∙◌, ap, List, [], ◌∷◌, length, suc, Option, Some, None, arith}
 use Rattle.std.specs.List.{filter, list_any, remove}
 use Rattle.std.proofs.lemmas.Bool.{eqb-true, ne_eqb}
@@ -7,8 +7,6 @@ use Rattle.swim_wire.specs.declared.update.UpdateKind.{UpdateKind}
 use Rattle.swim_wire.specs.declared.update.UpdateKind.TheVariants.{Alive, Suspect, Confirm}
 use Rattle.swim_rules.specs.Rows.{AreAbove, AreInOrder, row_of, is_eligible, is_kind, is_of_kind}
 use Rattle.swim_rules.proofs.Tables.{order-above}
-use Rattle.std.specs.Option.{option_to_list}
-use Rattle.swim_member.specs.declared.answer.Out.{Out}
 use Rattle.swim_member.specs.declared.state.Relay.{Relay}
 use Rattle.swim_member.specs.Member.{row_name}
 use Rattle.swim_member.specs.Readings.{is_relay, without_relay}
@@ -54,10 +52,6 @@ without-place r (q ∷ relays) h = at (is_relay r q) h (λ k. without-place r re
     at : (b : Bool) → length (q ∷ relays) ≤ cond b 0 (suc (relay_place r relays)) → (length relays ≤ relay_place r relays → relays ≡ without_relay r relays) → q ∷ relays ≡ cond b relays (q ∷ without_relay r relays)
     at true k f = absurd (omega arith)
     at false k f = ap (λ rest. q ∷ rest) (f (omega arith))
-
-pub length-option : (o : Option Out) → length (option_to_list o) ≤ 1
-length-option None = omega arith
-length-option (Some out) = omega arith
 
 -- Counts by kind
 

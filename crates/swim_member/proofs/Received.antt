@@ -1,5 +1,6 @@
 -- A datagram, from its parts: its updates, the own number, its kind.
 use Rattle.std.proofs.Common.{◌≡◌, ℕ, ◌==◌, Bool, true, false, cond, refl, sym, ◌∙◌, ap, List, [], ◌∷◌, ◌++◌, map, append_assoc, append-nil, nat_le}
+use Rattle.swim_wire.specs.declared.rules.Rules.{Rules}
 use Rattle.swim_wire.specs.declared.update.Update.{Update}
 use Rattle.swim_wire.specs.declared.update.UpdateKind.TheVariants.{Alive}
 use Rattle.swim_wire.specs.declared.datagram.Datagram.{Datagram}
@@ -9,6 +10,7 @@ use Rattle.swim_rules.specs.Rows.{answer_to}
 use Rattle.swim_member.specs.declared.note.Note.{Note}
 use Rattle.swim_member.specs.declared.note.Note.TheVariants as note
 use Rattle.swim_member.specs.declared.answer.Out.{Out}
+use Rattle.swim_member.specs.Checks.{rules_of}
 use Rattle.swim_member.specs.State.{State, Queued, NumberRaised, Noted}
 use Rattle.swim_member.specs.Events.{Action, Hear, Settle, Reply, perform, outs, notes, datagram_actions}
 use Rattle.swim_member.specs.OwnNumber.{own_with, hear_own, note_of, suspicion_of}
@@ -16,7 +18,7 @@ use Rattle.swim_member.specs.declared.own_number.OwnNumber.{OwnNumber}
 use Rattle.swim_member.specs.declared.own_number.OwnNumber.TheVariants.{Stays, Wanted, Confirmed}
 use Rattle.swim_member.specs.declared.own_number.Suspicion.{Suspicion}
 use Rattle.swim_member.specs.declared.own_number.Suspicion.TheVariants.{Passed, Leap, Last, Refutable}
-use Rattle.swim_member.specs.Hearing.{heard_with}
+use Rattle.swim_member.specs.Hearing.{heard_with, hear_other}
 use Rattle.swim_member.specs.Machinery.Steps.{apply_all, after, notes_by, outs_by}
 use Rattle.swim_member.proofs.Actions.{after-append, notes_by-append, outs_by-append}
 
@@ -27,8 +29,8 @@ outs-note_of Leap = refl
 outs-note_of Last = refl
 outs-note_of Refutable = refl
 
-outs-own : (old : ℕ) (u : Update) → outs (hear_own old u) ≡ []
-outs-own old u = outs-note_of (suspicion_of old u)
+outs-own : (rules : Rules) (old : ℕ) (u : Update) → outs (hear_own rules old u) ≡ []
+outs-own rules old u = outs-note_of (suspicion_of rules old u)
 
 pub outs-heard_with : (h : Hearing) (u : Update) → outs (heard_with h u) ≡ []
 outs-heard_with Accepted u = refl
@@ -39,9 +41,9 @@ outs-heard_with Full u = refl
 outs-hear : (s : State) (u : Update) → outs (perform s (Hear u)) ≡ []
 outs-hear s u = pick (u.who == s.settings.me)
   where
-    pick : (a : Bool) → outs (cond a (hear_own s.number u) (heard_with (answer_to s.rows u) u)) ≡ []
-    pick true = outs-own s.number u
-    pick false = outs-heard_with (answer_to s.rows u) u
+    pick : (a : Bool) → outs (cond a (hear_own (rules_of s.settings) s.number u) (hear_other s u)) ≡ []
+    pick true = outs-own (rules_of s.settings) s.number u
+    pick false = outs-heard_with (answer_to (rules_of s.settings) s.rows u) u
 
 pub outs_by-hear : (s : State) (us : List Update) → outs_by s (map (λ u. Hear u) us) ≡ []
 outs_by-hear s [] = refl

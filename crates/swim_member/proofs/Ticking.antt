@@ -5,13 +5,16 @@ use Rattle.swim_rules.specs.declared.table.Row.{Row}
 use Rattle.swim_rules.specs.Rows.{answer_to, is_kind, is_due, row_of}
 use Rattle.swim_wire.specs.declared.update.UpdateKind.TheVariants.{Alive, Suspect, Confirm}
 use Rattle.swim_member.specs.declared.state.Probe.{Probe}
+use Rattle.swim_member.specs.Checks.{rules_of}
 use Rattle.swim_member.specs.State.{State}
 use Rattle.swim_member.specs.Events.{Action, Advance, Expire, Forget, Blame, Probe_next, Ask, Bye, perform, outs, notes, each_from, tick_actions}
 use Rattle.swim_member.specs.Expiry.{expire_first, forget_first}
-use Rattle.swim_member.specs.Probe.{blame, suspect_target, suspect_of, probe_row, chosen_row, ask, ask_one, helpers_about, is_at}
+use Rattle.swim_member.specs.Probe.{blame, suspect_target, suspect_of, ask, ask_one, helpers_about, is_at}
+use Rattle.swim_member.specs.Turn.{look}
+use Rattle.swim_member.proofs.Turning.{notes-look}
 use Rattle.swim_member.specs.Member.{is_eligible_name, eligible}
 use Rattle.swim_member.specs.Leave.{bye}
-use Rattle.swim_member.specs.Hearing.{heard_with}
+use Rattle.swim_member.specs.Hearing.{hear_other}
 use Rattle.swim_member.specs.Machinery.Steps.{apply_all, after, notes_by, outs_by}
 use Rattle.swim_member.proofs.Actions.{after-append, notes_by-append, outs_by-append, settings-apply_all, settings-after}
 use Rattle.swim_member.proofs.Received.{outs-heard_with}
@@ -48,8 +51,8 @@ notes-forget s = by_row (find (is_due Confirm s.settings.forget s.time) s.rows)
 outs-blame : (s : State) → outs (perform s Blame) ≡ []
 outs-blame s = at (is_at s 0) s.probe
   where
-    of_kind : (r : Row) (b : Bool) → outs (cond b (heard_with (answer_to s.rows (suspect_of r)) (suspect_of r)) []) ≡ []
-    of_kind r true = outs-heard_with (answer_to s.rows (suspect_of r)) (suspect_of r)
+    of_kind : (r : Row) (b : Bool) → outs (cond b (hear_other s (suspect_of r)) []) ≡ []
+    of_kind r true = outs-heard_with (answer_to (rules_of s.settings) s.rows (suspect_of r)) (suspect_of r)
     of_kind r false = refl
 
     of_row : (o : Option Row) → outs (suspect_target s o) ≡ []
@@ -65,13 +68,12 @@ outs-blame s = at (is_at s 0) s.probe
     at true None = refl
     at true (Some q) = of_answer q q.answered
 
-notes-probe_next : (s : State) (word : ℕ) → notes (perform s (Probe_next word)) ≡ []
-notes-probe_next s word = at (is_at s 0) (chosen_row s word)
+notes-probe_next : (s : State) (deal : List ℕ) → notes (perform s (Probe_next deal)) ≡ []
+notes-probe_next s deal = at (is_at s 0)
   where
-    at : (b : Bool) (o : Option Row) → notes (cond b (probe_row s o) []) ≡ []
-    at false o = refl
-    at true None = refl
-    at true (Some r) = refl
+    at : (b : Bool) → notes (cond b (look s deal) []) ≡ []
+    at false = refl
+    at true = notes-look s deal
 
 notes-ask : (s : State) (k : ℕ) → notes (perform s (Ask k)) ≡ []
 notes-ask s k = at (is_at s s.settings.direct) s.probe
@@ -123,60 +125,60 @@ after-then : (s t : State) (ms tail : List Action) → t ≡ after s ms → afte
 after-then s t ms tail e = ap (λ u. after u tail) e ∙ sym (after-append s ms tail)
 
 -- a tick is first the moves as and bs, and then the rest
-pub record TickedBy (s0 s1 s2 s3 s4 s5 s6 : State) (as_due bs_due asks : List Action) (word : ℕ) : Type 0 where
+pub record TickedBy (s0 s1 s2 s3 s4 s5 s6 : State) (as_due bs_due asks : List Action) (deal : List ℕ) : Type 0 where
   pub advanced : s1 ≡ apply_all (perform s0 Advance) s0
   pub expired : s2 ≡ after s1 as_due
   pub forgotten : s3 ≡ after s2 bs_due
   pub blamed : s4 ≡ apply_all (perform s3 Blame) s3
-  pub probed : s5 ≡ apply_all (perform s4 (Probe_next word)) s4
+  pub probed : s5 ≡ apply_all (perform s4 (Probe_next deal)) s4
   pub asked : s6 ≡ after s5 asks
 
-parts-state : (s0 s1 s2 s3 s4 s5 s6 : State) (as_due bs_due asks : List Action) (word : ℕ) → TickedBy s0 s1 s2 s3 s4 s5 s6 as_due bs_due asks word → s6 ≡ after s0 (Advance ∷ as_due ++ bs_due ++ Blame ∷ Probe_next word ∷ asks)
-parts-state s0 s1 s2 s3 s4 s5 s6 as_due bs_due asks word h =
+parts-state : (s0 s1 s2 s3 s4 s5 s6 : State) (as_due bs_due asks : List Action) (deal : List ℕ) → TickedBy s0 s1 s2 s3 s4 s5 s6 as_due bs_due asks deal → s6 ≡ after s0 (Advance ∷ as_due ++ bs_due ++ Blame ∷ Probe_next deal ∷ asks)
+parts-state s0 s1 s2 s3 s4 s5 s6 as_due bs_due asks deal h =
     h.asked
-    ∙ after-then s4 s5 (Probe_next word ∷ []) asks h.probed
-    ∙ after-then s3 s4 (Blame ∷ []) (Probe_next word ∷ asks) h.blamed
-    ∙ after-then s2 s3 bs_due (Blame ∷ Probe_next word ∷ asks) h.forgotten
-    ∙ after-then s1 s2 as_due (bs_due ++ (Blame ∷ Probe_next word ∷ asks)) h.expired
-    ∙ ap (λ ms. after s1 ms) (sym (append_assoc as_due bs_due (Blame ∷ Probe_next word ∷ asks)))
-    ∙ after-then s0 s1 (Advance ∷ []) (as_due ++ bs_due ++ Blame ∷ Probe_next word ∷ asks) h.advanced
+    ∙ after-then s4 s5 (Probe_next deal ∷ []) asks h.probed
+    ∙ after-then s3 s4 (Blame ∷ []) (Probe_next deal ∷ asks) h.blamed
+    ∙ after-then s2 s3 bs_due (Blame ∷ Probe_next deal ∷ asks) h.forgotten
+    ∙ after-then s1 s2 as_due (bs_due ++ (Blame ∷ Probe_next deal ∷ asks)) h.expired
+    ∙ ap (λ ms. after s1 ms) (sym (append_assoc as_due bs_due (Blame ∷ Probe_next deal ∷ asks)))
+    ∙ after-then s0 s1 (Advance ∷ []) (as_due ++ bs_due ++ Blame ∷ Probe_next deal ∷ asks) h.advanced
 
-parts-outs : (s0 s1 s2 s3 s4 s5 s6 : State) (as_due bs_due asks : List Action) (word : ℕ) → TickedBy s0 s1 s2 s3 s4 s5 s6 as_due bs_due asks word → outs_by s1 as_due ≡ [] → outs_by s2 bs_due ≡ [] → outs (perform s4 (Probe_next word)) ++ outs_by s5 asks ≡ outs_by s0 (Advance ∷ as_due ++ bs_due ++ Blame ∷ Probe_next word ∷ asks)
-parts-outs s0 s1 s2 s3 s4 s5 s6 as_due bs_due asks word h za zb =
-    ap (λ u. outs (perform s4 (Probe_next word)) ++ outs_by u asks) h.probed
-    ∙ outs-then s3 s4 (Blame ∷ []) (Probe_next word ∷ asks) h.blamed (ap (λ o. o ++ []) (outs-blame s3))
-    ∙ outs-then s2 s3 bs_due (Blame ∷ Probe_next word ∷ asks) h.forgotten zb
-    ∙ outs-then s1 s2 as_due (bs_due ++ (Blame ∷ Probe_next word ∷ asks)) h.expired za
-    ∙ ap (λ ms. outs_by s1 ms) (sym (append_assoc as_due bs_due (Blame ∷ Probe_next word ∷ asks)))
-    ∙ outs-then s0 s1 (Advance ∷ []) (as_due ++ bs_due ++ Blame ∷ Probe_next word ∷ asks) h.advanced refl
+parts-outs : (s0 s1 s2 s3 s4 s5 s6 : State) (as_due bs_due asks : List Action) (deal : List ℕ) → TickedBy s0 s1 s2 s3 s4 s5 s6 as_due bs_due asks deal → outs_by s1 as_due ≡ [] → outs_by s2 bs_due ≡ [] → outs (perform s4 (Probe_next deal)) ++ outs_by s5 asks ≡ outs_by s0 (Advance ∷ as_due ++ bs_due ++ Blame ∷ Probe_next deal ∷ asks)
+parts-outs s0 s1 s2 s3 s4 s5 s6 as_due bs_due asks deal h za zb =
+    ap (λ u. outs (perform s4 (Probe_next deal)) ++ outs_by u asks) h.probed
+    ∙ outs-then s3 s4 (Blame ∷ []) (Probe_next deal ∷ asks) h.blamed (ap (λ o. o ++ []) (outs-blame s3))
+    ∙ outs-then s2 s3 bs_due (Blame ∷ Probe_next deal ∷ asks) h.forgotten zb
+    ∙ outs-then s1 s2 as_due (bs_due ++ (Blame ∷ Probe_next deal ∷ asks)) h.expired za
+    ∙ ap (λ ms. outs_by s1 ms) (sym (append_assoc as_due bs_due (Blame ∷ Probe_next deal ∷ asks)))
+    ∙ outs-then s0 s1 (Advance ∷ []) (as_due ++ bs_due ++ Blame ∷ Probe_next deal ∷ asks) h.advanced refl
 
-parts-notes : (s0 s1 s2 s3 s4 s5 s6 : State) (as_due bs_due asks : List Action) (word : ℕ) → TickedBy s0 s1 s2 s3 s4 s5 s6 as_due bs_due asks word → notes_by s1 as_due ≡ [] → notes_by s2 bs_due ≡ [] → notes_by s5 asks ≡ [] → notes (perform s3 Blame) ≡ notes_by s0 (Advance ∷ as_due ++ bs_due ++ Blame ∷ Probe_next word ∷ asks)
-parts-notes s0 s1 s2 s3 s4 s5 s6 as_due bs_due asks word h za zb zc =
+parts-notes : (s0 s1 s2 s3 s4 s5 s6 : State) (as_due bs_due asks : List Action) (deal : List ℕ) → TickedBy s0 s1 s2 s3 s4 s5 s6 as_due bs_due asks deal → notes_by s1 as_due ≡ [] → notes_by s2 bs_due ≡ [] → notes_by s5 asks ≡ [] → notes (perform s3 Blame) ≡ notes_by s0 (Advance ∷ as_due ++ bs_due ++ Blame ∷ Probe_next deal ∷ asks)
+parts-notes s0 s1 s2 s3 s4 s5 s6 as_due bs_due asks deal h za zb zc =
     sym (append-nil (notes (perform s3 Blame)))
-    ∙ ap (λ n. notes (perform s3 Blame) ++ n) (sym zc ∙ notes-then s4 s5 (Probe_next word ∷ []) asks h.probed (ap (λ n. n ++ []) (notes-probe_next s4 word)))
-    ∙ ap (λ u. notes (perform s3 Blame) ++ notes_by u (Probe_next word ∷ asks)) h.blamed
-    ∙ notes-then s2 s3 bs_due (Blame ∷ Probe_next word ∷ asks) h.forgotten zb
-    ∙ notes-then s1 s2 as_due (bs_due ++ (Blame ∷ Probe_next word ∷ asks)) h.expired za
-    ∙ ap (λ ms. notes_by s1 ms) (sym (append_assoc as_due bs_due (Blame ∷ Probe_next word ∷ asks)))
-    ∙ notes-then s0 s1 (Advance ∷ []) (as_due ++ bs_due ++ Blame ∷ Probe_next word ∷ asks) h.advanced refl
+    ∙ ap (λ n. notes (perform s3 Blame) ++ n) (sym zc ∙ notes-then s4 s5 (Probe_next deal ∷ []) asks h.probed (ap (λ n. n ++ []) (notes-probe_next s4 deal)))
+    ∙ ap (λ u. notes (perform s3 Blame) ++ notes_by u (Probe_next deal ∷ asks)) h.blamed
+    ∙ notes-then s2 s3 bs_due (Blame ∷ Probe_next deal ∷ asks) h.forgotten zb
+    ∙ notes-then s1 s2 as_due (bs_due ++ (Blame ∷ Probe_next deal ∷ asks)) h.expired za
+    ∙ ap (λ ms. notes_by s1 ms) (sym (append_assoc as_due bs_due (Blame ∷ Probe_next deal ∷ asks)))
+    ∙ notes-then s0 s1 (Advance ∷ []) (as_due ++ bs_due ++ Blame ∷ Probe_next deal ∷ asks) h.advanced refl
 
-abbrev pub Ticked : State → State → State → State → State → State → State → ℕ → Type 0
-Ticked s0 s1 s2 s3 s4 s5 s6 word = TickedBy s0 s1 s2 s3 s4 s5 s6 (replicate 256 Expire) (replicate 256 Forget) (each_from 0 8 (λ k. Ask k)) word
+abbrev pub Ticked : State → State → State → State → State → State → State → List ℕ → Type 0
+Ticked s0 s1 s2 s3 s4 s5 s6 deal = TickedBy s0 s1 s2 s3 s4 s5 s6 (replicate 256 Expire) (replicate 256 Forget) (each_from 0 8 (λ k. Ask k)) deal
 
-pub ticked-state : (s0 s1 s2 s3 s4 s5 s6 : State) (word : ℕ) → Ticked s0 s1 s2 s3 s4 s5 s6 word → s6 ≡ after s0 (tick_actions word)
-ticked-state s0 s1 s2 s3 s4 s5 s6 word h = parts-state s0 s1 s2 s3 s4 s5 s6 (replicate 256 Expire) (replicate 256 Forget) (each_from 0 8 (λ k. Ask k)) word h
+pub ticked-state : (s0 s1 s2 s3 s4 s5 s6 : State) (deal : List ℕ) → Ticked s0 s1 s2 s3 s4 s5 s6 deal → s6 ≡ after s0 (tick_actions deal)
+ticked-state s0 s1 s2 s3 s4 s5 s6 deal h = parts-state s0 s1 s2 s3 s4 s5 s6 (replicate 256 Expire) (replicate 256 Forget) (each_from 0 8 (λ k. Ask k)) deal h
 
-pub ticked-outs : (s0 s1 s2 s3 s4 s5 s6 : State) (word : ℕ) → Ticked s0 s1 s2 s3 s4 s5 s6 word → outs (perform s4 (Probe_next word)) ++ outs_by s5 (each_from 0 8 (λ k. Ask k)) ≡ outs_by s0 (tick_actions word)
-ticked-outs s0 s1 s2 s3 s4 s5 s6 word h =
-    parts-outs s0 s1 s2 s3 s4 s5 s6 (replicate 256 Expire) (replicate 256 Forget) (each_from 0 8 (λ k. Ask k)) word h (outs-replicate Expire outs-expire 256 s1) (outs-replicate Forget outs-forget 256 s2)
+pub ticked-outs : (s0 s1 s2 s3 s4 s5 s6 : State) (deal : List ℕ) → Ticked s0 s1 s2 s3 s4 s5 s6 deal → outs (perform s4 (Probe_next deal)) ++ outs_by s5 (each_from 0 8 (λ k. Ask k)) ≡ outs_by s0 (tick_actions deal)
+ticked-outs s0 s1 s2 s3 s4 s5 s6 deal h =
+    parts-outs s0 s1 s2 s3 s4 s5 s6 (replicate 256 Expire) (replicate 256 Forget) (each_from 0 8 (λ k. Ask k)) deal h (outs-replicate Expire outs-expire 256 s1) (outs-replicate Forget outs-forget 256 s2)
 
-pub ticked-notes : (s0 s1 s2 s3 s4 s5 s6 : State) (word : ℕ) → Ticked s0 s1 s2 s3 s4 s5 s6 word → notes (perform s3 Blame) ≡ notes_by s0 (tick_actions word)
-ticked-notes s0 s1 s2 s3 s4 s5 s6 word h =
-    parts-notes s0 s1 s2 s3 s4 s5 s6 (replicate 256 Expire) (replicate 256 Forget) (each_from 0 8 (λ k. Ask k)) word h (notes-replicate Expire notes-expire 256 s1) (notes-replicate Forget notes-forget 256 s2) (notes-each (λ k. Ask k) notes-ask 8 0 s5)
+pub ticked-notes : (s0 s1 s2 s3 s4 s5 s6 : State) (deal : List ℕ) → Ticked s0 s1 s2 s3 s4 s5 s6 deal → notes (perform s3 Blame) ≡ notes_by s0 (tick_actions deal)
+ticked-notes s0 s1 s2 s3 s4 s5 s6 deal h =
+    parts-notes s0 s1 s2 s3 s4 s5 s6 (replicate 256 Expire) (replicate 256 Forget) (each_from 0 8 (λ k. Ask k)) deal h (notes-replicate Expire notes-expire 256 s1) (notes-replicate Forget notes-forget 256 s2) (notes-each (λ k. Ask k) notes-ask 8 0 s5)
 
-pub ticked-settings : (s0 s1 s2 s3 s4 s5 s6 : State) (word : ℕ) → Ticked s0 s1 s2 s3 s4 s5 s6 word → s5.settings ≡ s0.settings
-ticked-settings s0 s1 s2 s3 s4 s5 s6 word h =
-    ap (λ (s : State). s.settings) h.probed ∙ settings-apply_all (perform s4 (Probe_next word)) s4
+pub ticked-settings : (s0 s1 s2 s3 s4 s5 s6 : State) (deal : List ℕ) → Ticked s0 s1 s2 s3 s4 s5 s6 deal → s5.settings ≡ s0.settings
+ticked-settings s0 s1 s2 s3 s4 s5 s6 deal h =
+    ap (λ (s : State). s.settings) h.probed ∙ settings-apply_all (perform s4 (Probe_next deal)) s4
     ∙ ap (λ (s : State). s.settings) h.blamed ∙ settings-apply_all (perform s3 Blame) s3
     ∙ ap (λ (s : State). s.settings) h.forgotten ∙ settings-after s2 (replicate 256 Forget)
     ∙ ap (λ (s : State). s.settings) h.expired ∙ settings-after s1 (replicate 256 Expire)

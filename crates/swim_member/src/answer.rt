@@ -6,7 +6,7 @@ ghost use Rattle.swim_member.specs.Events.{no_answer};
 use crate::note::Note;
 use crate::settings::HELPERS_MAX;
 use arrayvec::ArrayVec;
-use swim_wire::{Cursor, Datagram, Endpoint, Kind, UPDATES_MAX, Update};
+use swim_wire::{Cursor, Datagram, Endpoint, Kind, Rules, UPDATES_MAX, Update};
 
 /// The most datagrams that a step sends: `helpers + 2`, at the most helpers.
 pub const OUTS_MAX: usize = HELPERS_MAX + 2;
@@ -29,6 +29,7 @@ impl Default for Out {
         ensures { result ≡ record {
           to = 1;
           datagram = record {
+            version = Rules.One;
             kind = Kind.Ping;
             group = 0;
             seq = 0;
@@ -41,6 +42,7 @@ impl Default for Out {
         Out {
             to: Endpoint::default(),
             datagram: Datagram {
+                version: Rules::One,
                 kind: Kind::Ping,
                 group: 0,
                 seq: 0,

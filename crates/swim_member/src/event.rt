@@ -2,19 +2,23 @@
 
 ghost use Rattle.std.specs.Prelude.{◌≡◌};
 
+use crate::deal::Deal;
 use arrayvec::ArrayVec;
 use swim_wire::{Cursor, DATAGRAM_MAX, Endpoint};
 
 /// The most bytes of a received datagram that are kept: one more than a datagram may have.
 pub const RECEIVED_MAX: usize = DATAGRAM_MAX + 1;
 
+// a deal takes less room than the bytes of a datagram, so with it an event is no larger
+const _: () = prove!(size_of::<Deal>() < size_of::<ArrayVec<u8, RECEIVED_MAX>>());
+
 /// What may happen to a member.
 #[derive(Drop)]
 pub enum Event {
     /// Time goes on by one tick.
     Tick {
-        /// A random word, which chooses whom to probe.
-        word: u32,
+        /// The order of the members where a new turn list is made.
+        deal: Deal,
     },
     /// Bytes came.
     Datagram {

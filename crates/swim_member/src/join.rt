@@ -105,6 +105,7 @@ impl Member {
         answer.send(Out {
             to: peer,
             datagram: Datagram {
+                version: self.settings.rules_of(),
                 kind: Kind::Join,
                 group: self.settings.group,
                 seq,
@@ -139,6 +140,7 @@ impl Member {
         answer.send(Out {
             to: join.sender,
             datagram: Datagram {
+                version: self.settings.rules_of(),
                 kind: Kind::Page,
                 group: self.settings.group,
                 seq: join.seq,

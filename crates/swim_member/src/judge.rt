@@ -5,8 +5,9 @@ ghost use Rattle.std.specs.Prelude.{◌≡◌, ◌≤◌, ◌^◌, Ok, IfSome};
 ghost use Rattle.swim_wire.specs.declared.update.TheConstants.{NUMBER_MAX};
 ghost use Rattle.swim_wire.specs.Spelling.{HasText};
 ghost use Rattle.swim_wire.specs.Decoding.{decoded};
-ghost use Rattle.swim_member.specs.Judge.{refusal_of, judge_bytes, judge_stopped, judge, number_wanted, wanted, MayAct};
+ghost use Rattle.swim_member.specs.Judge.{refusal_of, judge_bytes, judge_stopped, judge, number_wanted, wanted, MayAct, HasDeal};
 
+use crate::deal::Deal;
 use crate::event::Event;
 use crate::member::Member;
 use crate::note::Note;
@@ -22,8 +23,8 @@ pub enum Judgement {
     Note(Note),
     /// Time goes on.
     Tick {
-        /// The random word, which chooses whom to probe.
-        word: u32,
+        /// The order of the members where a new turn list is made.
+        deal: Deal,
     },
     /// A datagram is accepted.
     Datagram {
@@ -65,6 +66,8 @@ impl Member {
     {
         if datagram.group != self.settings.group {
             Some(Note::OtherGroup)
+        } else if datagram.version != self.settings.rules_of() {
+            Some(Note::OtherVersion)
         } else if datagram.sender != from {
             Some(Note::NotSender)
         } else if datagram.sender == self.settings.me {
@@ -105,13 +108,18 @@ impl Member {
         ensures value { result ≡ judge self.now event.now }
         ensures sound { MayAct self.now result }
         ensures bound { IfSome (number_wanted result) (λ n. n ≤ NUMBER_MAX) }
+        ensures deal { HasDeal event.now }
     {
+        if let Event::Tick { deal } = event {
+            // the type's invariant holds
+            let _ = deal.numbers();
+        }
         if self.phase != Phase::Running {
             return Member::judge_stopped(event);
         }
         match event {
-            Event::Tick { word: _ } if self.time == LAST_TIME => Judgement::Note(Note::TimeOver),
-            Event::Tick { word } => Judgement::Tick { word: *word },
+            Event::Tick { deal: _ } if self.time == LAST_TIME => Judgement::Note(Note::TimeOver),
+            Event::Tick { deal } => Judgement::Tick { deal: *deal },
             // as a value of the match it would be moved once more
             Event::Datagram { from, bytes } => return self.judge_bytes(*from, bytes),
             Event::ReceiveFailed => Judgement::Note(Note::ReceiveFailed),

@@ -3,6 +3,7 @@
 #![tactic(auto)]
 
 mod answer;
+mod deal;
 mod event;
 mod expiry;
 mod hearing;
@@ -21,8 +22,10 @@ mod settings;
 mod state;
 mod step;
 mod tick;
+mod turn;
 
 pub use answer::{Answer, NOTES_MAX, OUTS_MAX, Out};
+pub use deal::Deal;
 pub use event::{Event, RECEIVED_MAX};
 pub use judge::Judgement;
 pub use member::{Member, RELAYS_MAX};

@@ -16,9 +16,9 @@ pub enum Note {
     NotSender,
     /// The datagram names this member as its sender.
     FromSelf,
-    /// A Suspect about this member has a number that is too far above its own.
+    /// A suspicion about this member has a number that is too far above its own.
     Leap,
-    /// A Suspect about this member has the greatest number.
+    /// A suspicion about this member has the greatest number.
     NoNumberLeft,
     /// An Alive or a Suspect about a new member found no room.
     TableFull,
@@ -32,7 +32,7 @@ pub enum Note {
     Unasked,
     /// The wanted number was not granted.
     SaveFailed,
-    /// A Confirm about this member was heard.
+    /// By rules 1, a Confirm about this member was heard.
     Expelled,
     /// The member does not take part any more.
     Stopped,
@@ -42,6 +42,8 @@ pub enum Note {
     SendFailed(u32),
     /// No tick counts any more.
     TimeOver,
+    /// The datagram is of the other version: its sender lives by other rules.
+    OtherVersion,
 }
 
 /// What fills the unused places of a list.
@@ -79,6 +81,7 @@ impl Note {
             Note::ReceiveFailed => 15,
             Note::SendFailed(_) => 16,
             Note::TimeOver => 17,
+            Note::OtherVersion => 18,
         }
     }
 
@@ -104,6 +107,7 @@ impl Note {
             Note::ReceiveFailed => "ReceiveFailed",
             Note::SendFailed(_) => "SendFailed",
             Note::TimeOver => "TimeOver",
+            Note::OtherVersion => "OtherVersion",
         }
     }
 }

@@ -4,8 +4,9 @@
 ghost use Rattle.std.specs.Prelude.{◌≡◌, ◌≢◌, ◌+◌, ◌<◌, ◌≤◌, [], length, true, IfSome};
 ghost use Rattle.swim_gossip.specs.Queue.{offered_queue};
 ghost use Rattle.swim_wire.specs.declared.update.TheConstants.{NUMBER_MAX};
+ghost use Rattle.swim_member.specs.Checks.{rules_of};
 ghost use Rattle.swim_member.specs.Fit.{may_say};
-ghost use Rattle.swim_member.specs.OwnNumber.{suspicion_of, hear_own, number_asked, greatest_asked, has_confirm, own_number_by, wanted_number, own_with, own};
+ghost use Rattle.swim_member.specs.OwnNumber.{is_suspicion, suspicion_of, hear_own, number_asked, greatest_asked, has_confirm, is_expelled, own_number_by, wanted_number, own_with, own};
 ghost use Rattle.swim_member.specs.Events.{Settle, perform, notes};
 ghost use Rattle.swim_member.specs.Machinery.Steps.{apply_all};
 ghost use Rattle.swim_member.specs.Machinery.Adding.{Adds, HasRoom};
@@ -15,12 +16,12 @@ use crate::member::Member;
 use crate::note::Note;
 use crate::state::Phase;
 use swim_gossip::Visits;
-use swim_wire::{Endpoint, LEAP, NUMBER_MAX, Update, UpdateKind};
+use swim_wire::{Endpoint, LEAP, NUMBER_MAX, Rules, Update, UpdateKind};
 
 /// What an update about this member means for its own number.
 #[derive(Clone, Copy, Debug, PartialEq, Eq)]
 enum Suspicion {
-    /// It is no Suspect, or one of a number that was passed: nothing.
+    /// It suspects nothing, or a number that was passed: nothing.
     Passed,
     /// Its number is more than `LEAP` above the own one: it is noted, and not refuted.
     Leap,
@@ -30,11 +31,23 @@ enum Suspicion {
     Refutable,
 }
 
-/// What an update about this member means, if its own number is `old`.
-fn suspicion_of(update: &Update, old: u64) -> Suspicion
-    ensures { result ≡ suspicion_of old update.now }
+/// Whether an update of this kind about this member is a suspicion: a Suspect, and by rules 2 a Confirm too, since a
+/// greater number overrides it.
+fn is_suspicion(kind: UpdateKind, rules: Rules) -> bool
+    ensures { result ≡ is_suspicion rules kind }
 {
-    if update.kind != UpdateKind::Suspect || update.number < old {
+    match kind {
+        UpdateKind::Alive => false,
+        UpdateKind::Suspect => true,
+        UpdateKind::Confirm => rules == Rules::Two,
+    }
+}
+
+/// What an update about this member means, if its own number is `old`.
+fn suspicion_of(update: &Update, old: u64, rules: Rules) -> Suspicion
+    ensures { result ≡ suspicion_of rules old update.now }
+{
+    if !is_suspicion(update.kind, rules) || update.number < old {
         return Suspicion::Passed;
     }
     if update.number - old > LEAP {
@@ -47,29 +60,29 @@ fn suspicion_of(update: &Update, old: u64) -> Suspicion
 }
 
 /// The number that an update asks for, or 0.
-fn number_asked(update: &Update, me: Endpoint, old: u64) -> u64
-    ensures value { result ≡ number_asked me old update.now }
+fn number_asked(update: &Update, me: Endpoint, old: u64, rules: Rules) -> u64
+    ensures value { result ≡ number_asked rules me old update.now }
     ensures bound { result ≤ NUMBER_MAX }
     ensures above { result ≢ 0 → old < result }
 {
     if update.who != me {
         return 0;
     }
-    match suspicion_of(update, old) {
+    match suspicion_of(update, old, rules) {
         Suspicion::Refutable => update.number + 1,
         _ => 0,
     }
 }
 
 /// The greatest number that is asked for, or 0.
-fn greatest_asked(updates: &[Update], me: Endpoint, old: u64) -> u64
-    ensures value { result ≡ greatest_asked me old updates.now }
+fn greatest_asked(updates: &[Update], me: Endpoint, old: u64, rules: Rules) -> u64
+    ensures value { result ≡ greatest_asked rules me old updates.now }
     ensures bound { result ≤ NUMBER_MAX }
     ensures above { result ≢ 0 → old < result }
 {
     let mut greatest = 0;
     for update in updates {
-        greatest = number_asked(update, me, old).max(greatest);
+        greatest = number_asked(update, me, old, rules).max(greatest);
     }
     greatest
 }
@@ -86,6 +99,13 @@ fn has_confirm(updates: &[Update], me: Endpoint) -> bool
     false
 }
 
+/// Whether they expel `me`: by rules 1 a Confirm about oneself is the last word.
+fn is_expelled(updates: &[Update], me: Endpoint, rules: Rules) -> bool
+    ensures { result ≡ is_expelled rules me updates.now }
+{
+    rules == Rules::One && has_confirm(updates, me)
+}
+
 /// What the updates of a datagram ask of the own number.
 #[derive(Clone, Copy, Debug, PartialEq, Eq)]
 pub enum OwnNumber {
@@ -93,7 +113,7 @@ pub enum OwnNumber {
     Stays,
     /// To refute suspicions by this number.
     Wanted(u64),
-    /// A Confirm about this member: it is expelled with the number that it has.
+    /// A Confirm about this member, by rules 1: it is expelled with the number that it has.
     Confirmed,
 }
 
@@ -134,10 +154,11 @@ impl Member {
         ensures bound { IfSome (wanted_number result)
             (λ n. (self.now.number < n) × (n ≤ NUMBER_MAX)) }
     {
-        if has_confirm(updates, self.settings.me) {
+        let rules = self.settings.rules_of();
+        if is_expelled(updates, self.settings.me, rules) {
             return OwnNumber::Confirmed;
         }
-        match greatest_asked(updates, self.settings.me, self.number) {
+        match greatest_asked(updates, self.settings.me, self.number, rules) {
             0 => OwnNumber::Stays,
             number => OwnNumber::Wanted(number),
         }
@@ -147,10 +168,10 @@ impl Member {
     pub(crate) fn hear_own(&self, update: &Update, answer: &mut Answer)
         requires { HasRoom answer.old }
         ensures answer { Adds self.now self.now answer.old answer.new [] 0
-            (notes (hear_own self.now.number update.now)) }
+            (notes (hear_own (rules_of self.now.settings) self.now.number update.now)) }
         ensures brief { length answer.new.notes.items ≤ length answer.old.notes.items + 1 }
     {
-        match suspicion_of(update, self.number) {
+        match suspicion_of(update, self.number, self.settings.rules_of()) {
             Suspicion::Leap => answer.note(Note::Leap),
             Suspicion::Last => answer.note(Note::NoNumberLeft),
             Suspicion::Passed | Suspicion::Refutable => {}

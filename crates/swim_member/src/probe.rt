@@ -1,4 +1,4 @@
-//! The probe (SWIM, section 3.1): its target is chosen and pinged, others are asked about one that does not answer, and
+//! The probe (SWIM, section 3.1): its target is pinged, others are asked about one that does not answer, and
 //! at the end of the period it is suspected (SWIM, section 4.2).
 
 ghost use Rattle.std.specs.Prelude.{◌≡◌, ◌<◌, ◌≤◌, ◌+◌, ◌++◌, nat_lt, map, take, length, []};
@@ -6,12 +6,13 @@ ghost use Rattle.std.specs.List.{filter};
 ghost use Rattle.swim_rules.specs.Rows.{is_eligible, row_of};
 ghost use Rattle.swim_member.specs.declared.answer.TheConstants.{OUTS_MAX};
 ghost use Rattle.swim_member.specs.Member.{row_name};
-ghost use Rattle.swim_member.specs.Probe.{suspect_of, suspect_target, chosen_row, probe_of};
+ghost use Rattle.swim_member.specs.Probe.{suspect_of, suspect_target, probe_of};
 ghost use Rattle.swim_member.specs.Events.{Blame, Probe_next, Ask, each_from, perform, outs, notes};
 ghost use Rattle.swim_member.specs.Machinery.Steps.{apply_all, after, outs_by, is_helper, after_asks, outs_of_asks, asked_probe};
 ghost use Rattle.swim_member.specs.Machinery.Adding.{Adds, HasRoom};
 
 use crate::answer::Answer;
+use crate::deal::Deal;
 use crate::member::Member;
 use crate::settings::HELPERS_MAX;
 use crate::state::Probe;
@@ -113,17 +114,6 @@ impl Member {
         }
     }
 
-    /// The eligible row that a word chooses, or none where there is none.
-    fn chosen(&self, word: u32) -> Option<Row>
-        ensures { result ≡ chosen_row self.now word }
-    {
-        let count = self.table.count();
-        if count == 0 {
-            return None;
-        }
-        self.table.eligible(word as usize % count)
-    }
-
     /// Begins a probe of a member by a ping.
     fn begin_probe(&mut self, target: Endpoint, answer: &mut Answer)
         requires { length answer.old.outs.items < OUTS_MAX }
@@ -140,19 +130,19 @@ impl Member {
         self.send(target, Kind::Ping, seq, target, answer);
     }
 
-    /// At the end of a period, pings the eligible member that the word chooses.
-    pub(crate) fn probe_next(&mut self, word: u32, answer: &mut Answer)
+    /// At the end of a period, pings the member to which the turn comes.
+    pub(crate) fn probe_next(&mut self, deal: &Deal, answer: &mut Answer)
         requires { length answer.old.outs.items < OUTS_MAX }
-        ensures state { self.new ≡ apply_all (perform self.old (Probe_next word)) self.old }
+        ensures state { self.new ≡ apply_all (perform self.old (Probe_next deal.now)) self.old }
         ensures answer { Adds self.old self.new answer.old answer.new
-            (outs (perform self.old (Probe_next word))) 1 [] }
+            (outs (perform self.old (Probe_next deal.now))) 1 [] }
     {
         if self.time % self.settings.period != 0 {
             return;
         }
-        match self.chosen(word) {
+        match self.take_turn(deal) {
             None => self.probe = None,
-            Some(row) => self.begin_probe(row.who(), answer),
+            Some(target) => self.begin_probe(target, answer),
         }
     }
 

@@ -88,6 +88,7 @@ impl Member {
         answer.send(Out {
             to,
             datagram: Datagram {
+                version: self.settings.rules_of(),
                 kind,
                 group: self.settings.group,
                 seq,

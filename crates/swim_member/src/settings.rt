@@ -1,12 +1,12 @@
 //! The settings of a member.
 
 ghost use Rattle.std.specs.Prelude.{◌≡◌, ◌≤◌, Some, OnOk, IfErr};
-ghost use Rattle.swim_member.specs.Checks.{AreSound, fault_of};
+ghost use Rattle.swim_member.specs.Checks.{AreSound, fault_of, rules_of};
 ghost use Rattle.swim_member.specs.declared.settings.TheConstants.{BLOCK_MAX};
 
 use crate::member::Member;
 use std::{error, fmt};
-use swim_wire::Endpoint;
+use swim_wire::{Endpoint, Rules};
 
 /// The most members that are asked about one target.
 pub const HELPERS_MAX: usize = 8;
@@ -31,6 +31,8 @@ pub enum SettingsFault {
     Helpers,
     /// `block` is not 1 to 1,024.
     Block,
+    /// `rules` is not 1 or 2.
+    Rules,
 }
 
 impl SettingsFault {
@@ -49,6 +51,7 @@ impl SettingsFault {
             SettingsFault::Forget => 5,
             SettingsFault::Helpers => 6,
             SettingsFault::Block => 7,
+            SettingsFault::Rules => 8,
         }
     }
 
@@ -64,6 +67,7 @@ impl SettingsFault {
             SettingsFault::Forget => "Forget",
             SettingsFault::Helpers => "Helpers",
             SettingsFault::Block => "Block",
+            SettingsFault::Rules => "Rules",
         }
     }
 }
@@ -104,6 +108,8 @@ pub struct Settings {
     pub helpers: usize,
     /// How many own numbers one save of the state file reserves, the wanted one included; 1 to 1,024.
     pub block: u64,
+    /// By which rules the group lives, 1 or 2: its members send datagrams of that version.
+    pub rules: u32,
 }
 
 impl Settings {
@@ -133,7 +139,21 @@ impl Settings {
         if self.block < 1 || BLOCK_MAX < self.block {
             return Err(SettingsFault::Block);
         }
+        if self.rules < 1 || 2 < self.rules {
+            return Err(SettingsFault::Rules);
+        }
         Ok(())
+    }
+
+    /// By which rules the group lives; of settings that are not sound, rules 1.
+    pub fn rules_of(&self) -> Rules
+        ensures { result ≡ rules_of self.now }
+    {
+        if self.rules == 2 {
+            Rules::Two
+        } else {
+            Rules::One
+        }
     }
 }
 

@@ -1,8 +1,11 @@
 //! Steps: what a member does at an event.
 
-ghost use Rattle.std.specs.Prelude.{◌≡◌, ◌≤◌, ◌+◌, ◌++◌, ◌∷◌, [], List, All, length, true};
+ghost use Rattle.std.specs.Prelude.{◌≡◌, ◌≢◌, ◌≤◌, ◌+◌, ◌++◌, ◌∷◌, [], List, All, length, true};
 ghost use Rattle.std.specs.List.{list_all};
 ghost use Rattle.swim_wire.specs.Spelling.{HasText};
+ghost use Rattle.swim_wire.specs.declared.rules.Rules.TheVariants.{Two};
+ghost use Rattle.swim_member.specs.declared.state.Phase.TheVariants.{Expelled};
+ghost use Rattle.swim_member.specs.Checks.{rules_of};
 ghost use Rattle.swim_member.specs.State.{State};
 ghost use Rattle.swim_member.specs.Judge.{judge, wanted, number_wanted, MayAct};
 ghost use Rattle.swim_member.specs.Events.{Step, state_of, answer, number_after, actions_of, Show, no_answer};
@@ -37,7 +40,7 @@ impl Member {
     {
         match judged {
             Judgement::Note(note) => answer.note(*note),
-            Judgement::Tick { word } => self.tick(*word, answer),
+            Judgement::Tick { deal } => self.tick(deal, answer),
             Judgement::Datagram { datagram, own } => {
                 self.receive(datagram, *own, granted, answer);
             }
@@ -73,6 +76,10 @@ impl Member {
         // the own number does not fall
         ensures grows { self.old.number ≤ self.new.number }
         ensures settings { self.new.settings ≡ self.old.settings }
+        // by rules 2 no event expels
+        ensures stays { (event : Events) → judge self.old event ≡ judged.now
+            → rules_of self.old.settings ≡ Two
+            → self.old.phase ≢ Expelled → self.new.phase ≢ Expelled }
         ensures base { state_of self.new [] ≡ self.new }
     {
         self.obey(judged, granted, said);
@@ -102,6 +109,9 @@ impl Member {
         ensures number { self.new.number
             ≡ number_after (wanted self.old event.now) granted self.old.number }
         ensures settings { self.new.settings ≡ self.old.settings }
+        // by rules 2 no event expels
+        ensures stays { rules_of self.old.settings ≡ Two
+            → self.old.phase ≢ Expelled → self.new.phase ≢ Expelled }
         // a history may begin anew from the new state
         ensures base { state_of self.new [] ≡ self.new }
     {

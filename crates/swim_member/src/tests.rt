@@ -5,7 +5,7 @@ ghost use Rattle.swim_member.specs.Checks.{AreSound};
 use super::*;
 use arrayvec::ArrayVec;
 use std::test::Fail;
-use swim_wire::{Cursor, Endpoint, encode};
+use swim_wire::{Cursor, Endpoint, Kind, encode};
 
 /// 10.0.0.1:7000, the member itself.
 const ME: u8 = 1;
@@ -13,6 +13,9 @@ const ME: u8 = 1;
 const P: u8 = 2;
 
 const Q: u8 = 3;
+
+/// 10.0.0.4:7000, a newcomer.
+const R: u8 = 4;
 
 const ALIVE: u8 = 1;
 
@@ -86,6 +89,7 @@ fn settings() -> Settings
         forget: 40,
         helpers: 2,
         block: 1,
+        rules: 1,
     }
 }
 
@@ -157,13 +161,19 @@ fn pings(rt: HostRuntime) {
     }
 }
 
-/// Ticks with these words, after which the last one sends what is wanted and the others nothing.
-fn ticks(member: &mut Member, words: &[u32], wanted: &Sent) -> bool {
+/// The event that time goes on, with the deal that begins with this number.
+fn tick(first: u8) -> Event {
+    Event::Tick {
+        deal: Deal::from_first(first),
+    }
+}
+
+/// So many ticks, after which the last one sends what is wanted and the others nothing.
+fn ticks(member: &mut Member, count: usize, wanted: &Sent) -> bool {
     let mut as_wanted = true;
-    for (i, word) in words.iter().enumerate() {
-        let is_last = i + 1 == words.len();
-        let sent = if is_last { Some(wanted) } else { None };
-        as_wanted = sends(member, &Event::Tick { word: *word }, sent) && as_wanted;
+    for number in 1..=count {
+        let sent = if number == count { Some(wanted) } else { None };
+        as_wanted = sends(member, &tick(0), sent) && as_wanted;
     }
     as_wanted
 }
@@ -181,23 +191,23 @@ fn a_probe(rt: HostRuntime) {
     );
     assert!(rt; sends(&mut member, &received(P, &ping), Some(&(P, ack))));
     // The probe of P, the ping-req about it, and the next probe, after which P is suspected.
-    let rows: [(&[u32], Sent); 3] = [
+    let rows: [(usize, Sent); 3] = [
         (
-            &[0, 0, 0, 0],
+            4,
             (
                 P,
                 (1, 1, ME, P, &[(ALIVE, ME, 1), (ALIVE, P, 1), (ALIVE, Q, 1)]),
             ),
         ),
         (
-            &[0, 0],
+            2,
             (
                 Q,
                 (2, 1, ME, P, &[(ALIVE, ME, 1), (ALIVE, P, 1), (ALIVE, Q, 1)]),
             ),
         ),
         (
-            &[0, 1],
+            2,
             (
                 Q,
                 (
@@ -210,17 +220,70 @@ fn a_probe(rt: HostRuntime) {
             ),
         ),
     ];
-    for (words, wanted) in rows {
-        assert!(rt; ticks(&mut member, words, &wanted), "{words:?}");
+    for (count, wanted) in rows {
+        assert!(rt; ticks(&mut member, count, &wanted), "{wanted:?}");
     }
     assert_eq!(rt; member.counts().alive, 1);
     assert_eq!(rt; member.counts().suspect, 1);
     for _ in 0..8 {
         let granted = member.number();
-        member.step(&Event::Tick { word: 0 }, granted);
+        member.step(&tick(0), granted);
     }
     assert_eq!(rt; member.counts().suspect, 1);
     assert_eq!(rt; member.counts().confirmed, 1);
+}
+
+/// Whom the member pings at an event, if anybody.
+fn pinged(member: &mut Member, event: &Event) -> Option<Endpoint> {
+    let granted = member.number();
+    let answer = member.step(event, granted);
+    for out in &answer.outs {
+        if out.datagram.kind == Kind::Ping {
+            return Some(out.to);
+        }
+    }
+    None
+}
+
+#[test]
+fn turns(rt: HostRuntime) {
+    // With which number the deal of the tick at time 12 begins, and whom the probes at times 4, 8, 12,
+    // 16 and 20 go to. R is heard of after time 4, and enters at the next list, which is made at time
+    // 12. Where R is the first of it, P is Confirm when its turn would come, and is passed over.
+    let rows: [(u8, [u8; 5]); 2] = [(0, [P, Q, P, Q, R]), (2, [P, Q, R, Q, R])];
+    for (first, wanted) in rows {
+        let mut member = Member::new(settings(), 1);
+        let both = received(P, &(1, 1, P, ME, &[(ALIVE, P, 1), (ALIVE, Q, 1)]));
+        let newcomer = received(P, &(1, 1, P, ME, &[(ALIVE, R, 1)]));
+        assert!(rt; pinged(&mut member, &both).is_none());
+        for (turn, target) in wanted.iter().enumerate() {
+            for _ in 0..3 {
+                assert!(rt; pinged(&mut member, &tick(0)).is_none());
+            }
+            let deal = if turn == 2 { first } else { 0 };
+            assert!(rt;
+                pinged(&mut member, &tick(deal)) == Some(endpoint(*target)),
+                "{first} {turn}"
+            );
+            if turn == 0 {
+                assert!(rt; pinged(&mut member, &newcomer).is_none());
+            }
+        }
+    }
+}
+
+#[test]
+fn deals(rt: HostRuntime) {
+    let mut numbers = [0; 256];
+    for place in 0..=255 {
+        numbers[place as usize] = 255 - place;
+    }
+    assert!(rt; Deal::new(numbers).is_some());
+    // 0 twice, and no 255
+    numbers[0] = 0;
+    assert!(rt; Deal::new(numbers).is_none());
+    let deal = Deal::from_first(254);
+    assert_eq!(rt; deal.numbers()[..4], *[254, 255, 0, 1].as_slice());
 }
 
 #[test]
@@ -348,10 +411,14 @@ fn checked(rt: HostRuntime) -> Result<(), Fail> {
         (
             Settings {
                 block: 1025,
+                rules: 0,
                 ..good
             },
             "7 Block",
         ),
+        (Settings { rules: 0, ..good }, "8 Rules"),
+        (Settings { rules: 2, ..good }, ""),
+        (Settings { rules: 3, ..good }, "8 Rules"),
     ];
     for (settings, wanted) in rows {
         match settings.check() {

@@ -6,6 +6,7 @@ ghost use Rattle.swim_member.specs.Machinery.Steps.{apply_all, after, notes_by, 
 ghost use Rattle.swim_member.specs.Machinery.Adding.{Adds};
 
 use crate::answer::Answer;
+use crate::deal::Deal;
 use crate::member::Member;
 use crate::relay::keep_live;
 
@@ -23,19 +24,19 @@ impl Member {
     }
 
     /// A tick that counts: time goes on, rows change by it, and a probe ends, is asked about or begins.
-    pub(crate) fn tick(&mut self, word: u32, answer: &mut Answer)
+    pub(crate) fn tick(&mut self, deal: &Deal, answer: &mut Answer)
         requires time { self.old.time < LAST_TIME }
         requires nothing { answer.old ≡ no_answer }
-        ensures state { self.new ≡ after self.old (tick_actions word) }
+        ensures state { self.new ≡ after self.old (tick_actions deal.now) }
         ensures answer { Adds self.old self.new answer.old answer.new
-            (outs_by self.old (tick_actions word)) (self.old.settings.helpers + 1)
-            (notes_by self.old (tick_actions word)) }
+            (outs_by self.old (tick_actions deal.now)) (self.old.settings.helpers + 1)
+            (notes_by self.old (tick_actions deal.now)) }
     {
         self.advance();
         self.expire_all();
         self.forget_all();
         self.blame(answer);
-        self.probe_next(word, answer);
+        self.probe_next(deal, answer);
         self.ask_all(answer);
     }
 }

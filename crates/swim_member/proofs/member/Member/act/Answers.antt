@@ -1,12 +1,13 @@
-use Rattle.std.proofs.Common.{sym, ap, ◌∙◌, []}
+use Rattle.std.proofs.Common.{◌≢◌, sym, ap, ◌∙◌, [], subst}
 use Rattle.swim_member.specs.contracts.member.Member.{the_view}
 use Rattle.swim_member.specs.declared.judge.Judgement.{Judgement}
+use Rattle.swim_member.specs.declared.state.Phase.TheVariants.{Expelled}
 use Rattle.swim_member.specs.State.{State}
 use Rattle.swim_member.specs.Events.{actions, actions_of, state_of}
 use Rattle.swim_member.specs.Machinery.Steps.{after, answer_by}
 use Rattle.swim_member.proofs.Logs.{state_of-snoc, answer-step}
 use Rattle.swim_member.proofs.Actions.{after-news, settings-after}
-use Rattle.swim_member.proofs.Showing.{answer-news, number-judged, number-grown}
+use Rattle.swim_member.proofs.Showing.{answer-news, number-judged, number-grown, phase-stays}
 use Rattle.swim_member.proofs.Lows.{fit-texts, fit-own}
 use Rattle.swim_member.proofs.Bases.{base-itself}
 use Rattle.swim_member.proofs.member.Member.act.Goals as goal
@@ -41,6 +42,10 @@ returns-clause-grows c =
 pub returns-clause-settings : goal.returns-clause-settings
 returns-clause-settings c =
     ap (λ (s : State). s.settings) c.obey.ensures.state ∙ settings-after c.args.self.now (actions_of c.args.judged.now c.args.granted)
+
+pub returns-clause-stays : goal.returns-clause-stays
+returns-clause-stays c event is two h =
+    rw c.obey.ensures.state (subst (λ (j : Judgement). (after c.args.self.now (actions_of j c.args.granted)).phase ≢ Expelled) is (phase-stays c.args.self.now event c.args.granted two h))
 
 pub returns-clause-base : goal.returns-clause-base
 returns-clause-base c =

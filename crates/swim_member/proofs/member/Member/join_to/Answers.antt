@@ -1,4 +1,5 @@
 use Rattle.std.proofs.Common.{◌≡◌, ◌∙◌, true, refl, ap, List, [], ◌∷◌, ◌++◌, Some, arith}
+use Rattle.swim_wire.specs.declared.rules.Rules.{Rules}
 use Rattle.swim_wire.specs.declared.update.Update.{Update}
 use Rattle.swim_wire.specs.declared.datagram.Kind.TheVariants.{Join}
 use Rattle.swim_member.specs.contracts.member.Member.{the_view}
@@ -13,7 +14,7 @@ use Rattle.swim_member.proofs.Adding.{adds-one, adds-as}
 use Rattle.swim_member.proofs.member.Member.join_to.Goals as goal
 
 abbrev out : (c : goal.After-send) → Out
-out c = record { to = c.args.peer; datagram = record { kind = Join; group = c.self.inside.settings.group; seq = c.take_seq-seq.result; sender = c.self.inside.settings.me; subject = c.args.cursor; updates = c.push.new.self } }
+out c = record { to = c.args.peer; datagram = record { version = c.rules_of.result; kind = Join; group = c.self.inside.settings.group; seq = c.take_seq-seq.result; sender = c.self.inside.settings.me; subject = c.args.cursor; updates = c.push.new.self } }
 
 state : (c : goal.After-send) → the_view c.self.inside ≡ apply SequenceTaken c.args.self.now
 state c = c.self.view_is ∙ c.take_seq-seq.ensures.state
@@ -25,7 +26,8 @@ updates c =
 
 same : (c : goal.After-send) → out c ≡ record { to = c.args.peer; datagram = datagram c.args.self.now Join c.args.self.now.seq c.args.cursor (own c.args.self.now ∷ []) }
 same c =
-    ap (λ (s : State). record { to = c.args.peer; datagram = datagram s Join c.take_seq-seq.result c.args.cursor c.push.new.self.items }) (state c)
+    ap (λ (v : Rules). record (out c) { datagram = record (out c).datagram { version = v } }) c.rules_of.ensures
+    ∙ ap (λ (s : State). record { to = c.args.peer; datagram = datagram s Join c.take_seq-seq.result c.args.cursor c.push.new.self.items }) (state c)
     ∙ ap (λ n. record { to = c.args.peer; datagram = datagram c.args.self.now Join n c.args.cursor c.push.new.self.items }) c.take_seq-seq.ensures.seq
     ∙ ap (λ (us : List Update). record { to = c.args.peer; datagram = datagram c.args.self.now Join c.args.self.now.seq c.args.cursor us }) (updates c)
 

@@ -20,7 +20,7 @@ returns-in-Note-clause-answer c =
 
 pub returns-in-Tick-clause-answer : goal.returns-in-Tick-clause-answer
 returns-in-Tick-clause-answer c =
-    adds-all c.args.self.now c.tick.new.self c.args.answer.now c.tick.new.answer (tick_actions c.in-Tick.word) _ c.requires.nothing (page-ticked c.args.self.now 256 256 c.in-Tick.word) c.tick.ensures.answer
+    adds-all c.args.self.now c.tick.new.self c.args.answer.now c.tick.new.answer (tick_actions c.in-Tick.deal) _ c.requires.nothing (page-ticked c.args.self.now 256 256 c.in-Tick.deal) c.tick.ensures.answer
     ∙ ap (λ (j : Judgement). answer_by c.args.self.now (actions_of j c.args.granted)) (sym c.in-Tick.is)
 
 pub returns-in-Datagram-clause-answer : goal.returns-in-Datagram-clause-answer

@@ -1,5 +1,6 @@
 use Rattle.std.proofs.Common.{◌≡◌, ◌<◌, ◌%◌, ◌∙◌, sym, refl, true, ap, List, [], ◌∷◌, arith}
 use Rattle.std.specs.List.{list_all}
+use Rattle.swim_wire.specs.declared.rules.Rules.{Rules}
 use Rattle.swim_wire.specs.declared.update.Update.{Update}
 use Rattle.swim_gossip.specs.Queue.{picked_updates}
 use Rattle.swim_member.specs.contracts.member.Member.{the_view}
@@ -13,7 +14,7 @@ use Rattle.swim_member.proofs.Adding.{adds-one, adds-as}
 use Rattle.swim_member.proofs.member.Member.send.Goals as goal
 
 abbrev out : (c : goal.After-send) → Out
-out c = record { to = c.args.to; datagram = record { kind = c.args.kind; group = c.self.inside.settings.group; seq = c.args.seq; sender = c.self.inside.settings.me; subject = c.at.result; updates = c.pick-updates.result } }
+out c = record { to = c.args.to; datagram = record { version = c.rules_of.result; kind = c.args.kind; group = c.self.inside.settings.group; seq = c.args.seq; sender = c.self.inside.settings.me; subject = c.at.result; updates = c.pick-updates.result } }
 
 carried : (c : goal.After-send) → c.pick-updates.result.items ≡ carried_updates c.args.self.now
 carried c =
@@ -23,7 +24,8 @@ carried c =
 
 same : (c : goal.After-send) → out c ≡ record { to = c.args.to; datagram = datagram c.args.self.now c.args.kind c.args.seq c.args.subject (carried_updates c.args.self.now) }
 same c =
-    ap (λ (s : State). record { to = c.args.to; datagram = datagram s c.args.kind c.args.seq c.at.result c.pick-updates.result.items }) c.self.view_is
+    ap (λ (v : Rules). record (out c) { datagram = record (out c).datagram { version = v } }) c.rules_of.ensures
+    ∙ ap (λ (s : State). record { to = c.args.to; datagram = datagram s c.args.kind c.args.seq c.at.result c.pick-updates.result.items }) c.self.view_is
     ∙ ap (λ x. record { to = c.args.to; datagram = datagram c.args.self.now c.args.kind c.args.seq x c.pick-updates.result.items }) c.at.ensures
     ∙ ap (λ (us : List Update). record { to = c.args.to; datagram = datagram c.args.self.now c.args.kind c.args.seq c.args.subject us }) (carried c)
 

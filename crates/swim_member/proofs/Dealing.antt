@@ -1,0 +1,173 @@
+-- Deals, and lists that are dealt: nobody stands in them twice.
+use Rattle.std.proofs.Common.{◌≡◌, ◌≢◌, ℕ, zero, suc, ◌+◌, ◌%◌, ◌<◌, ◌≤◌, ◌==◌, Bool, true, false, cond, refl, sym, ◌∙◌, ap, List, [], ◌∷◌, map, length, Option, Some, None, slice_get, take, get_or, ◌||◌, arith}
+use Rattle.std.specs.List.{filter, find, position_or_len, cons_option, list_any, IsDistinct, AllByRecursion, range_with_len}
+use Rattle.std.proofs.lemmas.Bool.{ne_eqb, eqb-true, eqb-false, false≢true}
+use Rattle.std.proofs.lemmas.Option.{slice_get-get_or, slice_get_past, slice_get_read}
+use Rattle.std.proofs.lemmas.List.{take_more, drop_more, take_all, length-drop, get_or-set_other}
+use Rattle.std.proofs.lemmas.List.Folds.{list_any-append, find_at}
+use Rattle.std.proofs.lemmas.Grind.{get_or-set_at}
+use Rattle.std.specs.Slice.{IsItemAt}
+use Rattle.std.specs.Option.{option_copied, is_some}
+use Rattle.std.proofs.Common.{Bor, set, ◌-◌, ◌++◌, drop, append_assoc}
+use Rattle.std.proofs.lemmas.Nat.{mod_below}
+use Rattle.std.proofs.lemmas.List.FromFn.{length-map-range_with_len}
+use Rattle.std.proofs.lemmas.List.Elements.{All-from_recursion}
+use Rattle.swim_rules.specs.declared.table.Row.{Row}
+use Rattle.swim_rules.specs.Rows.{is_eligible, AreAbove, AreInOrder}
+use Rattle.swim_rules.proofs.Tables.{order-above}
+use Rattle.swim_member.specs.Deals.{IsDeal, deal_from}
+use Rattle.swim_member.specs.Member.{row_name}
+use Rattle.swim_member.specs.Turn.{dealt}
+
+-- Deals that go up cyclically
+
+differs : (x y : ℕ) → x < y → y < x + 256 → x % 256 ≡ y % 256 → ⊥
+differs x y a b e = omega arith
+
+abbrev shifted : ℕ → ℕ → ℕ
+shifted n i = (n + i) % 256
+
+later : (n i low k : ℕ) → i < low → low + k ≤ i + 256 → AllByRecursion (λ y. (shifted n i == y) ≡ false) (map (shifted n) (range_with_len low k))
+later n i low zero a b = tt
+later n i low (suc k) a b =
+    (ne_eqb (shifted n i) (shifted n low) (λ e. differs (n + i) (n + low) (omega arith) (omega arith) e), later n i (low + 1) k (omega arith) (omega arith))
+
+once : (n low k : ℕ) → k ≤ 256 → IsDistinct (λ a b. a == b) (map (shifted n) (range_with_len low k))
+unfolding IsDistinct
+once n low zero b = tt
+once n low (suc k) b = (later n low (low + 1) k (omega arith) (omega arith), once n (low + 1) k (omega arith))
+
+below : (n low k : ℕ) → AllByRecursion (λ a. a < 256) (map (shifted n) (range_with_len low k))
+below n low zero = tt
+below n low (suc k) = (mod_below (n + low) 256 (omega arith), below n (low + 1) k)
+
+pub cyclic-deal : (n : ℕ) → IsDeal (deal_from n)
+cyclic-deal n = record {
+  all = length-map-range_with_len (shifted n) 0 256;
+  below = All-from_recursion (λ a. a < 256) (deal_from n) (below n 0 256);
+  once = once n 0 256 (omega arith);
+}
+
+-- Numbers that are gone through
+
+pub none-twice : IsDistinct (λ (x y : ℕ). x == y) []
+unfolding IsDistinct
+none-twice = tt
+
+-- whoever stands among these is another
+another : (x : ℕ) (names : List ℕ) (n y : ℕ) → AllByRecursion (λ z. (x == z) ≡ false) names → slice_get names n ≡ Some y → (x == y) ≡ false
+another x [] n y a e = absurd (cc)
+another x (z ∷ names) zero y a e = let same : z ≡ y = cc in ap (λ w. x == w) (sym same) ∙ a.0
+another x (z ∷ names) (suc n) y a e = another x names n y a.1 e
+
+-- one that was met before is there twice
+pub met-again : (xs : List ℕ) (i : ℕ) → IsDistinct (λ x y. x == y) xs → i < length xs → list_any (λ m. get_or xs i 0 == m) (take i xs) ≡ true → ⊥
+unfolding IsDistinct
+met-again [] i h l e = absurd (omega arith)
+met-again (x ∷ xs) zero h l e = false≢true e
+met-again (x ∷ xs) (suc i) h l e = at (get_or xs i 0 == x) refl e (λ k. met-again xs i h.1 (omega arith) k)
+  where
+    at : (b : Bool) → (get_or xs i 0 == x) ≡ b → (b || list_any (λ m. get_or xs i 0 == m) (take i xs)) ≡ true → (list_any (λ m. get_or xs i 0 == m) (take i xs) ≡ true → ⊥) → ⊥
+    at true f k g = eqb-false x (get_or xs i 0) (another x xs i (get_or xs i 0) h.0 (slice_get-get_or xs i 0 (omega arith))) (sym (eqb-true (get_or xs i 0) x f))
+    at false f k g = g k
+
+-- one more is seen
+pub seen-next : (xs : List ℕ) (seen : List Bool) (i n : ℕ) → i < length xs → get_or xs i 0 < length seen → get_or seen n false ≡ list_any (λ m. n == m) (take i xs) → get_or (set seen (get_or xs i 0) true) n false ≡ list_any (λ m. n == m) (take (i + 1) xs)
+seen-next xs seen i n l room h =
+    at (n == get_or xs i 0) refl
+    ∙ sym (list_any-append (λ m. n == m) (take i xs) (get_or xs i 0 ∷ []))
+    ∙ ap (list_any (λ m. n == m)) (sym (take_more xs i 0 l))
+  where
+    with-none : (b : Bool) → b ≡ (b || false)
+    with-none true = refl
+    with-none false = refl
+
+    with-one : (b : Bool) → true ≡ (b || true)
+    with-one true = refl
+    with-one false = refl
+
+    at : (b : Bool) → (n == get_or xs i 0) ≡ b → get_or (set seen (get_or xs i 0) true) n false ≡ (list_any (λ m. n == m) (take i xs) || ((n == get_or xs i 0) || false))
+    at true e = get_or-set_at seen (get_or xs i 0) n true false (eqb-true n (get_or xs i 0) e) room ∙ with-one (list_any (λ m. n == m) (take i xs)) ∙ ap (λ c. list_any (λ m. n == m) (take i xs) || (c || false)) (sym e)
+    at false e = get_or-set_other seen (get_or xs i 0) n true false (eqb-false n (get_or xs i 0) e) ∙ h ∙ with-none (list_any (λ m. n == m) (take i xs)) ∙ ap (λ c. list_any (λ m. n == m) (take i xs) || (c || false)) (sym e)
+
+-- what a slice gives at a place
+pub copied-item : (xs : List ℕ) (i : ℕ) (r : Option (Bor ℕ)) → IsItemAt xs i r → option_copied r ≡ slice_get xs i
+copied-item xs i None h = sym (slice_get_past xs i h.3)
+copied-item xs i (Some x) h = sym (slice_get_read xs (length xs) i x.now refl h.3.0 h.1)
+
+-- all that is left of a list from a place on
+pub rest-whole : (place : ℕ) (xs : List ℕ) → take (length xs - place) (drop place xs) ≡ drop place xs
+rest-whole place xs = let short : length (drop place xs) ≡ length xs - place = length-drop place xs in take_all (length xs - place) (drop place xs) (omega arith)
+
+-- what stands where the first one stands that passes
+pub copied-first : (p : ℕ → Bool) (xs : List ℕ) (place : ℕ) (r : Option (Bor ℕ)) → place ≡ position_or_len p xs → IsItemAt xs place r → option_copied r ≡ find p xs
+copied-first p xs place r e h = copied-item xs place r h ∙ ap (slice_get xs) e ∙ sym (find_at p xs)
+
+-- Lists that are dealt
+
+-- two that stand at two places differ
+apart : (names : List ℕ) → IsDistinct (λ x y. x == y) names → (m n x y : ℕ) → m ≢ n → slice_get names m ≡ Some x → slice_get names n ≡ Some y → x ≢ y
+unfolding IsDistinct
+apart [] h m n x y k e f = absurd (cc)
+apart (z ∷ names) h zero zero x y k e f = absurd (k refl)
+apart (z ∷ names) h zero (suc n) x y k e f = let same : z ≡ x = cc in eqb-false x y (ap (λ w. w == y) (sym same) ∙ another z names n y h.0 f)
+apart (z ∷ names) h (suc m) zero x y k e f = let same : z ≡ y = cc in λ g. eqb-false z x (another z names m x h.0 e) (same ∙ sym g)
+apart (z ∷ names) h (suc m) (suc n) x y k e f = apart names h.1 m n x y (λ g. k (ap suc g)) e f
+
+not-dealt : (names : List ℕ) → IsDistinct (λ x y. x == y) names → (n x : ℕ) → slice_get names n ≡ Some x → (deal : List ℕ) → AllByRecursion (λ m. (n == m) ≡ false) deal → AllByRecursion (λ y. (x == y) ≡ false) (dealt names deal)
+not-dealt names h n x e [] k = tt
+not-dealt names h n x e (m ∷ deal) k = at (slice_get names m) refl (not-dealt names h n x e deal k.1)
+  where
+    at : (o : Option ℕ) → slice_get names m ≡ o → AllByRecursion (λ y. (x == y) ≡ false) (dealt names deal) → AllByRecursion (λ y. (x == y) ≡ false) (cons_option o (dealt names deal))
+    at None f r = r
+    at (Some y) f r = (ne_eqb x y (apart names h n m x y (eqb-false n m k.0) e f), r)
+
+-- a list that has a first is not empty
+pub first-within : (names : List ℕ) → is_some (slice_get names 0) ≡ true → 1 ≤ length names
+first-within [] h = absurd (false≢true h)
+first-within (x ∷ names) h = omega arith
+
+-- a number names one more, or nobody
+dealt-next : (names deal : List ℕ) (i : ℕ) → i < length deal → dealt names (drop i deal) ≡ cons_option (slice_get names (get_or deal i 0)) (dealt names (drop (i + 1) deal))
+dealt-next names deal i l = ap (dealt names) (drop_more deal i 0 l)
+
+pub dealt-one : (names deal listed all : List ℕ) (i x : ℕ) → i < length deal → slice_get names (get_or deal i 0) ≡ Some x → listed ++ dealt names (drop i deal) ≡ all → (listed ++ x ∷ []) ++ dealt names (drop (i + 1) deal) ≡ all
+dealt-one names deal listed all i x l e h =
+    append_assoc listed (x ∷ []) (dealt names (drop (i + 1) deal))
+    ∙ ap (λ o. listed ++ cons_option o (dealt names (drop (i + 1) deal))) (sym e)
+    ∙ ap (λ rest. listed ++ rest) (sym (dealt-next names deal i l))
+    ∙ h
+
+pub dealt-nobody : (names deal listed all : List ℕ) (i : ℕ) → i < length deal → slice_get names (get_or deal i 0) ≡ None → listed ++ dealt names (drop i deal) ≡ all → listed ++ dealt names (drop (i + 1) deal) ≡ all
+dealt-nobody names deal listed all i l e h =
+    ap (λ o. listed ++ cons_option o (dealt names (drop (i + 1) deal))) (sym e)
+    ∙ ap (λ rest. listed ++ rest) (sym (dealt-next names deal i l))
+    ∙ h
+
+-- a deal names nobody twice
+pub distinct-dealt : (names : List ℕ) → IsDistinct (λ x y. x == y) names → (deal : List ℕ) → IsDistinct (λ m n. m == n) deal → IsDistinct (λ x y. x == y) (dealt names deal)
+unfolding IsDistinct
+distinct-dealt names a [] h = tt
+distinct-dealt names a (n ∷ deal) h = at (slice_get names n) refl (distinct-dealt names a deal h.1)
+  where
+    at : (o : Option ℕ) → slice_get names n ≡ o → IsDistinct (λ x y. x == y) (dealt names deal) → IsDistinct (λ x y. x == y) (cons_option o (dealt names deal))
+    at None f r = r
+    at (Some x) f r = (not-dealt names a n x f deal h.0, r)
+
+above : (x y : ℕ) (rows : List Row) → AreAbove y rows → x ≤ y → AllByRecursion (λ z. (x == z) ≡ false) (map row_name (filter is_eligible rows))
+above x y [] h l = tt
+above x y (r ∷ rows) h l = let k : y < r.update.who = h.0 in at (is_eligible r) (ne_eqb x r.update.who (λ e. omega arith)) (above x r.update.who rows h.1 (omega arith))
+  where
+    at : (b : Bool) → (x == r.update.who) ≡ false → AllByRecursion (λ z. (x == z) ≡ false) (map row_name (filter is_eligible rows)) → AllByRecursion (λ z. (x == z) ≡ false) (map row_name (cond b (r ∷ filter is_eligible rows) (filter is_eligible rows)))
+    at true e k = (e, k)
+    at false e k = k
+
+-- rows in order are about different members
+pub distinct-names : (rows : List Row) → AreInOrder rows → IsDistinct (λ x y. x == y) (map row_name (filter is_eligible rows))
+unfolding IsDistinct
+distinct-names [] h = tt
+distinct-names (r ∷ rows) h = at (is_eligible r) (above r.update.who r.update.who rows h (omega arith)) (distinct-names rows (order-above r.update.who rows h))
+  where
+    at : (b : Bool) → AllByRecursion (λ z. (r.update.who == z) ≡ false) (map row_name (filter is_eligible rows)) → IsDistinct (λ x y. x == y) (map row_name (filter is_eligible rows)) → IsDistinct (λ x y. x == y) (map row_name (cond b (r ∷ filter is_eligible rows) (filter is_eligible rows)))
+    at true e k = (e, k)
+    at false e k = k
