@@ -2,9 +2,10 @@
 use Rattle.std.proofs.Common.{◌≡◌, ◌≢◌, ◌⊎◌, inl, inr, ⊎_elim, ℕ, ◌^◌, ◌<◌, ◌≤◌, max, Bool, true, false, nat_lt, ◌==◌, if◌then◌else◌, List, [], ◌∷◌, length, take, Option, Some, None, refl, sym, ◌∙◌, ap, subst, arith}
 use Rattle.std.proofs.lemmas.Bool.{and_from, and_parts, eqb-true, eq-eqb, ne_eqb, lt-ltb, ltb-true}
 use Rattle.std.proofs.lemmas.List.{take_at}
-use Rattle.swim_state.specs.Version.{version_1}
-use Rattle.swim_state.specs.File.{mark, owner_bytes, head, reading_at, IsOpen, ceiling_of, floor_of, AreOf, AreUsable, IsSound}
-use Rattle.swim_state.specs.Recovery.{same_bytes, head_fault, slots_fault, first_fault, fault_of}
+use Rattle.swim_state.specs.File.{letters, owner_bytes, head, says, version_in, layout_of, IsOpen, ceiling_of, floor_of, AreOf, AreUsable, IsSound}
+use Rattle.swim_state.specs.Recovery.{same_bytes, head_fault, slots_fault, first_fault, fault_of, IsFound}
+use Rattle.swim_state.specs.declared.recovery.Found.{Found}
+use Rattle.swim_state.specs.declared.layout.Slot.{Slot}
 use Rattle.swim_state.specs.declared.owner.Owner.{Owner}
 use Rattle.swim_state.specs.declared.slots.Slots.{Slots}
 use Rattle.swim_state.specs.declared.layout.Slot.TheVariants.{A, B}
@@ -36,21 +37,21 @@ is_false false never = refl
 same_false : (xs ys : List ℕ) → (xs ≡ ys → ⊥) → same_bytes xs ys ≡ false
 same_false xs ys differs = is_false (same_bytes xs ys) (λ is. differs (same_sound xs ys is))
 
-pub mark_first : (owner : Owner) → take 10 (head owner) ≡ mark
-unfolding mark
-mark_first owner = take_at mark (owner_bytes owner) 10 refl
+pub mark_first : (owner : Owner) → take 10 (head owner) ≡ letters
+unfolding letters
+mark_first owner = take_at letters (owner_bytes owner) 10 refl
 
-pub not_state : (owner : Owner) (front : List ℕ) → (take 10 front ≡ mark → ⊥) → head_fault owner front ≡ Some NotState
+pub not_state : (owner : Owner) (front : List ℕ) → (take 10 front ≡ letters → ⊥) → head_fault owner front ≡ Some NotState
 unfolding head_fault
-not_state owner front differs = rw (same_false (take 10 front) mark differs)
+not_state owner front differs = rw (same_false (take 10 front) letters differs)
 
-pub wrong_owner : (owner : Owner) (front : List ℕ) → take 10 front ≡ mark → (front ≡ head owner → ⊥) → head_fault owner front ≡ Some WrongOwner
+pub wrong_owner : (owner : Owner) (front : List ℕ) → take 10 front ≡ letters → (front ≡ head owner → ⊥) → head_fault owner front ≡ Some WrongOwner
 unfolding head_fault
-wrong_owner owner front is differs = rw (same_true (take 10 front) mark is, same_false front (head owner) differs)
+wrong_owner owner front is differs = rw (same_true (take 10 front) letters is, same_false front (head owner) differs)
 
 pub right_head : (owner : Owner) (front : List ℕ) → front ≡ head owner → head_fault owner front ≡ None
 unfolding head_fault
-right_head owner front is = rw (same_true (take 10 front) mark (ap (λ (l : List ℕ). take 10 l) is ∙ mark_first owner), same_true front (head owner) is)
+right_head owner front is = rw (same_true (take 10 front) letters (ap (λ (l : List ℕ). take 10 l) is ∙ mark_first owner), same_true front (head owner) is)
 
 pub none_open : (a b : Reading) → a ≡ Shut → b ≡ Shut → slots_fault a b ≡ Some NoSlot
 none_open a b is_a is_b = rw (is_a, is_b)
@@ -95,33 +96,60 @@ exhausted slots usable is = room_or_none slots.a slots.b usable.whole_a usable.w
 pub has_room : (slots : Slots) → AreUsable slots → (floor_of slots ≡ 2 ^ 62 → ⊥) → slots_fault slots.a slots.b ≡ None
 has_room slots usable differs = room_or_none slots.a slots.b usable.whole_a usable.whole_b usable.open_one ∙ ap (λ t. if t then Some Exhausted else None) (ne_eqb (floor_of slots) (2 ^ 62) differs)
 
-pub too_short : (owner : Owner) (content : List ℕ) → length content < 16385 → fault_of owner content ≡ Some NotState
+pub too_short : (owner : Owner) (content : List ℕ) → length content < (layout_of (version_in content)).file_size → fault_of owner content ≡ Some NotState
 unfolding fault_of
-too_short owner content less = ap (λ t. if t then Some NotState else first_fault (head_fault owner (take 24 content)) (slots_fault (reading_at version_1 content A) (reading_at version_1 content B))) (lt-ltb (length content) 16385 less)
+too_short owner content less =
+    ap (λ t. if t then Some NotState else first_fault (head_fault owner (take 24 content)) (slots_fault (says content A) (says content B)))
+    (lt-ltb (length content) (layout_of (version_in content)).file_size less)
 
-pub long_enough : (owner : Owner) (content : List ℕ) → 16385 ≤ length content → fault_of owner content ≡ first_fault (head_fault owner (take 24 content)) (slots_fault (reading_at version_1 content A) (reading_at version_1 content B))
+pub long_enough : (owner : Owner) (content : List ℕ) → (layout_of (version_in content)).file_size ≤ length content → fault_of owner content ≡ first_fault (head_fault owner (take 24 content)) (slots_fault (says content A) (says content B))
 unfolding fault_of
-long_enough owner content long = ap (λ t. if t then Some NotState else first_fault (head_fault owner (take 24 content)) (slots_fault (reading_at version_1 content A) (reading_at version_1 content B))) (is_false _ (λ (less : nat_lt (length content) 16385 ≡ true). absurd (omega (arith, long, ltb-true (length content) 16385 less))))
+long_enough owner content long =
+    let size = (layout_of (version_in content)).file_size in
+    ap (λ t. if t then Some NotState else first_fault (head_fault owner (take 24 content)) (slots_fault (says content A) (says content B)))
+    (is_false _ (λ (less : nat_lt (length content) size ≡ true). absurd (omega (arith, long, ltb-true (length content) size less))))
 
 -- a fault of the head, and then what the slots show, of a content that is long enough
-pub head_shows : (owner : Owner) (content found : List ℕ) (f : RecoverFault) → 16385 ≤ length content → found ≡ take 24 content → head_fault owner found ≡ Some f → fault_of owner content ≡ Some f
+pub head_shows : (owner : Owner) (content found : List ℕ) (f : RecoverFault) → (layout_of (version_in content)).file_size ≤ length content → found ≡ take 24 content → head_fault owner found ≡ Some f → fault_of owner content ≡ Some f
 head_shows owner content found f long read is =
-    long_enough owner content long ∙ ap (λ (first : Option RecoverFault). first_fault first (slots_fault (reading_at version_1 content A) (reading_at version_1 content B))) (ap (λ (l : List ℕ). head_fault owner l) (sym read) ∙ is)
+    long_enough owner content long ∙ ap (λ (first : Option RecoverFault). first_fault first (slots_fault (says content A) (says content B))) (ap (λ (l : List ℕ). head_fault owner l) (sym read) ∙ is)
 
-pub slots_show : (owner : Owner) (content found : List ℕ) (slots : Slots) (r : Option RecoverFault) → 16385 ≤ length content → found ≡ take 24 content → head_fault owner found ≡ None → AreOf content slots
+pub slots_show : (owner : Owner) (content found : List ℕ) (slots : Slots) (r : Option RecoverFault) → (layout_of (version_in content)).file_size ≤ length content → found ≡ take 24 content → head_fault owner found ≡ None → AreOf (layout_of (version_in content)) content slots
     → slots_fault slots.a slots.b ≡ r → fault_of owner content ≡ r
 slots_show owner content found slots r long read is are shows =
     long_enough owner content long
-    ∙ ap (λ (first : Option RecoverFault). first_fault first (slots_fault (reading_at version_1 content A) (reading_at version_1 content B))) (ap (λ (l : List ℕ). head_fault owner l) (sym read) ∙ is)
-    ∙ ap (λ (x : Reading). slots_fault x (reading_at version_1 content B)) (sym are.a) ∙ ap (λ (x : Reading). slots_fault slots.a x) (sym are.b) ∙ shows
+    ∙ ap (λ (first : Option RecoverFault). first_fault first (slots_fault (says content A) (says content B))) (ap (λ (l : List ℕ). head_fault owner l) (sym read) ∙ is)
+    ∙ ap (λ (x : Reading). slots_fault x (says content B)) (sym are.a) ∙ ap (λ (x : Reading). slots_fault slots.a x) (sym are.b) ∙ shows
 
 -- what was read of a sound content is usable
-pub sound_usable : (owner : Owner) (content : List ℕ) (slots : Slots) → IsSound owner content → AreOf content slots → floor_of slots ≤ 2 ^ 62 → AreUsable slots
+pub sound_usable : (owner : Owner) (content : List ℕ) (slots : Slots) → IsSound owner content → AreOf (layout_of (version_in content)) content slots → floor_of slots ≤ 2 ^ 62 → AreUsable slots
 sound_usable owner content slots sound are le = record {
   open_one = ⊎_elim (λ a. inl (subst IsOpen (sym are.a) a)) (λ b. inr (subst IsOpen (sym are.b) b)) sound.open_one;
   whole_a = λ bad. sound.good A (sym are.a ∙ bad);
   whole_b = λ bad. sound.good B (sym are.b ∙ bad);
   bounded = le;
+}
+
+-- and the other way round
+pub usable_sound : (owner : Owner) (content : List ℕ) (slots : Slots) → (layout_of (version_in content)).file_size ≤ length content → take 24 content ≡ head owner → AreOf (layout_of (version_in content)) content slots → AreUsable slots → IsSound owner content
+usable_sound owner content slots long front are usable = record {
+  long = long;
+  front = front;
+  open_one = ⊎_elim (λ a. inl (subst IsOpen are.a a)) (λ b. inr (subst IsOpen are.b b)) usable.open_one;
+  good = whole content slots are usable;
+}
+  where
+    whole : (content : List ℕ) (slots : Slots) → AreOf (layout_of (version_in content)) content slots → AreUsable slots → (slot : Slot) → says content slot ≢ Damaged
+    whole content slots are usable A = λ bad. usable.whole_a (are.a ∙ bad)
+    whole content slots are usable B = λ bad. usable.whole_b (are.b ∙ bad)
+
+-- what an opening found
+pub are_found : (owner : Owner) (content : List ℕ) (found : Found) → (layout_of (version_in content)).file_size ≤ length content → take 24 content ≡ head owner → found.version ≡ version_in content → AreOf (layout_of (version_in content)) content found.slots
+    → AreUsable found.slots → IsFound owner content found
+are_found owner content found long front version are usable = record {
+  sound = usable_sound owner content found.slots long front are usable;
+  version = version;
+  same = are;
 }
 
 one_of_two : (t : Bool) (r : Option RecoverFault) → r ≡ (if t then Some Exhausted else None) → (r ≡ None) ⊎ (r ≡ Some Exhausted)
@@ -131,8 +159,8 @@ one_of_two false r is = inl is
 -- a sound content shows no fault but exhaustion
 sound_shows : (owner : Owner) (content : List ℕ) → IsSound owner content → (fault_of owner content ≡ None) ⊎ (fault_of owner content ≡ Some Exhausted)
 sound_shows owner content sound =
-    let a = reading_at version_1 content A in
-    let b = reading_at version_1 content B in
+    let a = says content A in
+    let b = says content B in
     let is = long_enough owner content sound.long
     ∙ ap (λ (first : Option RecoverFault). first_fault first (slots_fault a b)) (right_head owner (take 24 content) sound.front)
     ∙ room_or_none a b (sound.good A) (sound.good B) sound.open_one in

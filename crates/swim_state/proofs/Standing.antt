@@ -1,27 +1,20 @@
 -- What stays true of a file while one slot is written.
-use Rattle.std.proofs.Common.{◌&&◌, nat_le, ◌≡◌, ◌≢◌, ◌⊎◌, inl, inr, ⊎_elim, ℕ, ◌+◌, ◌-◌, ◌^◌, ◌<◌, ◌≤◌, Bool, true, false, ◌==◌, if◌then◌else◌, List, [], ◌∷◌, length, take, get_or, slice_index, refl, sym, ◌∙◌, ap, subst, arith}
-use Rattle.std.proofs.lemmas.Bool.{and_from, and_parts, eq-eqb, ne_eqb, le-leb, leb-true}
+use Rattle.std.proofs.Common.{◌≡◌, ◌≢◌, inl, ⊎_elim, ℕ, ◌+◌, ◌<◌, ◌≤◌, Bool, true, false, ◌==◌, if◌then◌else◌, List, [], ◌∷◌, length, take, get_or, slice_index, refl, sym, ◌∙◌, ap, arith}
 use Rattle.swim_disk.specs.Disk.{Torn, overlaid}
-use Rattle.swim_state.specs.Layout.{Layout, Apart, body_of, gate_of, other_slot, bytes_from, body, ceiling_in, is_good, saved_in}
-use Rattle.swim_state.specs.Version.{version_1}
-use Rattle.swim_state.specs.File.{head, slot_reading, reading_at, IsOpen, ceiling_of, IsSound, floor}
-use Rattle.swim_state.specs.Held.{Covers}
+use Rattle.swim_state.specs.Layout.{Layout, Apart, other_slot, bytes_from}
+use Rattle.swim_state.specs.File.{slot_reading, reading_at}
 use Rattle.swim_state.specs.Machinery.Saving.{Stands}
-use Rattle.swim_state.specs.declared.owner.Owner.{Owner}
 use Rattle.swim_state.specs.declared.layout.Saved.{Saved}
 use Rattle.swim_state.specs.declared.layout.Slot.{Slot}
-use Rattle.swim_state.specs.declared.layout.Slot.TheVariants.{A, B}
 use Rattle.swim_state.specs.declared.layout.Reading.TheVariants.{Shut, Holds, Damaged}
-use Rattle.byteorder.specs.Endian.{big_number, big_bytes}
-use Rattle.byteorder.specs.Numbers.{big_number-reads_back}
-use Rattle.std.proofs.lemmas.List.{get_or_past, take-take}
+use Rattle.std.proofs.lemmas.List.{get_or_past}
 use Rattle.swim_disk.specs.Machinery.Torn.{overlaid_torn}
 use Rattle.swim_state.proofs.Torn.{part_kept, index-part, overlaid_part}
 
 pub byte_kept : (at n : ℕ) (old new : List ℕ) (p : ℕ) → Torn at n old new → p < length old → Apart at n p 1 → slice_index new p ≡ slice_index old p
 byte_kept at n old new p torn within apart = ⊎_elim (λ b. torn.before p within (omega (arith, b))) (λ a. torn.after p within a) apart
 
-reading_kept : (layout : Layout) (at n : ℕ) (old new : List ℕ) (slot : Slot) → Torn at n old new → layout.file_size ≤ length old → Apart at n (layout.gate_at slot) 1 → Apart at n (layout.body_at slot) layout.body_size
+pub reading_kept : (layout : Layout) (at n : ℕ) (old new : List ℕ) (slot : Slot) → Torn at n old new → layout.file_size ≤ length old → Apart at n (layout.gate_at slot) 1 → Apart at n (layout.body_at slot) layout.body_size
     → reading_at layout new slot ≡ reading_at layout old slot
 unfolding reading_at
 reading_kept layout at n old new slot torn long ga ba =
@@ -62,9 +55,9 @@ byte_written old at v =
     sym (index-part new at 1 0 (omega arith) ∙ ap (λ i. slice_index new i) (let same : at + 0 ≡ at = omega arith in same)) ∙ ap (λ (l : List ℕ). get_or l 0 0) (overlaid_part old at (v ∷ []))
 
 -- a gate past the end is shut
-pub past_the_end : (image : List ℕ) (slot : Slot) → length image ≤ gate_of slot → reading_at version_1 image slot ≡ Shut
+pub past_the_end : (layout : Layout) (image : List ℕ) (slot : Slot) → length image ≤ layout.gate_at slot → reading_at layout image slot ≡ Shut
 unfolding reading_at
-past_the_end image slot past = ap (λ v. slot_reading version_1 v (bytes_from image (body_of slot) 16)) (get_or_past image (gate_of slot) 0 past)
+past_the_end layout image slot past = ap (λ v. slot_reading layout v (bytes_from image (layout.body_at slot) layout.body_size)) (get_or_past image (layout.gate_at slot) 0 past)
 
 -- over a shut gate any body is shut
 still_shut : (layout : Layout) (gate : ℕ) (bytes other_bytes : List ℕ) → slot_reading layout gate bytes ≡ Shut → slot_reading layout gate other_bytes ≡ Shut
@@ -103,38 +96,6 @@ torn_body layout front slot kept old new stands shut torn =
       now_shut,
     )
 
-take_front : (image : List ℕ) → take 24 (take 4096 image) ≡ take 24 image
-take_front image = take-take 24 4096 image (omega arith)
-
-good_slots : (slot : Slot) (kept : Saved) (image : List ℕ) → reading_at version_1 image (other_slot slot) ≡ Holds kept → reading_at version_1 image slot ≢ Damaged → (each : Slot) → reading_at version_1 image each ≢ Damaged
-good_slots A kept image held whole A = whole
-good_slots A kept image held whole B = λ bad. let e : Holds kept ≡ Damaged = sym held ∙ bad in cc
-good_slots B kept image held whole A = λ bad. let e : Holds kept ≡ Damaged = sym held ∙ bad in cc
-good_slots B kept image held whole B = whole
-
-open_slot : (slot : Slot) (kept : Saved) (image : List ℕ) → reading_at version_1 image (other_slot slot) ≡ Holds kept → IsOpen (reading_at version_1 image A) ⊎ IsOpen (reading_at version_1 image B)
-open_slot A kept image held = inr (subst IsOpen (sym held) tt)
-open_slot B kept image held = inl (subst IsOpen (sym held) tt)
-
-floor_kept : (slot : Slot) (kept : Saved) (image : List ℕ) → reading_at version_1 image (other_slot slot) ≡ Holds kept → kept.ceiling ≤ floor image
-floor_kept A kept image held = omega (arith, ap ceiling_of held)
-floor_kept B kept image held = omega (arith, ap ceiling_of held)
-
--- an image in which the other slot stands covers what it holds
-pub stands_covers : (owner : Owner) (front : List ℕ) (slot : Slot) (kept : Saved) (n : ℕ) (image : List ℕ) → take 24 front ≡ head owner → kept.ceiling ≡ n → Stands version_1 front slot kept image → Covers owner n image
-stands_covers owner front slot kept n image begins is stands = record {
-  sound = record {
-    long = stands.long;
-    front = sym (take_front image) ∙ ap (λ (l : List ℕ). take 24 l) stands.front ∙ begins;
-    open_one = open_slot slot kept image stands.held;
-    good = good_slots slot kept image stands.held stands.whole;
-  };
-  covered = omega (arith, is, floor_kept slot kept image stands.held);
-}
-
-pub block_begins : (owner : Owner) (image : List ℕ) → IsSound owner image → take 24 (take 4096 image) ≡ head owner
-block_begins owner image sound = take_front image ∙ sound.front
-
 -- what a slot says once its gate is written
 pub gate_written : (layout : Layout) (slot : Slot) (old : List ℕ) (v : ℕ) → layout.file_size ≤ length old → reading_at layout (overlaid old (layout.gate_at slot) (v ∷ [])) slot ≡ slot_reading layout v (bytes_from old (layout.body_at slot) layout.body_size)
 unfolding reading_at
@@ -143,56 +104,6 @@ gate_written layout slot old v long =
     let new = overlaid old at (v ∷ []) in
     let torn : Torn at 1 old new = overlaid_torn old at (v ∷ []) in
     ap (λ b. slot_reading layout b (bytes_from new (layout.body_at slot) layout.body_size)) (byte_written old at v) ∙ ap (λ (l : List ℕ). slot_reading layout v l) (body_kept layout slot old new long torn)
-
--- an open gate over a good body
-pub open_reads : (bytes : List ℕ) → is_good bytes ≡ true → slot_reading version_1 0xA5 bytes ≡ Holds (saved_in bytes)
-open_reads bytes good = rw good
-
-pub ceiling_back : (saved : Saved) → saved.ceiling ≤ 2 ^ 62 → ceiling_in (body saved) ≡ saved.ceiling
-unfolding ceiling_in body
-ceiling_back saved le = big_number-reads_back 8 saved.ceiling (big_bytes 8 (2 ^ 64 - 1 - saved.ceiling)) (omega (arith, le))
-
-pub body_good : (saved : Saved) → saved.ceiling ≤ 2 ^ 62 → is_good (body saved) ≡ true
-unfolding is_good body
-body_good saved le =
-    let n = saved.ceiling in
-    let high = ceiling_back saved le in
-    let low : big_number 8 (bytes_from (body saved) 8 8) ≡ 2 ^ 64 - 1 - n = big_number-reads_back 8 (2 ^ 64 - 1 - n) [] (omega arith) in
-    and_from _ _ (eq-eqb _ _ (low ∙ ap (λ m. 2 ^ 64 - 1 - m) (sym high))) (le-leb _ _ (omega (arith, high, le)))
-
-pub body_reads : (saved : Saved) → saved.ceiling ≤ 2 ^ 62 → slot_reading version_1 0xA5 (body saved) ≡ Holds saved
-body_reads saved le = open_reads (body saved) (body_good saved le) ∙ ap (λ n. Holds (record { ceiling = n })) (ceiling_back saved le)
-
-pub length-body : (saved : Saved) → length (body saved) ≡ 16
-unfolding body
-length-body saved = refl
-
--- what a slot says once its body is written
-pub body_written : (front : List ℕ) (slot : Slot) (kept saved : Saved) (old : List ℕ) → Stands version_1 front slot kept old → reading_at version_1 old slot ≡ Shut
-    → (reading_at version_1 (overlaid old (body_of slot) (body saved)) slot ≡ Shut) × (bytes_from (overlaid old (body_of slot) (body saved)) (body_of slot) 16 ≡ body saved)
-body_written front slot kept saved old stands shut =
-    let new = overlaid old (body_of slot) (body saved) in
-    let torn : Torn (body_of slot) 16 old new = subst (λ k. Torn (body_of slot) k old new) (length-body saved) (overlaid_torn old (body_of slot) (body saved)) in (
-      (torn_body version_1 front slot kept old new stands shut torn).1,
-      subst (λ k. bytes_from new (body_of slot) k ≡ body saved) (length-body saved) (overlaid_part old (body_of slot) (body saved)),
-    )
-
-pub good_bounded : (bytes : List ℕ) → is_good bytes ≡ true → ceiling_in bytes ≤ 2 ^ 62
-unfolding is_good
-good_bounded bytes good = leb-true _ _ ((and_parts _ _ good).1)
-
--- the two tests of a body, one after the other
-pub good_then : (bytes : List ℕ) (high low : ℕ) → high ≡ ceiling_in bytes → low ≡ big_number 8 (bytes_from bytes 8 8) → low ≡ 2 ^ 64 - 1 - high → nat_le high (2 ^ 62) ≡ is_good bytes
-unfolding is_good
-good_then bytes high low high_is low_is agrees =
-    let test : (big_number 8 (bytes_from bytes 8 8) == 2 ^ 64 - 1 - ceiling_in bytes) ≡ true = eq-eqb _ _ (sym low_is ∙ agrees ∙ ap (λ m. 2 ^ 64 - 1 - m) high_is) in
-    ap (λ m. nat_le m (2 ^ 62)) high_is ∙ sym (ap (λ t. t && nat_le (ceiling_in bytes) (2 ^ 62)) test)
-
-pub good_else : (bytes : List ℕ) (high low : ℕ) → high ≡ ceiling_in bytes → low ≡ big_number 8 (bytes_from bytes 8 8) → (low ≡ 2 ^ 64 - 1 - high → ⊥) → false ≡ is_good bytes
-unfolding is_good
-good_else bytes high low high_is low_is differs =
-    let test : (big_number 8 (bytes_from bytes 8 8) == 2 ^ 64 - 1 - ceiling_in bytes) ≡ false = ne_eqb _ _ (λ same. differs (low_is ∙ same ∙ ap (λ m. 2 ^ 64 - 1 - m) (sym high_is))) in
-    sym (ap (λ t. t && nat_le (ceiling_in bytes) (2 ^ 62)) test)
 
 verdict_good : (is_open good : Bool) (saved : Saved) → ((if is_open then (if good then Holds saved else Damaged) else Shut) ≡ Shut → ⊥) → ((if is_open then (if good then Holds saved else Damaged) else Shut) ≡ Damaged → ⊥) → good ≡ true
 verdict_good true true saved open_gate whole = refl

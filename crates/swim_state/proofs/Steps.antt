@@ -1,15 +1,18 @@
 -- How steps of a save follow one another.
-use Rattle.std.proofs.Common.{◌≡◌, ℕ, true, List, ◌∷◌, [], length, Result, Ok, Err, OnOk, subst, sym}
+use Rattle.std.proofs.Common.{◌≡◌, ◌≤◌, ℕ, true, List, ◌∷◌, [], length, Result, Ok, Err, OnOk, IfOk, subst, sym}
 use Rattle.swim_disk.specs.Disk.{DiskState, Torn, overlaid}
-use Rattle.swim_state.specs.Layout.{Layout, body_of, body, bytes_from}
-use Rattle.swim_state.specs.Version.{version_1}
+use Rattle.swim_state.specs.Layout.{Layout, bytes_from}
+use Rattle.swim_state.specs.Second.{body, version_2}
 use Rattle.swim_state.specs.File.{reading_at}
 use Rattle.swim_state.specs.Machinery.Saving.{Stands, SaveStep, Put}
 use Rattle.swim_state.specs.declared.layout.Saved.{Saved}
 use Rattle.swim_state.specs.declared.layout.Slot.{Slot}
 use Rattle.swim_state.specs.declared.layout.Reading.TheVariants.{Shut}
 use Rattle.swim_state.proofs.Moments.{weaker}
-use Rattle.swim_state.proofs.Standing.{torn_gate, torn_body, body_written}
+use Rattle.swim_state.proofs.Bodies.{length-body}
+use Rattle.swim_state.proofs.Standing.{torn_gate, torn_body}
+use Rattle.swim_state.proofs.Torn.{overlaid_part}
+use Rattle.swim_disk.specs.Machinery.Torn.{overlaid_torn}
 
 pub always_ok : {T E : Type 0} (P : Type 0) (result : Result T E) → P → OnOk result P
 always_ok P (Ok v) p = p
@@ -22,6 +25,10 @@ on_both P Q R (Err e) so p q = tt
 pub on_ok : {T E : Type 0} (P Q : Type 0) (result : Result T E) → (P → Q) → OnOk result P → OnOk result Q
 on_ok P Q (Ok v) so p = so p
 on_ok P Q (Err e) so p = p
+
+pub if_ok : {T E : Type 0} (P Q : T → Type 0) (result : Result T E) → ((v : T) → P v → Q v) → IfOk result P → IfOk result Q
+if_ok P Q (Ok v) so p = so v p
+if_ok P Q (Err e) so p = tt
 
 -- a step that is one write and its sync
 put_step : {T E : Type 0} (layout : Layout) (front : List ℕ) (slot : Slot) (kept : Saved) (at : ℕ) (bytes : List ℕ) (Q : List ℕ → Type 0) (result : Result T E) (old new : DiskState) → Put at bytes result old new
@@ -39,13 +46,23 @@ gate_step layout front slot kept at v Q result old new is put stands good done =
     put_step layout front slot kept (layout.gate_at slot) (v ∷ []) Q result old new (subst (λ a. Put a (v ∷ []) result old new) is put)
     (λ c torn. torn_gate layout front slot kept old.content c stands good torn) done
 
-pub body_step : {T E : Type 0} (front : List ℕ) (slot : Slot) (kept : Saved) (at : ℕ) (saved : Saved) (bytes : List ℕ) (result : Result T E) (old new : DiskState) → at ≡ body_of slot → bytes ≡ body saved → Put at bytes result old new
-    → Stands version_1 front slot kept old.content → reading_at version_1 old.content slot ≡ Shut
-    → SaveStep version_1 front slot kept (λ c. (reading_at version_1 c slot ≡ Shut) × (bytes_from c (body_of slot) 16 ≡ body saved)) result old new
-unfolding body
-body_step front slot kept at saved bytes result old new is are put stands shut =
-    put_step version_1 front slot kept (body_of slot) (body saved) _ result old new (subst (λ b. Put (body_of slot) b result old new) are (subst (λ a. Put a bytes result old new) is put))
-    (λ c torn. (torn_body version_1 front slot kept old.content c stands shut torn).0) (body_written front slot kept saved old.content stands shut)
+-- what a slot says once its body is written
+body_written : (front : List ℕ) (slot : Slot) (kept saved : Saved) (old : List ℕ) → length saved.peers ≤ 8 → Stands version_2 front slot kept old → reading_at version_2 old slot ≡ Shut
+    → (reading_at version_2 (overlaid old (version_2.body_at slot) (body saved)) slot ≡ Shut) × (bytes_from (overlaid old (version_2.body_at slot) (body saved)) (version_2.body_at slot) 114 ≡ body saved)
+body_written front slot kept saved old few stands shut =
+    let new = overlaid old (version_2.body_at slot) (body saved) in
+    let size = length-body saved few in
+    let torn : Torn (version_2.body_at slot) 114 old new = subst (λ k. Torn (version_2.body_at slot) k old new) size (overlaid_torn old (version_2.body_at slot) (body saved)) in (
+      (torn_body version_2 front slot kept old new stands shut torn).1,
+      subst (λ k. bytes_from new (version_2.body_at slot) k ≡ body saved) size (overlaid_part old (version_2.body_at slot) (body saved)),
+    )
+
+pub body_step : {T E : Type 0} (front : List ℕ) (slot : Slot) (kept : Saved) (at : ℕ) (saved : Saved) (bytes : List ℕ) (result : Result T E) (old new : DiskState) → length saved.peers ≤ 8 → at ≡ version_2.body_at slot → bytes ≡ body saved → Put at bytes result old new
+    → Stands version_2 front slot kept old.content → reading_at version_2 old.content slot ≡ Shut
+    → SaveStep version_2 front slot kept (λ c. (reading_at version_2 c slot ≡ Shut) × (bytes_from c (version_2.body_at slot) 114 ≡ body saved)) result old new
+body_step front slot kept at saved bytes result old new few is are put stands shut =
+    put_step version_2 front slot kept (version_2.body_at slot) (body saved) _ result old new (subst (λ b. Put (version_2.body_at slot) b result old new) are (subst (λ a. Put a bytes result old new) is put))
+    (λ c torn. (torn_body version_2 front slot kept old.content c stands shut (subst (λ k. Torn (version_2.body_at slot) k old.content c) (length-body saved few) torn)).0) (body_written front slot kept saved old.content few stands shut)
 
 -- what a read gives after a step is one of its images
 pub stands_after : {T E : Type 0} (layout : Layout) (front : List ℕ) (slot : Slot) (kept : Saved) (Q : List ℕ → Type 0) (result : Result T E) (old new : DiskState) → SaveStep layout front slot kept Q result old new → Stands layout front slot kept new.content

@@ -3,26 +3,26 @@
 ghost use Rattle.std.specs.Prelude.{◌≡◌, ◌⊎◌, ◌↔◌, ◌+◌, ◌<◌, ◌≤◌, ◌^◌, ◌∷◌, [], ℕ, List, length, OnOk, IsErrOf};
 ghost use Rattle.swim_disk.specs.Disk.{Counts, IsSettled, Rests, overlaid};
 ghost use Rattle.swim_state.specs.File.{floor, head, IsSound};
-ghost use Rattle.swim_state.specs.Layout.{body};
-ghost use Rattle.swim_state.specs.declared.layout.Saved.{Saved};
+ghost use Rattle.swim_state.specs.First.{body_alone};
 
 use crate::fault::InitFault;
-use crate::layout::{OPEN, Saved, Slot};
+use crate::first::encode;
+use crate::layout::{OPEN, Slot, Version};
 use crate::owner::{Owner, encode_head};
-use crate::save::{body_bytes, put};
+use crate::save::put;
 use swim_disk::{Disk, DiskFault};
 use swim_wire::NUMBER_MAX;
 
 /// Writes the head and body A.
-fn write_head_and_body<D: Disk>(disk: &mut D, owner: Owner, saved: Saved) -> Result<(), DiskFault>
+fn write_head_and_body<D: Disk>(disk: &mut D, owner: Owner, ceiling: u64) -> Result<(), DiskFault>
     ensures counts { Counts result (D.state disk.old) (D.state disk.new) }
     ensures content { D.keeps_model
         → OnOk result
         ((D.state disk.new).content ≡ overlaid
-        (overlaid (D.state disk.old).content 0 (head owner)) 4096 (body saved)) }
+        (overlaid (D.state disk.old).content 0 (head owner)) 4096 (body_alone ceiling)) }
 {
     disk.write_at(0, &encode_head(owner))?;
-    disk.write_at(Slot::A.body(), &body_bytes(saved))
+    disk.write_at(Slot::A.body(Version::One), &encode(ceiling))
 }
 
 /// Shuts gate B, the last byte of the file, and syncs all.
@@ -33,23 +33,23 @@ fn shut_last<D: Disk>(disk: &mut D) -> Result<(), DiskFault>
         → OnOk result
         ((D.state disk.new).content ≡ overlaid (D.state disk.old).content 16384 (0 ∷ [])) }
 {
-    disk.write_at(Slot::B.gate(), &[0])?;
+    disk.write_at(Slot::B.gate(Version::One), &[0])?;
     disk.sync()
 }
 
 /// Writes a file with this ceiling in slot A.
-fn fill_new<D: Disk>(disk: &mut D, owner: Owner, saved: Saved) -> Result<(), DiskFault>
-    requires { saved.ceiling ≤ NUMBER_MAX }
+fn fill_new<D: Disk>(disk: &mut D, owner: Owner, ceiling: u64) -> Result<(), DiskFault>
+    requires { ceiling ≤ NUMBER_MAX }
     ensures counts { Counts result (D.state disk.old) (D.state disk.new) }
     ensures made { D.keeps_model → (D.state disk.old).content ≡ [] → OnOk result
-        ((c : List ℕ) → (D.state disk.new).images c → IsSound owner c × (floor c ≡ saved.ceiling)) }
+        ((c : List ℕ) → (D.state disk.new).images c → IsSound owner c × (floor c ≡ ceiling)) }
 {
-    write_head_and_body(disk, owner, saved)?;
+    write_head_and_body(disk, owner, ceiling)?;
     shut_last(disk)?;
-    put(disk, Slot::A.gate(), &[OPEN])
+    put(disk, Slot::A.gate(Version::One), &[OPEN])
 }
 
-/// Makes a state file of 16,385 bytes on an empty disk: the owner's head, this ceiling in slot A, and
+/// Makes a state file of version 1, of 16,385 bytes, on an empty disk: the owner's head, this ceiling in slot A, and
 /// slot B shut.
 ///
 /// `Range` comes where the ceiling is above the greatest number, and is judged before the disk is
@@ -87,6 +87,6 @@ pub fn init<D: Disk>(disk: &mut D, owner: Owner, ceiling: u64) -> Result<(), Ini
     if disk.len()? != 0 {
         return Err(InitFault::NotEmpty);
     }
-    fill_new(disk, owner, Saved { ceiling })?;
+    fill_new(disk, owner, ceiling)?;
     Ok(())
 }

@@ -1,4 +1,4 @@
-//! A member's state file: two slots for a ceiling, of which one is written at a time, so that a crash
+//! A member's state file: two slots for a ceiling and peers, of which one is written at a time, so that a crash
 //! at any moment leaves a file whose floor is at least the ceiling that is known.
 //!
 //! All offsets and sizes are in bytes, and numbers in the file are big-endian. The format, and why each
@@ -6,11 +6,15 @@
 #![tactic(auto)]
 
 mod fault;
+mod first;
 mod initial;
 mod layout;
+mod migration;
 mod owner;
+mod peers;
 mod recovery;
 mod save;
+mod second;
 mod slots;
 mod store;
 #[cfg(test)]
@@ -18,8 +22,9 @@ mod tests;
 
 pub use fault::{InitFault, RecoverFault, SaveFault};
 pub use initial::init;
-pub use layout::{Reading, Saved, Slot};
+pub use layout::{Reading, Saved, Slot, Version};
 pub use owner::Owner;
+pub use peers::{PEERS_MAX, Peers};
 pub use recovery::recover;
 pub use slots::{Slots, slots_in};
 pub use store::{SPARE_MAX, Store};

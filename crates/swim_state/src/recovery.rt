@@ -2,20 +2,31 @@
 
 ghost use Rattle.std.specs.Prelude.{◌≡◌, ◌≢◌, ◌⊎◌, ◌<◌, ◌≤◌, ◌^◌, ◌+◌, length, take, false, Some, None, IfOk, IfErr, OnOk, OnErr, IsErrOf, ℕ};
 ghost use Rattle.swim_disk.specs.Disk.{Counts, IsSettled, Rests};
-ghost use Rattle.swim_state.specs.File.{floor, floor_of, head, AreOf, AreUsable, IsSound};
-ghost use Rattle.swim_state.specs.Held.{Covers, Through, Held, HeldSince};
-ghost use Rattle.swim_state.specs.Recovery.{IsJudged, fault_of, first_fault, head_fault, slots_fault};
+ghost use Rattle.swim_state.specs.File.{floor, floor_of, floor_peers, head, layout_of, peers_in, version_in, AreUsable, IsSound};
+ghost use Rattle.swim_state.specs.Held.{Covers, Through, Held, HeldSince, HasPeers};
+ghost use Rattle.swim_state.specs.Recovery.{IsFound, IsJudged, fault_of, first_fault, head_fault, slots_fault};
+ghost use Rattle.swim_state.specs.Machinery.Saving.{Migrates};
+ghost use Rattle.swim_state.specs.Second.{ArePeers};
 ghost use Rattle.swim_state.specs.Store.{disk_in};
-ghost use Rattle.swim_state.specs.declared.fault.RecoverFault.TheVariants.{Device, Exhausted};
+ghost use Rattle.swim_state.specs.declared.owner.Owner.{Owner};
+ghost use Rattle.swim_state.specs.declared.fault.RecoverFault.TheVariants.{Device, Exhausted, NotState};
 
 use crate::fault::RecoverFault;
-use crate::layout::{HEAD_SIZE, Saved, Slot, VERSION_1};
+use crate::layout::{HEAD_SIZE, Saved, Slot, Version};
+use crate::migration::migrate;
 use crate::owner::{Owner, encode_head};
 use crate::save::save;
-use crate::slots::{Slots, read_slots};
+use crate::slots::{Slots, read_slots, read_version};
 use crate::store::Store;
 use swim_disk::{Disk, DiskFault};
 use swim_wire::NUMBER_MAX;
+
+/// What an opening found.
+#[derive(Drop)]
+struct Found {
+    version: Version,
+    slots: Slots,
+}
 
 /// Syncs and reads the length.
 fn measure<D: Disk>(disk: &mut D) -> Result<u64, DiskFault>
@@ -58,12 +69,12 @@ fn judge_head(found: &[u8; HEAD_SIZE], owner: Owner) -> Result<(), RecoverFault>
 }
 
 /// Judges what the slots say.
-fn judge_slots(slots: Slots) -> Result<(), RecoverFault>
-    requires { floor_of slots ≤ NUMBER_MAX }
-    ensures usable { OnOk result (AreUsable slots) }
-    ensures room { OnOk result (floor_of slots < NUMBER_MAX) }
-    ensures none { OnOk result (slots_fault slots.a slots.b ≡ None) }
-    ensures fault { IfErr result (λ f. slots_fault slots.a slots.b ≡ Some f) }
+fn judge_slots(slots: &Slots) -> Result<(), RecoverFault>
+    requires { floor_of slots.now ≤ NUMBER_MAX }
+    ensures usable { OnOk result (AreUsable slots.now) }
+    ensures room { OnOk result (floor_of slots.now < NUMBER_MAX) }
+    ensures none { OnOk result (slots_fault slots.now.a slots.now.b ≡ None) }
+    ensures fault { IfErr result (λ f. slots_fault slots.now.a slots.now.b ≡ Some f) }
     ensures no_device { IsErrOf result RecoverFault.Device → ⊥ }
 {
     if slots.is_shut(Slot::A) && slots.is_shut(Slot::B) {
@@ -78,88 +89,127 @@ fn judge_slots(slots: Slots) -> Result<(), RecoverFault>
     Ok(())
 }
 
-/// Reads the head and the slots of a file that is long enough, and judges them.
-fn judge<D: Disk>(disk: &mut D, owner: Owner) -> Result<Slots, RecoverFault>
+/// Reads the head, the mark and the slots of a file of this length, which is enough for version 1, and
+/// judges them.
+fn judge<D: Disk>(disk: &mut D, owner: Owner, size: u64) -> Result<Found, RecoverFault>
+    requires size { D.keeps_model → size ≡ length (D.state disk.old).content }
     ensures name { (D.state disk.new).name ≡ (D.state disk.old).name }
-    ensures asked { (IsErrOf result RecoverFault.Device → ⊥)
-        → (D.state disk.new).calls ≡ (D.state disk.old).calls + 5 }
+    ensures asked { IfErr result (λ f. f ≢ Device
+        → ((D.state disk.new).calls ≡ (D.state disk.old).calls + 6)
+        ⊎ ((f ≡ NotState) × ((D.state disk.new).calls ≡ (D.state disk.old).calls + 2)
+        × (D.keeps_model → length (D.state disk.old).content
+        < (layout_of (version_in (D.state disk.old).content)).file_size))) }
     ensures rests { D.keeps_model → Rests (D.state disk.old) (D.state disk.new) }
-    ensures same { D.keeps_model → IfOk result (λ s. AreOf (D.state disk.old).content s) }
-    ensures head { D.keeps_model → OnOk result (take 24 (D.state disk.old).content ≡ head owner) }
-    ensures none { D.keeps_model → 16385 ≤ length (D.state disk.old).content
-        → OnOk result (fault_of owner (D.state disk.old).content ≡ None) }
-    ensures fault { D.keeps_model → 16385 ≤ length (D.state disk.old).content
+    ensures found { D.keeps_model → IfOk result (λ f. IsFound owner (D.state disk.old).content f) }
+    ensures none { D.keeps_model → OnOk result (fault_of owner (D.state disk.old).content ≡ None) }
+    ensures fault { D.keeps_model
         → IfErr result (λ f. f ≢ Device → fault_of owner (D.state disk.old).content ≡ Some f) }
-    ensures usable { IfOk result (λ s. AreUsable s) }
-    ensures room { IfOk result (λ s. floor_of s < NUMBER_MAX) }
+    ensures usable { IfOk result (λ f. AreUsable f.slots) }
+    ensures room { IfOk result (λ f. floor_of f.slots < NUMBER_MAX) }
+    ensures peers { IfOk result (λ f. ArePeers (peers_in f.slots)) }
     ensures device { IsErrOf result RecoverFault.Device
         → (D.state disk.new).failures ≡ (D.state disk.old).failures + 1 }
     ensures calm { (IsErrOf result RecoverFault.Device → ⊥)
         → (D.state disk.new).failures ≡ (D.state disk.old).failures }
 {
     let head = read_head(disk)?;
-    let slots = read_slots(disk)?;
+    let version = read_version(disk)?;
+    if size < version.size() {
+        return Err(RecoverFault::NotState);
+    }
+    let slots = read_slots(disk, version)?;
     judge_head(&head, owner)?;
-    judge_slots(slots)?;
-    Ok(slots)
+    judge_slots(&slots)?;
+    Ok(Found { version, slots })
 }
 
-/// Syncs, reads all, and judges it. The length is judged as it is read, and all else after all reads.
-fn inspect<D: Disk>(disk: &mut D, owner: Owner) -> Result<Slots, RecoverFault>
+/// Syncs, reads all, and judges it. The length is judged as it is read, for version 2 as the mark is
+/// read, and all else after all reads.
+fn inspect<D: Disk>(disk: &mut D, owner: Owner) -> Result<Found, RecoverFault>
     ensures name { (D.state disk.new).name ≡ (D.state disk.old).name }
     ensures asked { IfErr result (λ f. f ≢ Device
         → IsJudged D.keeps_model f (D.state disk.old) (D.state disk.new)) }
     ensures rests { D.keeps_model → Rests (D.state disk.old) (D.state disk.new) }
     ensures settled { D.keeps_model → OnOk result (IsSettled (D.state disk.new)) }
-    ensures same { D.keeps_model → IfOk result (λ s. AreOf (D.state disk.old).content s) }
-    ensures long { D.keeps_model → OnOk result (16385 ≤ length (D.state disk.old).content) }
-    ensures head { D.keeps_model → OnOk result (take 24 (D.state disk.old).content ≡ head owner) }
+    ensures found { D.keeps_model → IfOk result (λ f. IsFound owner (D.state disk.old).content f) }
     ensures none { D.keeps_model → OnOk result (fault_of owner (D.state disk.old).content ≡ None) }
     ensures fault { D.keeps_model
         → IfErr result (λ f. f ≢ Device → fault_of owner (D.state disk.old).content ≡ Some f) }
-    ensures usable { IfOk result (λ s. AreUsable s) }
-    ensures room { IfOk result (λ s. floor_of s < NUMBER_MAX) }
+    ensures usable { IfOk result (λ f. AreUsable f.slots) }
+    ensures room { IfOk result (λ f. floor_of f.slots < NUMBER_MAX) }
+    ensures peers { IfOk result (λ f. ArePeers (peers_in f.slots)) }
     ensures device { IsErrOf result RecoverFault.Device
         → (D.state disk.new).failures ≡ (D.state disk.old).failures + 1 }
     ensures calm { (IsErrOf result RecoverFault.Device → ⊥)
         → (D.state disk.new).failures ≡ (D.state disk.old).failures }
 {
-    if measure(disk)? < VERSION_1.size {
+    let size = measure(disk)?;
+    if size < Version::One.size() {
         return Err(RecoverFault::NotState);
     }
-    judge(disk, owner)
+    judge(disk, owner, size)
+}
+
+/// The slots of version 2 with a ceiling one above the floor that was found: by a save with the peers
+/// that were found, or by a migration.
+fn save_or_migrate<D: Disk>(disk: &mut D, found: Found) -> Result<Slots, DiskFault>
+    requires usable { AreUsable found.slots }
+    requires room { floor_of found.slots < NUMBER_MAX }
+    requires peers { ArePeers (peers_in found.slots) }
+    requires settled { D.keeps_model → IsSettled (D.state disk.old) }
+    requires found { D.keeps_model
+        → (owner : Owner) × IsFound owner (D.state disk.old).content found }
+    ensures counts { Counts result (D.state disk.old) (D.state disk.new) }
+    ensures usable { IfOk result (λ s. AreUsable s) }
+    ensures floor { IfOk result (λ s. floor_of s ≡ floor_of found.slots + 1) }
+    ensures peers { D.keeps_model → IfOk result (λ s. peers_in s ≡ peers_in found.slots) }
+    ensures migrates { D.keeps_model → (owner : Owner) → IsSound owner (D.state disk.old).content
+        → Migrates owner (floor_of found.slots) result (D.state disk.old) (D.state disk.new) }
+{
+    let Found { version, mut slots } = found;
+    let ceiling = slots.floor() + 1;
+    match version {
+        Version::One => migrate(disk, ceiling),
+        Version::Two => {
+            let peers = slots.peers();
+            save(disk, &mut slots, Saved { ceiling, peers })?;
+            Ok(slots)
+        }
+    }
 }
 
 /// Makes a store of slots that were read, by a first save.
 fn first_save<D: Disk>(
     mut disk: D,
     owner: Owner,
-    slots: Slots,
+    found: Found,
 ) -> Result<Store<D>, (D, RecoverFault)>
-    requires usable { AreUsable slots }
-    requires room { floor_of slots < NUMBER_MAX }
+    requires usable { AreUsable found.slots }
+    requires room { floor_of found.slots < NUMBER_MAX }
+    requires peers { ArePeers (peers_in found.slots) }
     requires settled { D.keeps_model → IsSettled (D.state disk) }
-    requires same { D.keeps_model → AreOf (D.state disk).content slots }
-    requires sound { D.keeps_model → IsSound owner (D.state disk).content }
-    ensures first { IfOk result (λ s. s.ceiling ≡ floor_of slots + 1) }
+    requires found { D.keeps_model → IsFound owner (D.state disk).content found }
+    ensures first { IfOk result (λ s. s.ceiling ≡ floor_of found.slots + 1) }
     ensures owner { IfOk result (λ s. s.owner ≡ owner) }
     ensures whole { IfOk result (λ s. s.broken ≡ false) }
+    ensures peers { D.keeps_model → IfOk result (λ s. s.peers ≡ peers_in found.slots) }
     ensures held { D.keeps_model → IfOk result (λ s. Held owner (D.state s.disk) s.ceiling) }
+    ensures named { D.keeps_model → IfOk result (λ s. HasPeers (D.state s.disk) s.peers) }
     ensures moments { D.keeps_model
-        → Through (Covers owner (floor_of slots)) (D.state disk) (D.state (disk_in result)) }
+        → Through (Covers owner (floor_of found.slots)) (D.state disk) (D.state (disk_in result)) }
     ensures fault { IfErr result (λ refused. refused.1 ≡ Device) }
     ensures counts { Counts result (D.state disk) (D.state (disk_in result)) }
 {
-    let to = slots.floor() + 1;
-    match save(&mut disk, slots, Saved { ceiling: to }) {
-        Ok(slots) => Ok(Store::of(disk, owner, to, slots)),
+    match save_or_migrate(&mut disk, found) {
+        Ok(slots) => Ok(Store::of(disk, owner, slots)),
         Err(_) => Err((disk, RecoverFault::Device)),
     }
 }
 
 /// Opens a file that a crash may have left, and saves a ceiling of one above its floor: the first
-/// number of a new life. The device calls are sync, length, head, gate A, body A, gate B, body B, and
-/// then the save. With a fault the disk comes back.
+/// number of a new life. The peers that stand with the floor stay. A file of version 1 becomes one of
+/// version 2. The device calls are sync, length, head, mark, gate A, body A, gate B, body B, and then the
+/// save or the migration. With a fault the disk comes back.
 ///
 /// `Device` comes where a call of the disk failed. Otherwise the first fault that the content shows is
 /// answered, and nothing is written: `NotState`, `WrongOwner`, `NoSlot`, `Damaged`, `Exhausted`.
@@ -180,9 +230,12 @@ pub fn recover<D: Disk>(mut disk: D, owner: Owner) -> Result<Store<D>, (D, Recov
         → IsJudged D.keeps_model refused.1 (D.state disk) (D.state refused.0)) }
     ensures opened { IfOk result (λ s. (D.state s.disk).failures ≡ (D.state disk).failures) }
 
-    // Where the disk keeps the model: the first number is the next one of the content.
+    // Where the disk keeps the model: the first number is the next one of the content, and the peers
+    // that stand with its floor stay.
     ensures first { D.keeps_model
         → IfOk result (λ s. s.ceiling ≡ floor (D.state disk).content + 1) }
+    ensures kept { D.keeps_model → IfOk result (λ s. s.peers ≡ floor_peers (D.state disk).content) }
+    ensures named { D.keeps_model → IfOk result (λ s. HasPeers (D.state s.disk) s.peers) }
     ensures covered { D.keeps_model → IfOk result (λ s. Held owner (D.state s.disk) s.ceiling) }
 
     // No moment of the call leaves less than what was held before it.
@@ -205,7 +258,7 @@ pub fn recover<D: Disk>(mut disk: D, owner: Owner) -> Result<Store<D>, (D, Recov
     // Two names, since the check follows a struct by value through one call only.
     let reader = owner;
     match inspect(&mut disk, reader) {
-        Ok(slots) => first_save(disk, owner, slots),
+        Ok(found) => first_save(disk, owner, found),
         Err(fault) => Err((disk, fault)),
     }
 }

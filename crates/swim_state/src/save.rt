@@ -1,19 +1,20 @@
 //! The three steps of a save: a gate is shut, its body is written, and the gate is opened.
 
-ghost use Rattle.std.specs.Prelude.{◌≡◌, ◌<◌, ◌≤◌, ◌^◌, ◌+◌, ℕ, List, true, false, OnErr, IfOk};
+ghost use Rattle.std.specs.Prelude.{◌≡◌, ◌<◌, ◌≤◌, ◌^◌, ◌+◌, ℕ, List, true, false, IsTrue, OnOk, OnErr, IfOk, All, length};
 ghost use Rattle.swim_disk.specs.Disk.{Counts, IsSettled};
-ghost use Rattle.swim_state.specs.File.{reading_at, floor_of, AreUsable, AreOf, IsSound};
-ghost use Rattle.swim_state.specs.Layout.{body, body_of, is_good, bytes_from};
-ghost use Rattle.swim_state.specs.Version.{version_1};
+ghost use Rattle.swim_state.specs.File.{reading_at, floor_of, peers_in, version_in, AreUsable, AreOf, IsSound};
+ghost use Rattle.swim_state.specs.Layout.{bytes_from};
+ghost use Rattle.swim_state.specs.Second.{body, is_good, may_be_saved, version_2};
 ghost use Rattle.swim_state.specs.Machinery.Saving.{Put, Stands, SaveStep, Saves};
 ghost use Rattle.swim_state.specs.declared.owner.Owner.{Owner};
 ghost use Rattle.swim_state.specs.declared.layout.Saved.{Saved};
 ghost use Rattle.swim_state.specs.declared.layout.Reading.TheVariants.{Shut, Holds};
-ghost use Rattle.swim_wire.specs.declared.update.TheConstants.{NUMBER_MAX};
+ghost use Rattle.swim_state.specs.declared.layout.Version.TheVariants.{Two};
+ghost use Rattle.swim_state.specs.declared.peers.TheConstants.{PEERS_MAX};
 
-use crate::layout::{BODY_SIZE, OPEN, Saved, Slot};
+use crate::layout::{OPEN, Saved, Slot, Version};
+use crate::second::encode;
 use crate::slots::Slots;
-use byteorder::{BigEndian, ByteOrder};
 use swim_disk::{Disk, DiskFault};
 
 /// Writes these bytes and syncs.
@@ -26,25 +27,29 @@ pub(crate) fn put<D: Disk>(disk: &mut D, at: u64, bytes: &[u8]) -> Result<(), Di
     disk.sync()
 }
 
-/// Saves in one slot, while the other one stands. It stops at the first failure.
-pub(crate) fn save<D: Disk>(disk: &mut D, slots: Slots, saved: Saved) -> Result<Slots, DiskFault>
-    requires usable { AreUsable slots }
-    requires above { floor_of slots < saved.ceiling }
-    requires bounded { saved.ceiling ≤ NUMBER_MAX }
+/// Saves in one slot, while the other one stands, and notes it. It stops at the first failure.
+pub(crate) fn save<D: Disk>(disk: &mut D, slots: &mut Slots, saved: Saved) -> Result<(), DiskFault>
+    requires usable { AreUsable slots.old }
+    requires above { floor_of slots.old < saved.ceiling }
+    requires stands { IsTrue (may_be_saved saved) }
     requires settled { D.keeps_model → IsSettled (D.state disk.old) }
-    requires same { D.keeps_model → AreOf (D.state disk.old).content slots }
+    requires two { D.keeps_model → version_in (D.state disk.old).content ≡ Two }
+    requires same { D.keeps_model → AreOf version_2 (D.state disk.old).content slots.old }
     requires sound { D.keeps_model → (owner : Owner) × IsSound owner (D.state disk.old).content }
     ensures counts { Counts result (D.state disk.old) (D.state disk.new) }
-    ensures usable { IfOk result (λ s. AreUsable s) }
-    ensures floor { IfOk result (λ s. floor_of s ≡ saved.ceiling) }
+    ensures usable { AreUsable slots.new }
+    ensures floor { OnOk result (floor_of slots.new ≡ saved.ceiling) }
+    ensures peers { OnOk result (peers_in slots.new ≡ saved.peers) }
+    ensures stopped { OnErr result (slots.new ≡ slots.old) }
     ensures saves { D.keeps_model → (owner : Owner) → IsSound owner (D.state disk.old).content
-        → Saves owner (floor_of slots) result (D.state disk.old) (D.state disk.new) }
+        → Saves owner (floor_of slots.old) slots.new result (D.state disk.old) (D.state disk.new) }
 {
     let slot = slots.target();
     shut(disk, slot, slots.is_shut(slot))?;
-    fill(disk, slot, saved)?;
-    open(disk, slot, saved)?;
-    Ok(slots.with(slot, saved))
+    fill(disk, slot, &saved)?;
+    open(disk, slot, &saved)?;
+    slots.put(slot, saved);
+    Ok(())
 }
 
 /// Shuts a slot's gate, and syncs. A gate that is shut already isn't written: a written byte may come
@@ -52,13 +57,13 @@ pub(crate) fn save<D: Disk>(disk: &mut D, slots: Slots, saved: Saved) -> Result<
 pub(crate) fn shut<D: Disk>(disk: &mut D, slot: Slot, is_shut: bool) -> Result<(), DiskFault>
     requires settled { D.keeps_model → IsSettled (D.state disk.old) }
     requires shut { D.keeps_model → is_shut ≡ true
-        → reading_at version_1 (D.state disk.old).content slot ≡ Shut }
+        → reading_at version_2 (D.state disk.old).content slot ≡ Shut }
     requires filled { D.keeps_model → is_shut ≡ false
-        → is_good (bytes_from (D.state disk.old).content (body_of slot) 16) ≡ true }
+        → is_good (bytes_from (D.state disk.old).content (version_2.body_at slot) 114) ≡ true }
     ensures counts { Counts result (D.state disk.old) (D.state disk.new) }
     ensures step { D.keeps_model → (front : List ℕ) (kept : Saved)
-        → Stands version_1 front slot kept (D.state disk.old).content
-        → SaveStep version_1 front slot kept (λ c. reading_at version_1 c slot ≡ Shut)
+        → Stands version_2 front slot kept (D.state disk.old).content
+        → SaveStep version_2 front slot kept (λ c. reading_at version_2 c slot ≡ Shut)
         result (D.state disk.old) (D.state disk.new) }
 {
     if is_shut {
@@ -72,51 +77,45 @@ pub(crate) fn shut<D: Disk>(disk: &mut D, slot: Slot, is_shut: bool) -> Result<(
 fn shut_filled<D: Disk>(disk: &mut D, slot: Slot) -> Result<(), DiskFault>
     requires settled { D.keeps_model → IsSettled (D.state disk.old) }
     requires filled { D.keeps_model
-        → is_good (bytes_from (D.state disk.old).content (body_of slot) 16) ≡ true }
+        → is_good (bytes_from (D.state disk.old).content (version_2.body_at slot) 114) ≡ true }
     ensures counts { Counts result (D.state disk.old) (D.state disk.new) }
     ensures step { D.keeps_model → (front : List ℕ) (kept : Saved)
-        → Stands version_1 front slot kept (D.state disk.old).content
-        → SaveStep version_1 front slot kept (λ c. reading_at version_1 c slot ≡ Shut)
+        → Stands version_2 front slot kept (D.state disk.old).content
+        → SaveStep version_2 front slot kept (λ c. reading_at version_2 c slot ≡ Shut)
         result (D.state disk.old) (D.state disk.new) }
 {
-    put(disk, slot.gate(), &[0])
+    put(disk, slot.gate(Version::Two), &[0])
 }
 
 /// Fills the body of a slot whose gate is shut.
-pub(crate) fn fill<D: Disk>(disk: &mut D, slot: Slot, saved: Saved) -> Result<(), DiskFault>
+pub(crate) fn fill<D: Disk>(disk: &mut D, slot: Slot, saved: &Saved) -> Result<(), DiskFault>
     requires settled { D.keeps_model → IsSettled (D.state disk.old) }
-    requires shut { D.keeps_model → reading_at version_1 (D.state disk.old).content slot ≡ Shut }
+    requires few { length saved.now.peers ≤ PEERS_MAX }
+    requires shut { D.keeps_model → reading_at version_2 (D.state disk.old).content slot ≡ Shut }
+    ensures fit { All (λ peer. peer < 2 ^ 48) saved.now.peers }
     ensures counts { Counts result (D.state disk.old) (D.state disk.new) }
     ensures step { D.keeps_model → (front : List ℕ) (kept : Saved)
-        → Stands version_1 front slot kept (D.state disk.old).content
-        → SaveStep version_1 front slot kept
-        (λ c. (reading_at version_1 c slot ≡ Shut) × (bytes_from c (body_of slot) 16 ≡ body saved))
+        → Stands version_2 front slot kept (D.state disk.old).content
+        → SaveStep version_2 front slot kept
+        (λ c. (reading_at version_2 c slot ≡ Shut)
+        × (bytes_from c (version_2.body_at slot) 114 ≡ body saved.now))
         result (D.state disk.old) (D.state disk.new) }
 {
-    put(disk, slot.body(), &body_bytes(saved))
+    put(disk, slot.body(Version::Two), encode(saved).as_slice())
 }
 
 /// Opens the gate over a good body.
-pub(crate) fn open<D: Disk>(disk: &mut D, slot: Slot, saved: Saved) -> Result<(), DiskFault>
-    requires bounded { saved.ceiling ≤ NUMBER_MAX }
+pub(crate) fn open<D: Disk>(disk: &mut D, slot: Slot, saved: &Saved) -> Result<(), DiskFault>
+    requires stands { IsTrue (may_be_saved saved.now) }
+    requires fit { All (λ peer. peer < 2 ^ 48) saved.now.peers }
     requires settled { D.keeps_model → IsSettled (D.state disk.old) }
     requires filled { D.keeps_model
-        → bytes_from (D.state disk.old).content (body_of slot) 16 ≡ body saved }
+        → bytes_from (D.state disk.old).content (version_2.body_at slot) 114 ≡ body saved.now }
     ensures counts { Counts result (D.state disk.old) (D.state disk.new) }
     ensures step { D.keeps_model → (front : List ℕ) (kept : Saved)
-        → Stands version_1 front slot kept (D.state disk.old).content
-        → SaveStep version_1 front slot kept (λ c. reading_at version_1 c slot ≡ Holds saved)
+        → Stands version_2 front slot kept (D.state disk.old).content
+        → SaveStep version_2 front slot kept (λ c. reading_at version_2 c slot ≡ Holds saved.now)
         result (D.state disk.old) (D.state disk.new) }
 {
-    put(disk, slot.gate(), &[OPEN])
-}
-
-/// A ceiling and its bitwise complement.
-pub(crate) fn body_bytes(saved: Saved) -> [u8; BODY_SIZE]
-    ensures { result ≡ body saved }
-{
-    let mut bytes = [0; BODY_SIZE];
-    BigEndian::write_u64(&mut bytes, saved.ceiling);
-    BigEndian::write_u64(&mut bytes[8..], !saved.ceiling);
-    bytes
+    put(disk, slot.gate(Version::Two), &[OPEN])
 }

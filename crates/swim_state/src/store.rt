@@ -1,22 +1,25 @@
-//! An open state file, whose ceiling is raised by a save.
+//! An open state file, whose ceiling is raised by a save that also keeps the peers.
 
 ghost use Rattle.std.specs.Prelude.{◌≡◌, ◌+◌, ◌<◌, ◌≤◌, ◌^◌, ◌⊎◌, true, false, IfOk, OnOk, OnErr, IsErrOf, ℕ};
 ghost use Rattle.swim_disk.specs.Disk.{Counts, IsSettled, Rests, DiskState};
-ghost use Rattle.swim_state.specs.File.{floor, floor_of, AreOf, AreUsable};
-ghost use Rattle.swim_state.specs.Held.{Covers, Through, Held, HeldSince};
+ghost use Rattle.swim_state.specs.File.{floor, floor_of, floor_peers, peers_in, version_in, AreOf, AreUsable};
+ghost use Rattle.swim_state.specs.Held.{Covers, Through, Held, HeldSince, HasPeers};
+ghost use Rattle.swim_state.specs.Second.{version_2, ArePeers};
 ghost use Rattle.swim_state.specs.Store.{IsStore, reserved};
+ghost use Rattle.swim_state.specs.declared.layout.Version.TheVariants.{Two};
 ghost use Rattle.swim_state.specs.declared.owner.Owner.{Owner};
 ghost use Rattle.swim_state.specs.declared.store.TheConstants.{SPARE_MAX};
 ghost use Rattle.swim_wire.specs.declared.update.TheConstants.{NUMBER_MAX};
 
 use crate::fault::SaveFault;
-use crate::layout::Saved;
+use crate::layout::{Saved, Version};
 use crate::owner::Owner;
+use crate::peers::Peers;
 use crate::save::save;
 use crate::slots::{Slots, read_slots};
 use std::marker::Model;
 use swim_disk::{Disk, DiskFault};
-use swim_wire::NUMBER_MAX;
+use swim_wire::{Endpoint, NUMBER_MAX};
 
 /// The most numbers that one raise reserves beyond the number that it is asked for.
 pub const SPARE_MAX: u64 = 1023;
@@ -32,6 +35,7 @@ pub struct Store<D: Disk> {
 }
 
 impl<D: Disk> Model for Store<D> {
+    ghost use Rattle.swim_state.specs.File.{peers_in};
     ghost use Rattle.swim_state.specs.Store.{StoreView, IsStore};
 
     ghost Value = { StoreView D };
@@ -40,6 +44,7 @@ impl<D: Disk> Model for Store<D> {
       disk = s.disk;
       owner = s.owner;
       ceiling = s.ceiling;
+      peers = peers_in s.slots;
       broken = s.broken;
     } };
 
@@ -48,13 +53,15 @@ impl<D: Disk> Model for Store<D> {
 }
 
 impl<D: Disk> Store<D> {
-    pub(crate) fn of(disk: D, owner: Owner, ceiling: u64, slots: Slots) -> Store<D>
-        requires { IsStore D.keeps_model (D.state disk) owner ceiling slots false }
+    pub(crate) fn of(disk: D, owner: Owner, slots: Slots) -> Store<D>
+        requires { IsStore D.keeps_model (D.state disk) owner (floor_of slots) slots false }
         ensures disk { result.disk ≡ disk }
         ensures owner { result.owner ≡ owner }
-        ensures ceiling { result.ceiling ≡ ceiling }
+        ensures ceiling { result.ceiling ≡ floor_of slots }
+        ensures peers { result.peers ≡ peers_in slots }
         ensures whole { result.broken ≡ false }
     {
+        let ceiling = slots.floor();
         Store {
             disk,
             owner,
@@ -71,6 +78,15 @@ impl<D: Disk> Store<D> {
         ensures covered { D.keeps_model → Held self.now.owner (D.state self.now.disk) result }
     {
         self.ceiling
+    }
+
+    /// Whom the member knew at the last save. After a raise that succeeded a crash leaves just these.
+    pub fn peers(&self) -> Peers
+        ensures value { result ≡ self.now.peers }
+        ensures named { D.keeps_model → self.now.broken ≡ false
+            → HasPeers (D.state self.now.disk) result }
+    {
+        self.slots.peers()
     }
 
     /// The disk below. A crash now leaves a floor of at least the ceiling.
@@ -97,23 +113,25 @@ impl<D: Disk> Store<D> {
         disk
     }
 
-    /// Raises the ceiling to this number, and beyond it by `spare` as far as there are numbers, by one
-    /// save: the gate of one slot, its body, its gate, each written and synced. A broken store first
-    /// syncs and reads the slots; where their floor is at least `to`, it becomes the ceiling and nothing
-    /// is written.
+    /// Raises the ceiling to this number, and beyond it by `spare` as far as there are numbers, and
+    /// keeps these peers, by one save: the gate of one slot, its body, its gate, each written and
+    /// synced. A broken store first syncs and reads the slots; where their floor is at least `to`, it
+    /// becomes the ceiling, the peers are those that stand with it, and nothing is written.
     ///
     /// `Device` comes where a call of the disk failed, and `Changed` where a broken store finds a file
-    /// that isn't as it left it. After either the store is broken, and its ceiling stands or is the
-    /// floor that it read, which isn't below it.
-    pub fn raise(&mut self, to: u64, spare: u64) -> Result<(), SaveFault>
+    /// that isn't as it left it. After either the store is broken, and its ceiling and peers stand, or
+    /// are those that it read, of a floor which isn't below the ceiling.
+    pub fn raise(&mut self, to: u64, spare: u64, peers: &[Endpoint]) -> Result<(), SaveFault>
         requires above { self.old.ceiling < to }
         requires bounded { to ≤ NUMBER_MAX }
         requires few { spare ≤ SPARE_MAX }
+        requires peers { ArePeers peers.now }
 
         // On any disk.
         ensures owner { self.new.owner ≡ self.old.owner }
         ensures name { (D.state self.new.disk).name ≡ (D.state self.old.disk).name }
         ensures reread { IsErrOf result SaveFault.Changed → self.old.broken ≡ true }
+        ensures room { IsErrOf result SaveFault.Exhausted → ⊥ }
 
         // One call of the disk failed if the answer is Device, and none if it is any other.
         ensures device { IsErrOf result SaveFault.Device
@@ -121,16 +139,17 @@ impl<D: Disk> Store<D> {
         ensures calm { (IsErrOf result SaveFault.Device → ⊥)
             → (D.state self.new.disk).failures ≡ (D.state self.old.disk).failures }
 
-        // The ceiling. A store that isn't broken raises it by what is reserved, or not at all.
+        // The ceiling. A store that isn't broken raises it by what is reserved, with these peers, or
+        // both stay.
         ensures ok { OnOk result
             (to ≤ self.new.ceiling × self.new.ceiling ≤ NUMBER_MAX × self.new.broken ≡ false) }
         ensures err { OnErr result
             (self.old.ceiling ≤ self.new.ceiling × self.new.ceiling < to × self.new.broken ≡ true) }
 
-        ensures exact { OnOk result
-            (self.old.broken ≡ false → self.new.ceiling ≡ reserved to spare) }
-        ensures steady { OnErr result
-            (self.old.broken ≡ false → self.new.ceiling ≡ self.old.ceiling) }
+        ensures exact { OnOk result (self.old.broken ≡ false
+            → self.new.ceiling ≡ reserved to spare × self.new.peers ≡ peers.now) }
+        ensures steady { OnErr result (self.old.broken ≡ false
+            → self.new.ceiling ≡ self.old.ceiling × self.new.peers ≡ self.old.peers) }
 
         // Where the disk keeps the model: no moment of the call leaves less than the old ceiling, and
         // its end no less than the new one.
@@ -142,84 +161,101 @@ impl<D: Disk> Store<D> {
         ensures covered { D.keeps_model
             → Held self.new.owner (D.state self.new.disk) self.new.ceiling }
 
-        // The ceiling is then the reserved one, or the floor that a broken store read.
-        ensures raised { D.keeps_model → OnOk result ((self.new.ceiling ≡ reserved to spare)
+        // After Ok a crash leaves just the store's peers.
+        ensures named { D.keeps_model
+            → OnOk result (HasPeers (D.state self.new.disk) self.new.peers) }
+
+        // The ceiling is then the reserved one, with the peers that were given, or the floor that a
+        // broken store read, with the peers that stand with it.
+        ensures raised { D.keeps_model → OnOk result
+            ((self.new.ceiling ≡ reserved to spare × self.new.peers ≡ peers.now)
             ⊎ (self.old.broken ≡ true × self.new.ceiling ≡ floor (D.state self.old.disk).content
+            × self.new.peers ≡ floor_peers (D.state self.old.disk).content
             × Rests (D.state self.old.disk) (D.state self.new.disk))) }
-        ensures stood { D.keeps_model → OnErr result ((self.new.ceiling ≡ self.old.ceiling)
-            ⊎ (self.old.broken ≡ true × self.new.ceiling ≡ floor (D.state self.old.disk).content)) }
+        ensures stood { D.keeps_model → OnErr result
+            ((self.new.ceiling ≡ self.old.ceiling × self.new.peers ≡ self.old.peers)
+            ⊎ (self.old.broken ≡ true × self.new.ceiling ≡ floor (D.state self.old.disk).content
+            × self.new.peers ≡ floor_peers (D.state self.old.disk).content)) }
     {
         if self.broken {
-            self.raise_broken(to, spare)
+            self.raise_broken(to, spare, peers)
         } else {
-            self.raise_whole(to, spare)
+            self.raise_whole(to, spare, peers)
         }
     }
 
-    fn raise_whole(&mut self, to: u64, spare: u64) -> Result<(), SaveFault>
+    fn raise_whole(&mut self, to: u64, spare: u64, peers: &[Endpoint]) -> Result<(), SaveFault>
         requires whole { self.old.broken ≡ false }
         requires above { self.old.ceiling < to }
         requires bounded { to ≤ NUMBER_MAX }
         requires few { spare ≤ SPARE_MAX }
+        requires peers { ArePeers peers.now }
         ensures owner { self.new.owner ≡ self.old.owner }
         ensures counts { Counts result (D.state self.old.disk) (D.state self.new.disk) }
-        ensures device { IsErrOf result SaveFault.Changed → ⊥ }
+        ensures device { OnErr result (IsErrOf result SaveFault.Device) }
         ensures moments { D.keeps_model
             → Through (Covers self.old.owner self.old.ceiling) (D.state self.old.disk)
             (D.state self.new.disk) }
         ensures covered { D.keeps_model
             → Held self.new.owner (D.state self.new.disk) self.new.ceiling }
-        ensures ok { OnOk result
-            (self.new.ceiling ≡ reserved to spare × self.new.broken ≡ false) }
-        ensures err { OnErr result (self.new.ceiling ≡ self.old.ceiling × self.new.broken ≡ true) }
+        ensures named { D.keeps_model
+            → OnOk result (HasPeers (D.state self.new.disk) self.new.peers) }
+        ensures ok { OnOk result (self.new.ceiling ≡ reserved to spare
+            × self.new.peers ≡ peers.now × self.new.broken ≡ false) }
+        ensures err { OnErr result (self.new.ceiling ≡ self.old.ceiling
+            × self.new.peers ≡ self.old.peers × self.new.broken ≡ true) }
     {
         let ceiling = (to + spare).min(NUMBER_MAX);
+        let peers = Peers::of(peers);
         self.broken = true;
-        self.slots = save(&mut self.disk, self.slots, Saved { ceiling })?;
+        save(&mut self.disk, &mut self.slots, Saved { ceiling, peers })?;
         self.ceiling = ceiling;
         self.broken = false;
         Ok(())
     }
 
-    fn raise_broken(&mut self, to: u64, spare: u64) -> Result<(), SaveFault>
+    fn raise_broken(&mut self, to: u64, spare: u64, peers: &[Endpoint]) -> Result<(), SaveFault>
         requires broken { self.old.broken ≡ true }
         requires above { self.old.ceiling < to }
         requires bounded { to ≤ NUMBER_MAX }
         requires few { spare ≤ SPARE_MAX }
+        requires peers { ArePeers peers.now }
         ensures owner { self.new.owner ≡ self.old.owner }
         ensures name { (D.state self.new.disk).name ≡ (D.state self.old.disk).name }
         ensures device { IsErrOf result SaveFault.Device
             → (D.state self.new.disk).failures ≡ (D.state self.old.disk).failures + 1 }
         ensures calm { (IsErrOf result SaveFault.Device → ⊥)
             → (D.state self.new.disk).failures ≡ (D.state self.old.disk).failures }
+        ensures room { IsErrOf result SaveFault.Exhausted → ⊥ }
         ensures changed { D.keeps_model → IsErrOf result SaveFault.Changed → ⊥ }
         ensures moments { D.keeps_model
             → Through (Covers self.old.owner self.old.ceiling) (D.state self.old.disk)
             (D.state self.new.disk) }
         ensures covered { D.keeps_model
             → Held self.new.owner (D.state self.new.disk) self.new.ceiling }
+        ensures named { D.keeps_model
+            → OnOk result (HasPeers (D.state self.new.disk) self.new.peers) }
         ensures ok { OnOk result
             (to ≤ self.new.ceiling × self.new.ceiling ≤ NUMBER_MAX × self.new.broken ≡ false) }
         ensures err { OnErr result
             (self.old.ceiling ≤ self.new.ceiling × self.new.ceiling < to × self.new.broken ≡ true) }
-        ensures raised { D.keeps_model
-            → OnOk result
-            ((self.new.ceiling ≡ reserved to spare)
+        ensures raised { D.keeps_model → OnOk result
+            ((self.new.ceiling ≡ reserved to spare × self.new.peers ≡ peers.now)
             ⊎ (self.new.ceiling ≡ floor (D.state self.old.disk).content
+            × self.new.peers ≡ floor_peers (D.state self.old.disk).content
             × Rests (D.state self.old.disk) (D.state self.new.disk))) }
-        ensures stood { D.keeps_model
-            → OnErr result
-            ((self.new.ceiling ≡ self.old.ceiling)
-            ⊎ (self.new.ceiling ≡ floor (D.state self.old.disk).content)) }
+        ensures stood { D.keeps_model → OnErr result
+            ((self.new.ceiling ≡ self.old.ceiling × self.new.peers ≡ self.old.peers)
+            ⊎ (self.new.ceiling ≡ floor (D.state self.old.disk).content
+            × self.new.peers ≡ floor_peers (D.state self.old.disk).content)) }
     {
-        let slots = reread(&mut self.disk, self.ceiling)?;
-        self.slots = slots;
-        self.ceiling = slots.floor();
+        self.slots = reread(&mut self.disk, self.ceiling)?;
+        self.ceiling = self.slots.floor();
         self.broken = false;
         if self.ceiling >= to {
             return Ok(());
         }
-        self.raise_whole(to, spare)
+        self.raise_whole(to, spare, peers)
     }
 }
 
@@ -228,11 +264,11 @@ pub(crate) fn settle<D: Disk>(disk: &mut D) -> Result<Slots, DiskFault>
     ensures counts { Counts result (D.state disk.old) (D.state disk.new) }
     ensures rests { D.keeps_model → Rests (D.state disk.old) (D.state disk.new) }
     ensures settled { D.keeps_model → OnOk result (IsSettled (D.state disk.new)) }
-    ensures same { D.keeps_model → IfOk result (λ s. AreOf (D.state disk.old).content s) }
+    ensures same { D.keeps_model → IfOk result (λ s. AreOf version_2 (D.state disk.old).content s) }
     ensures bounded { IfOk result (λ s. floor_of s ≤ NUMBER_MAX) }
 {
     disk.sync()?;
-    read_slots(disk)
+    read_slots(disk, Version::Two)
 }
 
 /// The slots of a file whose floor is to be this or more, after a save that failed.
@@ -242,11 +278,12 @@ pub(crate) fn reread<D: Disk>(disk: &mut D, ceiling: u64) -> Result<Slots, SaveF
         → (D.state disk.new).failures ≡ (D.state disk.old).failures + 1 }
     ensures calm { (IsErrOf result SaveFault.Device → ⊥)
         → (D.state disk.new).failures ≡ (D.state disk.old).failures }
+    ensures room { IsErrOf result SaveFault.Exhausted → ⊥ }
     ensures changed { D.keeps_model → (owner : Owner) → Held owner (D.state disk.old) ceiling
-        → IsErrOf result SaveFault.Changed → ⊥ }
+        → version_in (D.state disk.old).content ≡ Two → IsErrOf result SaveFault.Changed → ⊥ }
     ensures rests { D.keeps_model → Rests (D.state disk.old) (D.state disk.new) }
     ensures settled { D.keeps_model → OnOk result (IsSettled (D.state disk.new)) }
-    ensures same { D.keeps_model → IfOk result (λ s. AreOf (D.state disk.old).content s) }
+    ensures same { D.keeps_model → IfOk result (λ s. AreOf version_2 (D.state disk.old).content s) }
     ensures usable { IfOk result (λ s. AreUsable s) }
     ensures covered { IfOk result (λ s. ceiling ≤ floor_of s) }
 {

@@ -1,0 +1,53 @@
+use Rattle.std.proofs.Common.{◌≡◌, ◌∙◌, ap, sym, length, drop, arith, rules, Some, slice_index, List, ℕ}
+use Rattle.swim_state.specs.Second.{ascend, body, endpoints, may_be_saved, saved_in}
+use Rattle.swim_state.proofs.Bodies.{too_great, too_many, not_up, another_body, good_from, said_bad, said_good, saved_is, some_if, none_if, stand_from, length-endpoints, not_false}
+use Rattle.std.proofs.lemmas.Slice.Eq.{bytes_eq-Decides}
+use Rattle.swim_state.proofs.second.decode.Goals as goal
+
+pub returns-then-ceiling-gt-NUMBER_MAX-clause-said : goal.returns-then-ceiling-gt-NUMBER_MAX-clause-said
+returns-then-ceiling-gt-NUMBER_MAX-clause-said c =
+    let bytes = c.args.body.now in
+    sym (said_bad bytes (too_great bytes (omega (arith, c.read_u64-ceiling.ensures, c.if-ceiling-gt-NUMBER_MAX.true))))
+
+pub returns-then-count-gt-PEERS_MAX-clause-said : goal.returns-then-count-gt-PEERS_MAX-clause-said
+returns-then-count-gt-PEERS_MAX-clause-said c =
+    let bytes = c.args.body.now in
+    sym (said_bad bytes (too_many bytes (omega (arith, c.if-count-gt-PEERS_MAX.true))))
+
+pub returns-in-None-clause-said : goal.returns-in-None-clause-said
+returns-in-None-clause-said c =
+    let bytes = c.args.body.now in
+    let those = endpoints (slice_index bytes 8) (drop 9 bytes) in
+    sym (said_bad bytes (not_up bytes (none_if (ascend 0 those) those c.in-None.ensures)))
+
+pub returns-then-ne-clause-said : goal.returns-then-ne-clause-said
+returns-then-ne-clause-said c =
+    let bytes = c.args.body.now in
+    let those = endpoints (slice_index bytes 8) (drop 9 bytes) in
+    let both = some_if (ascend 0 those) those c.in-Some.peers c.in-Some.ensures in
+    let is = saved_is bytes c.read_u64-ceiling.result c.in-Some.peers c.read_u64-ceiling.ensures both.1 in
+    let wrote : c.as_slice.result.now ≡ body (saved_in bytes) = c.as_slice.ensures.value ∙ c.encode.ensures.bytes ∙ ap body is in
+    let differs : c.as_slice.result.now ≡ bytes → ⊥ = search (rules, c.if-ne.ensures) in
+    sym (said_bad bytes (another_body bytes (λ same. differs (wrote ∙ sym same))))
+
+pub returns-clause-said : goal.returns-clause-said
+returns-clause-said c =
+    let bytes = c.args.body.now in
+    let those = endpoints (slice_index bytes 8) (drop 9 bytes) in
+    let both = some_if (ascend 0 those) those c.in-Some.peers c.in-Some.ensures in
+    let is = saved_is bytes c.read_u64-ceiling.result c.in-Some.peers c.read_u64-ceiling.ensures both.1 in
+    let wrote : c.as_slice.result.now ≡ body (saved_in bytes) = c.as_slice.ensures.value ∙ c.encode.ensures.bytes ∙ ap body is in
+    let same : c.as_slice.result.now ≡ bytes = (bytes_eq-Decides c.as_slice.result.now bytes).0 (not_false _ (sym c.ne.ensures ∙ c.if-ne.false)) in
+    let stands = stand_from (record { ceiling = c.read_u64-ceiling.result; peers = c.in-Some.peers }) (omega (arith, c.if-ceiling-gt-NUMBER_MAX.false))
+    (omega (arith, ap (λ (l : List ℕ). length l) both.1, length-endpoints (slice_index bytes 8) (drop 9 bytes), c.if-count-gt-PEERS_MAX.false))
+    (ap (ascend 0) both.1 ∙ both.0) in
+    ap Some is ∙ sym (said_good bytes (good_from bytes (ap may_be_saved (sym is) ∙ stands) (sym same ∙ wrote)))
+
+pub returns-clause-stands : goal.returns-clause-stands
+returns-clause-stands c =
+    let bytes = c.args.body.now in
+    let those = endpoints (slice_index bytes 8) (drop 9 bytes) in
+    let both = some_if (ascend 0 those) those c.in-Some.peers c.in-Some.ensures in (
+      omega (arith, c.if-ceiling-gt-NUMBER_MAX.false),
+      (omega (arith, ap (λ (l : List ℕ). length l) both.1, length-endpoints (slice_index bytes 8) (drop 9 bytes), c.if-count-gt-PEERS_MAX.false), ap (ascend 0) both.1 ∙ both.0),
+    )

@@ -1,0 +1,55 @@
+use Rattle.std.proofs.Common.{◌++◌, ◌∷◌, [], ◌-◌, ap, sym, length, replicate, arith, length-append, List, ℕ}
+use Rattle.std.proofs.lemmas.Grind.{flat_map-append}
+use Rattle.std.proofs.lemmas.List.{length-replicate}
+use Rattle.std.specs.List.{flat_map}
+use Rattle.byteorder.specs.Endian.{big_bytes}
+use Rattle.swim_state.specs.Second.{plain}
+use Rattle.swim_state.proofs.Bodies.{length-peers}
+use Rattle.swim_state.proofs.second.encode_plain.Goals as goal
+
+pub append_unused-requires : goal.append_unused-requires
+append_unused-requires c =
+    let peers = c.as_slice-peers.result.now in
+    omega (
+      arith,
+      ap length c.append_peers.ensures.text,
+      length-append c.append-2.new.out.items (flat_map (big_bytes 6) peers),
+      length-peers peers,
+      ap length c.append-2.ensures,
+      length-append c.append.new.out.items (length peers ∷ []),
+      ap length c.append.ensures,
+      ap length c.new-out.ensures,
+      length-append c.new-out.result.items c.write_u64.new.buf,
+      ap length c.write_u64.ensures,
+      c.as_slice-peers.ensures.few,
+    )
+
+pub returns-clause-bytes : goal.returns-clause-bytes
+unfolding plain
+returns-clause-bytes c =
+    let peers = c.as_slice-peers.result.now in
+    let unused : List ℕ = replicate (8 - length peers) 0 in
+    rw (c.append_unused.ensures, c.append_peers.ensures.text, c.append-2.ensures, c.append.ensures, c.new-out.ensures, c.write_u64.ensures, sym c.as_slice-peers.ensures.peers)
+    (ap (λ (l : List ℕ). big_bytes 8 c.args.saved.now.ceiling ++ length peers ∷ l) (sym (flat_map-append (big_bytes 6) peers unused)))
+
+pub returns-clause-len : goal.returns-clause-len
+returns-clause-len c =
+    let peers = c.as_slice-peers.result.now in
+    let unused : List ℕ = replicate (8 - length peers) 0 in
+    omega (
+      arith,
+      ap length c.append_unused.ensures,
+      length-append c.append_peers.new.out.items (flat_map (big_bytes 6) unused),
+      length-peers unused,
+      length-replicate {A = ℕ} (8 - length peers) 0,
+      ap length c.append_peers.ensures.text,
+      length-append c.append-2.new.out.items (flat_map (big_bytes 6) peers),
+      length-peers peers,
+      ap length c.append-2.ensures,
+      length-append c.append.new.out.items (length peers ∷ []),
+      ap length c.append.ensures,
+      ap length c.new-out.ensures,
+      length-append c.new-out.result.items c.write_u64.new.buf,
+      ap length c.write_u64.ensures,
+      c.as_slice-peers.ensures.few,
+    )
