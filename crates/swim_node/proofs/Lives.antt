@@ -53,12 +53,12 @@ greatest-parts g o (n ∷ ns) h =
 
 -- what bounds the greatest number of earlier eras bounds the numbers of each
 eras-most : (g : ℕ) (start : Base) (eras : List Era) (base : Base) → AreJoined start eras base → AreAtMost g (option_to_list base.past) → AreAtMost g (option_to_list start.past) × AreAtMost g (numbers_in eras)
-eras-most g start [] base joined h = (subst (λ (b : Base). AreAtMost g (option_to_list b.past)) joined h, tt {0})
+eras-most g start [] base joined h = (subst (λ (b : Base). AreAtMost g (option_to_list b.past)) joined.same h, tt {0})
 eras-most g start (era ∷ eras) base joined h =
     let later = eras-most g (next_base era.base era.entries) eras base joined.2 h in
     let all = greatest-parts g None (owns era.base era.entries) later.0 in
     let parts = most-parts g (option_to_list era.base.past) (owns_in era.base.state.settings.me era.entries) all.1 in (
-      subst (λ (b : Base). AreAtMost g (option_to_list b.past)) joined.0 parts.0,
+      subst (λ (b : Base). AreAtMost g (option_to_list b.past)) joined.0.same parts.0,
       at_most-append g (owns_in era.base.state.settings.me era.entries) (numbers_in eras) parts.1 later.1,
     )
 

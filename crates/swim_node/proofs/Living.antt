@@ -1,18 +1,29 @@
 -- A life that goes on, and one that ends.
-use Rattle.std.proofs.Common.{◌≡◌, ℕ, List, [], ◌∷◌, ◌++◌, Option, refl, arith}
+use Rattle.std.proofs.Common.{◌≡◌, ℕ, List, [], ◌∷◌, ◌++◌, Option, refl, ap, ◌∙◌, arith}
 use Rattle.std.specs.Option.{option_to_list}
 use Rattle.swim_disk.specs.Disk.{DiskState}
 use Rattle.swim_state.specs.Held.{Held}
 use Rattle.swim_member.specs.State.{State as Member}
 use Rattle.swim_node.specs.History.{Base, IsLegal}
 use Rattle.swim_node.specs.Owns.{owns, owns_in, AreAtLeast}
-use Rattle.swim_node.specs.Node.{NodeView, IsNode, next_base}
-use Rattle.swim_node.specs.Lives.{Era, AreJoined, numbers_in, era_of, GoesOn, EndsEra, MayEnd}
+use Rattle.swim_node.specs.Node.{NodeView, IsNode, granted_base, next_base}
+use Rattle.swim_node.specs.Lives.{Era, AreJoined, IsRaised, numbers_in, era_of, GoesOn, EndsEra, MayEnd}
 use Rattle.swim_node.proofs.Lists.{at_least-append}
 
 joined-snoc : (start : Base) (eras : List Era) (era : Era) → AreJoined start eras era.base → IsLegal era.base era.entries → AreJoined start (eras ++ era ∷ []) (next_base era.base era.entries)
-joined-snoc start [] era joined legal = (joined, legal, refl)
+joined-snoc start [] era joined legal = (joined, legal, record { same = refl; grows = omega arith })
 joined-snoc start (first ∷ eras) era joined legal = (joined.0, joined.1, joined-snoc (next_base first.base first.entries) eras era joined.2 legal)
+
+-- a greater ceiling of the last base
+raised-more : (start base new : Base) → IsRaised start base → IsRaised base new → IsRaised start new
+raised-more start base new first second = record {
+  same = second.same ∙ ap (λ (b : Base). granted_base b new.granted) first.same;
+  grows = omega (arith, first.grows, second.grows);
+}
+
+joined-raised : (start : Base) (eras : List Era) (base new : Base) → AreJoined start eras base → IsRaised base new → AreJoined start eras new
+joined-raised start [] base new joined more = raised-more start base new joined more
+joined-raised start (era ∷ eras) base new joined more = (joined.0, joined.1, joined-raised (next_base era.base era.entries) eras base new joined.2 more)
 
 at_least-parts : (f : ℕ) (ms ns : List ℕ) → AreAtLeast f (ms ++ ns) → AreAtLeast f ms × AreAtLeast f ns
 at_least-parts f [] ns h = (tt {0}, h)
@@ -32,6 +43,15 @@ pub goes_on : {D : Type 0} (state : D → DiskState) (old new : NodeView D) → 
 goes_on state old new base owner first settings limit opened eras h = record {
   same_owner = rw owner h.same_owner;
   joined = rw (base, first) h.joined;
+  above = rw (owner, first) h.above;
+  begun = rw first h.begun;
+}
+
+-- a call that raises the ceiling of the base
+pub goes_raised : {D : Type 0} (state : D → DiskState) (old new : NodeView D) → IsRaised old.base new.base → new.owner ≡ old.owner → new.first ≡ old.first → GoesOn state old new
+goes_raised state old new raised owner first settings limit opened eras h = record {
+  same_owner = rw owner h.same_owner;
+  joined = rw first (joined-raised _ eras old.base new.base h.joined raised);
   above = rw (owner, first) h.above;
   begun = rw first h.begun;
 }

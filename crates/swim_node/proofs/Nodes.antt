@@ -7,7 +7,7 @@ use Rattle.swim_member.specs.declared.settings.Settings.{Settings}
 use Rattle.swim_member.specs.declared.event.Event.{Event}
 use Rattle.swim_member.specs.State.{State}
 use Rattle.swim_member.specs.Events.{Step, state_of, number_after}
-use Rattle.swim_member.specs.Judge.{wanted}
+use Rattle.swim_member.specs.Judge.{wanted, HasDeal}
 use Rattle.swim_member.specs.Fit.{AreAll, own_numbers_in}
 use Rattle.swim_node.specs.declared.entry.Entry.{Entry}
 use Rattle.swim_node.specs.declared.entry.Save.{Save}
@@ -16,7 +16,9 @@ use Rattle.swim_node.specs.History.{Base, IsLegal, IsNext, AreNext, Saves, steps
 use Rattle.swim_node.specs.Machinery.Entering.{Steps}
 use Rattle.swim_node.specs.Sending.{HasTexts}
 use Rattle.swim_node.specs.Owns.{owns, owns_in, AreAtMost, AreAtLeast, greatest_of, greatest_with, greater_of}
-use Rattle.swim_node.specs.Node.{IsNode, IsTurn}
+use Rattle.swim_node.specs.Node.{IsNode, IsTurn, granted_base}
+use Rattle.swim_node.specs.Probing.{IsStart}
+use Rattle.swim_node.proofs.Probing.{start-after}
 use Rattle.swim_node.proofs.Lists.{steps-append, granted_from-append, owns_in-append, at_most-append, at_most-more, at_least-append, all-at_most, all-at_least, greatest_with-append}
 
 next-snoc : (base : Base) (before xs : List Entry) (e : Entry) → AreNext base before xs → IsNext base (before ++ xs) e → AreNext base before (xs ++ e ∷ [])
@@ -54,6 +56,7 @@ pub record Enters (xs : List Entry) (old new : State) (low high : ℕ) (e : Entr
   pub sent : e.reply.sent ≡ taken_in e.outcomes.items
   pub lost : e.reply.lost ≡ lost_in e.outcomes.items
   pub turn : IsTurn xs e.tag
+  pub deal : HasDeal e.event
   pub texts : HasTexts e
 
 module _ (base : Base) (xs : List Entry) (e : Entry) (first : ℕ) (old new : State) (low high : ℕ) (top : Option ℕ) where
@@ -66,6 +69,7 @@ module _ (base : Base) (xs : List Entry) (e : Entry) (first : ℕ) (old new : St
       saved = saves-at (state_after base xs) old e.event (granted_of base xs) low e.save e.granted n.member n.granted h.saved;
       outcomes = h.outcomes;
     };
+    deal = h.deal;
     answered = h.steps.answered base.state (steps xs) n.member;
     status = h.status ∙ ap (λ (k : ℕ). status_at new k) (sym (length-append xs (e ∷ []))) ∙ ap (λ (s : State). status_at s (length (xs ++ e ∷ []))) (sym (state-snoc n h));
     sent = h.sent;
@@ -97,6 +101,7 @@ module _ (base : Base) (xs : List Entry) (e : Entry) (first : ℕ) (old new : St
       let said : AreAll new.number (own_numbers_in base.state.settings.me e.outs.items) = said-new n h in
       record {
         legal = legal-snoc base xs e n.legal (next-entered n h) room;
+        start = n.start;
         member = state-snoc n h;
         settings = h.steps.settings ∙ n.settings;
         granted = granted_from-append base.granted xs (e ∷ []) ∙ h.granted;
@@ -133,6 +138,7 @@ greatest-one (Some n) = refl
 pub node-rebased : (base : Base) (xs : List Entry) (first : ℕ) (s : State) (ceiling : ℕ) (top : Option ℕ) → IsNode base xs first s ceiling top → state_of s [] ≡ s → IsNode (record { state = s; granted = ceiling; past = top; limit = base.limit }) [] first s ceiling top
 node-rebased base xs first s ceiling top n reads = record {
   legal = record { each = tt {0}; within = omega arith };
+  start = subst IsStart (n.member ∙ sym reads) (start-after base xs n.legal n.start);
   member = reads;
   settings = refl;
   granted = refl;
@@ -142,5 +148,22 @@ node-rebased base xs first s ceiling top n reads = record {
   begun = at_least-append first (option_to_list top) [] (rw n.most at (greatest-at_least first None (owns base xs) (tt {0}) n.begun)) (tt {0});
   most = greatest-one top;
   texts = All-nil HasTexts;
+  short = n.short;
+}
+
+-- before the first entry the ceiling may be raised
+pub node-granted : (base : Base) (entries : List Entry) (first ceiling g : ℕ) (s : State) (top : Option ℕ) → IsNode base entries first s ceiling top → entries ≡ [] → ceiling ≤ g → IsNode (granted_base base g) entries first s g top
+node-granted base entries first ceiling g s top n none le = record {
+  legal = rw none (record { each = tt {0}; within = omega arith });
+  start = n.start;
+  member = n.member;
+  settings = n.settings;
+  granted = rw none refl;
+  low = omega (arith, n.low, le);
+  high = n.high;
+  covers = at_most-more ceiling g (owns base entries) le n.covers;
+  begun = n.begun;
+  most = n.most;
+  texts = n.texts;
   short = n.short;
 }

@@ -1,9 +1,11 @@
 pub mod Fault
 pub mod History
+pub mod Probing
 pub mod Link
 pub mod Saving
 pub mod Sending
 pub mod Owns
+pub mod Peers
 pub mod Node
 pub mod Lives
 pub mod Machinery

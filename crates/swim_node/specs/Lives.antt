@@ -7,7 +7,7 @@ use Rattle.swim_member.specs.declared.settings.Settings.{Settings}
 use Rattle.swim_node.specs.declared.entry.Entry.{Entry}
 use Rattle.swim_node.specs.History.{Base, IsLegal, granted_of, fresh_base}
 use Rattle.swim_node.specs.Owns.{owns, owns_in, AreAtMost, AreAtLeast}
-use Rattle.swim_node.specs.Node.{NodeView, owner_of, next_base}
+use Rattle.swim_node.specs.Node.{NodeView, granted_base, owner_of, next_base}
 
 -- an era that a rebase ended
 pub record Era : Type 0 where
@@ -26,11 +26,16 @@ pub record Life (D : Type 0) : Type 0 where
   pub entries : List Entry
   pub left : D
 
+-- a base that is this one, or has a greater ceiling: peers were saved before its first entry
+pub record IsRaised (start base : Base) : Type 0 where
+  pub same : base ≡ granted_base start base.granted
+  pub grows : start.granted ≤ base.granted
+
 -- from this base each era is legal, and each next one begins
 -- with the state after the one before, up to the last base
 abbrev pub AreJoined : Base → List Era → Base → Type 0
-AreJoined start [] base = base ≡ start
-AreJoined start (era ∷ eras) base = (era.base ≡ start)
+AreJoined start [] base = IsRaised start base
+AreJoined start (era ∷ eras) base = IsRaised start era.base
     × IsLegal era.base era.entries
     × AreJoined (next_base era.base era.entries) eras base
 

@@ -22,7 +22,9 @@ use Rattle.swim_node.specs.declared.fault.ApplyFault.TheVariants.{NoMemory, EraF
 use Rattle.swim_node.specs.declared.fault.OpenFault.{OpenFault}
 use Rattle.swim_node.specs.History.{Base, IsLegal, state_after, granted_of, calls_by, taken_in}
 use Rattle.swim_node.specs.History.{lost_in}
+use Rattle.swim_node.specs.Probing.{IsStart}
 use Rattle.swim_node.specs.Saving.{Grants, Fails, broken_after, ceiling_asked}
+use Rattle.swim_node.specs.Peers.{NamesPeers, known_peers}
 use Rattle.swim_node.specs.Sending.{HasTexts}
 use Rattle.swim_node.specs.Owns.{owns, greatest_of, AreAtMost, AreAtLeast}
 
@@ -33,6 +35,7 @@ pub record NodeView (D : Type 0) : Type 0 where
   pub disk : D
   pub owner : Owner
   pub first : ℕ  -- the number with which this life began
+  pub peers : List ℕ  -- those that were saved with the ceiling
   pub broken : Bool  -- whether the last save that was tried failed
 
 -- a base, as the definitions take it
@@ -47,6 +50,7 @@ owner_of settings = record { group = settings.group; me = settings.me }
 pub record IsNode (base : Base) (entries : List Entry) (first : ℕ) (s : State) (ceiling : ℕ)
     (top : Option ℕ) : Type 0 where
   pub legal : IsLegal base entries
+  pub start : IsStart (state_after base [])
   pub member : state_after base entries ≡ s
   pub settings : s.settings ≡ base.state.settings
   pub granted : granted_of base entries ≡ ceiling
@@ -130,6 +134,8 @@ pub record Added {D : Type 0} (keeps : Type 0) (state : D → DiskState) (old ne
       (wanted (state_after old.base old.entries) event))
       e.save old.broken (state old.disk) (state new.disk)
       (granted_of old.base old.entries) e.granted
+  pub names : NamesPeers keeps (known_peers (state_after old.base old.entries)) e.save old.broken
+      (state old.disk) (state new.disk) old.peers new.peers
   pub fails : Fails keeps e.save old.broken (state old.disk) (state new.disk)
   pub said : AreAll (state_after new.base new.entries).number
       (own_numbers_in new.base.state.settings.me e.outs.items)
@@ -145,3 +151,8 @@ next_base base entries = record {
   past = greatest_of (owns base entries);
   limit = base.limit;
 }
+
+-- this base with another ceiling
+abbrev pub granted_base : Base → ℕ → Base
+granted_base base granted =
+    record { state = base.state; granted = granted; past = base.past; limit = base.limit }

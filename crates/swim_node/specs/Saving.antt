@@ -1,6 +1,6 @@
 -- What a save does to a store.
-use Rattle.std.specs.Prelude.{◌≡◌, ◌≢◌, ◌⊎◌, ℕ, ◌+◌, ◌-◌, ◌≤◌, Bool, true, false, Option}
-use Rattle.std.specs.Prelude.{Some, None}
+use Rattle.std.specs.Prelude.{◌≡◌, ◌≢◌, ◌⊎◌, ℕ, ◌+◌, ◌-◌, ◌≤◌, Bool, true, false, List}
+use Rattle.std.specs.Prelude.{Option, Some, None}
 use Rattle.swim_disk.specs.Disk.{DiskState as DiskState, Rests}
 use Rattle.swim_state.specs.File.{floor}
 use Rattle.swim_state.specs.Store.{StoreView, reserved}
@@ -8,6 +8,7 @@ use Rattle.swim_state.specs.Held.{Held, HeldSince, Through, Covers}
 use Rattle.swim_node.specs.declared.entry.Save.{Save}
 use Rattle.swim_node.specs.declared.entry.Save.TheVariants.{Kept, Done, Failed}
 use Rattle.swim_node.specs.History.{Saves}
+use Rattle.swim_node.specs.Peers.{NamesPeers}
 use Rattle.swim_wire.specs.declared.update.TheConstants.{NUMBER_MAX}
 
 -- whether the state file is broken after a save
@@ -44,12 +45,14 @@ pub record Fails (keeps : Type 0) (save : Save) (broken : Bool) (old new : DiskS
       → (new.failures ≡ old.failures + 1) ⊎ ((broken ≡ true) × (new.failures ≡ old.failures))
   pub failed : keeps → save ≡ Failed → new.failures ≡ old.failures + 1
 
--- a save, its answer, and the store before and after it
+-- a save with these peers, its answer, and the store before and after it
 pub record Saved {D : Type 0} (keeps : Type 0) (state : D → DiskState) (block : ℕ)
-    (wanted : Option ℕ) (save : Save) (old new : StoreView D) : Type 0 where
+    (peers : List ℕ) (wanted : Option ℕ) (save : Save) (old new : StoreView D) : Type 0 where
   pub saves : Saves wanted old.ceiling save new.ceiling
   pub grants : Grants keeps (ceiling_asked block wanted) save old.broken
       (state old.disk) (state new.disk) old.ceiling new.ceiling
+  pub names : NamesPeers keeps peers save old.broken
+      (state old.disk) (state new.disk) old.peers new.peers
   pub fails : Fails keeps save old.broken (state old.disk) (state new.disk)
   pub broken : new.broken ≡ broken_after save old.broken
   pub grows : old.ceiling ≤ new.ceiling

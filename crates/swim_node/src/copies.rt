@@ -47,7 +47,7 @@ pub(crate) fn copy_event(event: &Event) -> Event
     ensures { result ≡ event.now }
 {
     match event {
-        Event::Tick { word } => Event::Tick { word: *word },
+        Event::Tick { deal } => Event::Tick { deal: *deal },
         Event::Datagram { from, bytes } => Event::Datagram {
             from: *from,
             bytes: copy_bytes(bytes),

@@ -2,7 +2,8 @@
 
 ghost use Rattle.std.specs.Prelude.{◌≡◌, ◌≤◌, All};
 ghost use Rattle.swim_wire.specs.Spelling.{HasText};
-ghost use Rattle.swim_member.specs.Judge.{wanted};
+ghost use Rattle.swim_member.specs.Judge.{wanted, HasDeal};
+ghost use Rattle.swim_node.specs.Peers.{known_peers};
 ghost use Rattle.swim_node.specs.Saving.{Saved};
 ghost use Rattle.swim_node.specs.Sending.{Sends};
 ghost use Rattle.swim_node.specs.Machinery.Entering.{Steps};
@@ -34,9 +35,10 @@ pub(crate) fn enter<D: Disk, L: Link>(
 ) -> Done
     requires low { member.old.number ≤ store.old.ceiling }
     ensures saved { Saved D.keeps_model D.state member.old.settings.block
-        (wanted member.old event.now) result.save store.old store.new }
+        (known_peers member.old) (wanted member.old event.now) result.save store.old store.new }
     ensures granted { result.granted ≡ store.new.ceiling }
     ensures steps { Steps member.old member.new event.now result.granted answer.new }
+    ensures deal { HasDeal event.now }
     ensures texts { All (λ out. HasText out.datagram) answer.new.outs.items }
     ensures name { L.name link.new ≡ L.name link.old }
     ensures sends { Sends L.tells (L.took link.old) (L.took link.new) (L.failures link.old)
@@ -44,7 +46,7 @@ pub(crate) fn enter<D: Disk, L: Link>(
 {
     answer.clear();
     let judged = member.judge(event);
-    let save = save(store, member.block(), judged.wanted());
+    let save = save(store, member, judged.wanted());
     let granted = store.ceiling();
     member.act(&judged, granted, answer);
     let outcomes = send_all(link, &answer.outs);

@@ -94,3 +94,6 @@ pub struct Entry {
     /// What the caller was told.
     pub reply: Reply,
 }
+
+// what an entry takes of a journal
+const _: () = prove!(size_of::<Entry>() == 9_416);

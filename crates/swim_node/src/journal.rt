@@ -48,8 +48,9 @@ impl Journal {
         }
     }
 
-    /// Takes a place for one more entry, if the one after the last was never filled. A full block grows to twice its room, by a `realloc`, which moves the pages
-    /// of a large block and copies none of its entries: an era of 65,536 has 589 MiB.
+    /// Takes a place for one more entry, if the one after the last was never filled. A full block grows to twice its
+    /// room, by a `realloc`, which moves the pages of a large block and copies none of its entries: an era of 65,536
+    /// has 589 MiB.
     pub(crate) fn reserve(&mut self) -> Result<(), AllocError>
         ensures entries { self.new.entries ≡ self.old.entries }
         ensures ok { OnOk result (length self.new.entries < self.new.room) }

@@ -1,8 +1,11 @@
-//! The law of lives. The function does nothing: its contract is the law.
+//! The law of lives, and that of turns. The functions do nothing: their contracts are the laws.
 
-ghost use Rattle.std.specs.Prelude.{List};
+ghost use Rattle.std.specs.Prelude.{List, []};
 ghost use Rattle.swim_state.specs.declared.owner.Owner.{Owner};
+ghost use Rattle.swim_node.specs.declared.entry.Entry.{Entry};
+ghost use Rattle.swim_node.specs.History.{Base, IsLegal, state_after};
 ghost use Rattle.swim_node.specs.Lives.{Life, AreLives, AreRising};
+ghost use Rattle.swim_node.specs.Probing.{ProbesInTurns, GoesInTurns, IsStart};
 
 use swim_disk::Disk;
 
@@ -12,4 +15,17 @@ pub fn own_numbers_rise<D: Disk>()
     ensures { (owner : Owner) → (lives : List (Life D))
         → AreLives D.state owner lives
         → AreRising lives }
+{}
+
+/// In each turn of probing that ended, a listed member that stayed eligible was probed exactly once, one that isn't
+/// listed not at all, and nobody twice. A turn that an earlier era began ends so too, and a list has all that are
+/// eligible when it is made: so a member that failed is probed after a bounded time (SWIM, section 4.3).
+pub fn listed_are_probed_once()
+    ensures turns { (base : Base) → (history : List Entry)
+        → IsLegal base history
+        → ProbesInTurns base history }
+    ensures era { (base : Base) → (history : List Entry)
+        → IsLegal base history
+        → IsStart (state_after base [])
+        → GoesInTurns base history }
 {}

@@ -1,12 +1,15 @@
 //! The node.
 
-ghost use Rattle.std.specs.Prelude.{◌≡◌, ◌≢◌, ◌+◌, ◌<◌, ◌≤◌, ◌++◌, ◌∷◌, [], List, length, IfErr, IfOk, OnOk, OnErr, All};
-ghost use Rattle.swim_state.specs.Held.{Held, HeldSince, Through, Covers};
+ghost use Rattle.std.specs.Prelude.{◌≡◌, ◌≢◌, ◌+◌, ◌<◌, ◌≤◌, ◌++◌, ◌∷◌, [], List, length, IfErr, IfOk, IsErrOf, OnOk, OnErr, All, false, true};
+ghost use Rattle.swim_disk.specs.Disk.{Rests};
+ghost use Rattle.swim_state.specs.Held.{Held, HeldSince, HasPeers, Through, Covers};
 ghost use Rattle.swim_node.specs.declared.opening.TheConstants.{LIMIT_MAX};
-ghost use Rattle.swim_node.specs.History.{calls_by, status_at, status_of, IsLegal, granted_of};
+ghost use Rattle.swim_node.specs.History.{calls_by, state_after, status_at, status_of, IsLegal, granted_of};
 ghost use Rattle.swim_node.specs.Owns.{owns, AreAtMost, AreAtLeast};
 ghost use Rattle.swim_node.specs.Lives.{EndsEra, GoesOn, MayEnd};
-ghost use Rattle.swim_node.specs.Node.{Added, IsTurn, Refused, base_of, next_base};
+ghost use Rattle.swim_node.specs.Node.{Added, IsTurn, Refused, base_of, granted_base, next_base};
+ghost use Rattle.swim_node.specs.Peers.{known_peers};
+ghost use Rattle.swim_node.specs.Probing.{GoesInTurns};
 ghost use Rattle.swim_node.specs.Sending.{Sends, HasTexts};
 ghost use Rattle.swim_member.specs.Events.{state_of};
 
@@ -15,12 +18,15 @@ use crate::copies::copy_reply;
 use crate::counts::greatest_own;
 use crate::entering::enter;
 use crate::journal::Journal;
+use crate::keeping::keep;
+use crate::peers::known_peers;
 use crate::{ApplyFault, Entry, Era, Link, Reply, Status, Tag};
 use std::marker::Model;
 use std::mem;
 use swim_disk::Disk;
 use swim_member::{Answer, Event, Member};
-use swim_state::Store;
+use swim_state::{Peers, SaveFault, Store};
+use swim_wire::NUMBER_MAX;
 
 /// A member with its state file and its journal.
 #[derive(Drop)]
@@ -47,6 +53,7 @@ impl<D: Disk> Model for Node<D> {
       disk = n.store.disk;
       owner = n.store.owner;
       first = n.first;
+      peers = n.store.peers;
       broken = n.store.broken;
     } };
 
@@ -175,7 +182,72 @@ impl<D: Disk> Node<D> {
         self.first
     }
 
-    /// Begins an era: what is now becomes the base, the journal is empty, and turns begin at 1 again.
+    /// The peers that stand in the state file with its ceiling. After a save that was done, or an opening, a crash
+    /// leaves just these.
+    pub fn peers(&self) -> Peers
+        ensures value { result ≡ self.now.peers }
+        ensures named { D.keeps_model → self.now.broken ≡ false
+            → HasPeers (D.state self.now.disk) result }
+    {
+        self.store.peers()
+    }
+
+    /// Saves the peers that the member knows now, the first eight that are Alive or Suspect, at the begin of an era.
+    /// It raises the ceiling by one to do so, and where a broken store finds that an earlier save was done after all,
+    /// with other peers, once more. The base gets the ceiling that stands.
+    ///
+    /// `Device` and `Changed` come as with any save. `Exhausted` comes where the ceiling is the greatest number, or
+    /// the floor is that a broken store reads with other peers: then nothing is written.
+    pub fn keep_peers(&mut self) -> Result<(), SaveFault>
+        requires empty { self.old.entries ≡ [] }
+        ensures entries { self.new.entries ≡ [] }
+        ensures owner { self.new.owner ≡ self.old.owner }
+        ensures first { self.new.first ≡ self.old.first }
+        ensures name { (D.state self.new.disk).name ≡ (D.state self.old.disk).name }
+
+        // The peers of the present state, and a greater ceiling. All else of the base stays.
+        ensures base { self.new.base ≡ granted_base self.old.base self.new.base.granted }
+        ensures grows { self.old.base.granted ≤ self.new.base.granted }
+        ensures ok { OnOk result (self.old.base.granted < self.new.base.granted
+            × self.new.peers ≡ known_peers (state_after self.old.base self.old.entries)
+            × self.new.broken ≡ false) }
+        ensures exact { OnOk result (self.old.broken ≡ false
+            → self.new.base.granted ≡ self.old.base.granted + 1) }
+
+        // One call of the disk failed if the answer is Device, and none if it is any other.
+        ensures device { IsErrOf result SaveFault.Device
+            → (D.state self.new.disk).failures ≡ (D.state self.old.disk).failures + 1 }
+        ensures calm { (IsErrOf result SaveFault.Device → ⊥)
+            → (D.state self.new.disk).failures ≡ (D.state self.old.disk).failures }
+        ensures reread { IsErrOf result SaveFault.Changed → self.old.broken ≡ true }
+        ensures full { IsErrOf result SaveFault.Exhausted
+            → self.new.base.granted ≡ NUMBER_MAX }
+        ensures exhausted { self.old.base.granted ≡ NUMBER_MAX
+            → IsErrOf result SaveFault.Exhausted }
+
+        // After Ok a crash leaves just these peers. No moment of the call leaves less than the ceiling before it, and
+        // the life goes on.
+        ensures named { D.keeps_model
+            → OnOk result (HasPeers (D.state self.new.disk) self.new.peers) }
+        ensures changed { D.keeps_model → IsErrOf result SaveFault.Changed → ⊥ }
+        ensures unwritten { D.keeps_model → IsErrOf result SaveFault.Exhausted
+            → Rests (D.state self.old.disk) (D.state self.new.disk) }
+        ensures living { GoesOn D.state self.old self.new }
+        ensures moments { D.keeps_model → Through (Covers self.old.owner self.old.base.granted)
+            (D.state self.old.disk) (D.state self.new.disk) }
+        ensures since { D.keeps_model → HeldSince self.old.owner (D.state self.new.disk)
+            (D.state self.old.disk).clock self.old.base.granted }
+        ensures covered { D.keeps_model
+            → Held self.new.owner (D.state self.new.disk) self.new.base.granted }
+    {
+        let peers = known_peers(&self.member);
+        let kept = keep(&mut self.store, &peers);
+        self.base.granted = self.store.ceiling();
+        kept
+    }
+
+    /// Begins an era: what is now becomes the base, the journal is empty, and the callers' turns begin at 1 again. The
+    /// turn of probing goes on: the base has its list. In the era that ends the member has probed in turns.
     pub fn rebase(&mut self)
         ensures base { self.new.base ≡ next_base self.old.base self.old.entries }
         ensures settings { self.new.base.state.settings ≡ self.old.base.state.settings }
@@ -183,8 +255,10 @@ impl<D: Disk> Node<D> {
         ensures disk { self.new.disk ≡ self.old.disk }
         ensures owner { self.new.owner ≡ self.old.owner }
         ensures first { self.new.first ≡ self.old.first }
+        ensures peers { self.new.peers ≡ self.old.peers }
         ensures broken { self.new.broken ≡ self.old.broken }
         ensures living { EndsEra D.state self.old self.new }
+        ensures turns { GoesInTurns self.old.base self.old.entries }
     {
         self.base = base_at(
             &self.member,
@@ -206,8 +280,10 @@ impl<D: Disk> Node<D> {
         ensures disk { self.new.disk ≡ self.old.disk }
         ensures owner { self.new.owner ≡ self.old.owner }
         ensures first { self.new.first ≡ self.old.first }
+        ensures peers { self.new.peers ≡ self.old.peers }
         ensures broken { self.new.broken ≡ self.old.broken }
         ensures living { EndsEra D.state self.old self.new }
+        ensures turns { GoesInTurns self.old.base self.old.entries }
     {
         let base = base_at(
             &self.member,

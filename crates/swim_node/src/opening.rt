@@ -3,7 +3,7 @@
 ghost use Rattle.std.specs.Prelude.{◌≡◌, ◌≢◌, ◌↔◌, ◌⊎◌, ◌+◌, ◌<◌, ◌≤◌, ◌^◌, [], false, None, Some, ℕ, IfOk, IfErr};
 ghost use Rattle.swim_disk.specs.Disk.{Rests};
 ghost use Rattle.swim_member.specs.Checks.{AreSound};
-ghost use Rattle.swim_state.specs.File.{floor};
+ghost use Rattle.swim_state.specs.File.{floor, floor_peers};
 ghost use Rattle.swim_state.specs.Held.{Held, HeldSince, Through, Covers};
 ghost use Rattle.swim_state.specs.Recovery.{fault_of};
 ghost use Rattle.swim_state.specs.declared.fault.RecoverFault.{RecoverFault as Faults};
@@ -41,6 +41,8 @@ impl<D: Disk> Node<D> {
             → IfOk result (λ n. n.first ≡ floor (D.state disk).content + 1) }
         ensures bounds { IfOk result (λ n. (1 ≤ n.first) × (n.first ≤ NUMBER_MAX)) }
         ensures owner { IfOk result (λ n. n.owner ≡ owner_of settings) }
+        ensures kept { D.keeps_model
+            → IfOk result (λ n. n.peers ≡ floor_peers (D.state disk).content) }
         ensures whole { IfOk result (λ n. n.broken ≡ false) }
         ensures limit { IfOk result (λ n. (1 ≤ limit) × (limit ≤ LIMIT_MAX)) }
         ensures range { IfErr result (λ refused.

@@ -1,13 +1,13 @@
 //! Rows of a node on one thread, as calls. The expected values follow from the rules of saves, turns and eras.
 
-use crate::{ApplyFault, MemoryLink, Node, OpenFault, Save, Tag, run};
+use crate::{ApplyFault, MemoryLink, Node, OpenFault, Save, Tag, listed_are_probed_once, run};
 use arrayvec::ArrayVec;
 use std::alloc::Global;
 use std::process::Abort;
 use swim_disk::{FaultDisk, MemDisk, Plan};
-use swim_member::{Event, Settings};
+use swim_member::{Deal, Event, Settings};
 use swim_state::{Owner, RecoverFault, init};
-use swim_wire::{Cursor, Datagram, Endpoint, Kind, Update, UpdateKind, encode};
+use swim_wire::{Cursor, Datagram, Endpoint, Kind, NUMBER_MAX, Rules, Update, UpdateKind, encode};
 
 type Device = FaultDisk<MemDisk>;
 
@@ -29,6 +29,7 @@ fn settings(rt: &impl Abort, group: u64) -> Settings {
         forget: 40,
         helpers: 3,
         block: 1,
+        rules: 1,
     }
 }
 
@@ -45,15 +46,19 @@ fn made(rt: &impl Abort, alloc: Global) -> (Device, Plan) {
     (disk, plan)
 }
 
-/// A node on such a disk, with number 1.
-fn opened(rt: &impl Abort, alloc: Global, limit: u32) -> (Node<Device>, Plan) {
-    let (disk, plan) = made(rt, alloc);
+/// A node of 10.0.0.1:7000 in group 7 on this disk.
+fn open_on(rt: &impl Abort, alloc: Global, disk: Device, limit: u32) -> Node<Device> {
     let settings = settings(rt, 7);
     settings.check().ok().expect(rt, "sound settings");
-    let node = Node::open(alloc, disk, settings, limit)
+    Node::open(alloc, disk, settings, limit)
         .ok()
-        .expect(rt, "an opening");
-    (node, plan)
+        .expect(rt, "an opening")
+}
+
+/// A node on a new disk, with number 1.
+fn opened(rt: &impl Abort, alloc: Global, limit: u32) -> (Node<Device>, Plan) {
+    let (disk, plan) = made(rt, alloc);
+    (open_on(rt, alloc, disk, limit), plan)
 }
 
 /// A ping from 10.0.0.2:7000 that carries these updates.
@@ -62,6 +67,7 @@ fn ping(rt: &impl Abort, seq: u32, updates: &[Update]) -> Event {
     let mut carried = ArrayVec::new();
     assert!(rt; carried.try_extend_from_slice(updates).is_ok());
     let datagram = Datagram {
+        version: Rules::One,
         kind: Kind::Ping,
         group: 7,
         seq,
@@ -197,5 +203,93 @@ fn refutations_on_a_broken_store(rt: HostRuntime) {
             .expect(&rt, "an entry");
         let entry = node.journal().last().expect(&rt, "an entry");
         assert_eq!(rt; (entry.save, entry.granted, reply.status.number), want);
+    }
+}
+
+/// That 10.0.0.LAST:7000 is alive with this number.
+fn alive(rt: &impl Abort, last: u32, number: u64) -> Update {
+    assert!(rt; number <= NUMBER_MAX);
+    Update {
+        kind: UpdateKind::Alive,
+        who: endpoint(rt, last),
+        number,
+    }
+}
+
+/// Whom the member knows is kept at the end of an era, and the next life finds it.
+#[test]
+fn peers_that_are_kept(rt: HostRuntime) {
+    let (mut node, _) = opened(&rt, rt.alloc(), 2);
+    let mut link = MemoryLink::new(rt.alloc(), 1);
+    let heard = ping(&rt, 1, &[alive(&rt, 3, 1), alive(&rt, 2, 1)]);
+    assert!(rt;
+        node.apply(&mut link, Tag { caller: 0, turn: 1 }, heard)
+            .is_ok()
+    );
+    assert!(rt; node.peers().as_slice().is_empty());
+    node.rebase();
+    assert_eq!(rt; node.keep_peers(), Ok(()));
+    let known = [endpoint(&rt, 2), endpoint(&rt, 3)];
+    assert_eq!(rt; node.peers().as_slice(), known.as_slice());
+    let node = open_on(&rt, rt.alloc(), node.into_disk(), 2);
+    assert_eq!(rt;
+        (node.first(), node.peers().as_slice()),
+        (3, known.as_slice())
+    );
+}
+
+/// A save with no peers fails at its last sync, once 2 stands in the file. So keeping the peers finds that 2, without
+/// them, and takes a number more.
+#[test]
+fn peers_that_are_kept_by_a_broken_store(rt: HostRuntime) {
+    let (mut node, plan) = opened(&rt, rt.alloc(), 2);
+    let mut link = MemoryLink::new(rt.alloc(), 1);
+    let suspect = Update {
+        kind: UpdateKind::Suspect,
+        who: endpoint(&rt, 1),
+        number: 1,
+    };
+    plan.fail_sync(3);
+    let heard = ping(&rt, 1, &[suspect, alive(&rt, 2, 1)]);
+    assert!(rt;
+        node.apply(&mut link, Tag { caller: 0, turn: 1 }, heard)
+            .is_ok()
+    );
+    node.rebase();
+    assert_eq!(rt; node.keep_peers(), Ok(()));
+    assert_eq!(rt; node.peers().as_slice(), [endpoint(&rt, 2)].as_slice());
+    let node = open_on(&rt, rt.alloc(), node.into_disk(), 2);
+    assert_eq!(rt; node.first(), 4);
+}
+
+/// A period of ticks, from this turn of a caller on.
+fn tick_a_period(rt: &impl Abort, node: &mut Node<Device>, link: &mut MemoryLink, first: u32) {
+    assert!(rt; first < 3);
+    for turn in first..first + 10 {
+        let tick = Event::Tick {
+            deal: Deal::from_first(0),
+        };
+        assert!(rt; node.apply(link, Tag { caller: 0, turn }, tick).is_ok());
+    }
+}
+
+/// A turn of probing goes on over the end of an era: 10.0.0.2 is probed before it and 10.0.0.3 after it. To each of them
+/// goes one more datagram, the first ping's ack and a ping-req about 10.0.0.2.
+#[test]
+fn a_turn_of_probing_over_two_eras(rt: HostRuntime) {
+    let (mut node, _) = opened(&rt, rt.alloc(), 11);
+    let mut link = MemoryLink::new(rt.alloc(), 1);
+    let heard = ping(&rt, 1, &[alive(&rt, 2, 1), alive(&rt, 3, 1)]);
+    assert!(rt;
+        node.apply(&mut link, Tag { caller: 0, turn: 1 }, heard)
+            .is_ok()
+    );
+    tick_a_period(&rt, &mut node, &mut link, 2);
+    node.rebase();
+    listed_are_probed_once();
+    tick_a_period(&rt, &mut node, &mut link, 1);
+    assert_eq!(rt; link.taken().len(), 4);
+    for (taken, last) in link.taken().iter().zip([2, 2, 3, 3]) {
+        assert_eq!(rt; taken.to, endpoint(&rt, last));
     }
 }

@@ -7,6 +7,7 @@ use Rattle.swim_node.specs.declared.entry.Entry.{Entry}
 use Rattle.swim_node.specs.History.{state_after, granted_of}
 use Rattle.swim_node.specs.Lives.{GoesOn}
 use Rattle.swim_node.specs.Node.{base_of, entry_with}
+use Rattle.swim_node.specs.Peers.{NamesPeers, known_peers}
 use Rattle.swim_node.specs.Saving.{Fails, Grants, broken_after, ceiling_asked}
 use denote.Param.{param}
 use Rattle.swim_node.specs.contracts.node.Node.{the_view}
@@ -45,6 +46,7 @@ module _ (g : Over) (c : goal.After-copy_reply g) where
     sent = refl;
     lost = refl;
     turn = rw (← same_entries) c.in_ok-judge.ensures.ok.0;
+    deal = c.enter-done.ensures.deal;
     texts = c.enter-done.ensures.texts;
   }
 
@@ -57,6 +59,12 @@ module _ (g : Over) (c : goal.After-copy_reply g) where
       subst (λ v. Grants g.D.Disk.keeps_model (ceiling_asked v.base.state.settings.block (wanted (state_after v.base v.entries) c.args.event)) c.enter-done.result.save v.broken (g.D.Disk.state v.disk) (g.D.Disk.state c.enter-done.new.store.disk) (granted_of v.base v.entries) c.enter-done.result.granted) c.self.view_is
       (subst (λ (s : State). Grants g.D.Disk.keeps_model (ceiling_asked (base_of c.self.inside.base).state.settings.block (wanted s c.args.event)) c.enter-done.result.save c.self.inside.store.broken (g.D.Disk.state c.self.inside.store.disk) (g.D.Disk.state c.enter-done.new.store.disk) (granted_of (base_of c.self.inside.base) c.self.inside.journal.entries) c.enter-done.result.granted) (sym c.self.invariant.0.member)
       (rw (← c.self.invariant.0.settings, c.self.invariant.0.granted, c.enter-done.ensures.granted) c.enter-done.ensures.saved.grants))
+
+  -- and which peers it kept
+  names : NamesPeers g.D.Disk.keeps_model (known_peers (state_after c.args.self.now.base c.args.self.now.entries)) c.enter-done.result.save c.args.self.now.broken (g.D.Disk.state c.args.self.now.disk) (g.D.Disk.state c.enter-done.new.store.disk) c.args.self.now.peers c.enter-done.new.store.peers
+  names =
+      subst (λ v. NamesPeers g.D.Disk.keeps_model (known_peers (state_after v.base v.entries)) c.enter-done.result.save v.broken (g.D.Disk.state v.disk) (g.D.Disk.state c.enter-done.new.store.disk) v.peers c.enter-done.new.store.peers) c.self.view_is
+      (subst (λ (s : State). NamesPeers g.D.Disk.keeps_model (known_peers s) c.enter-done.result.save c.self.inside.store.broken (g.D.Disk.state c.self.inside.store.disk) (g.D.Disk.state c.enter-done.new.store.disk) c.self.inside.store.peers c.enter-done.new.store.peers) (sym c.self.invariant.0.member) c.enter-done.ensures.saved.names)
 
 pub returns-clause-grows : goal.returns-clause-grows
 returns-clause-grows g c =
@@ -109,6 +117,7 @@ returns-clause-ok g c =
         kept = λ kept. c.enter-done.ensures.saved.kept kept ∙ disk;
         broken = c.enter-done.ensures.saved.broken ∙ ap (λ v. broken_after c.enter-done.result.save v.broken) c.self.view_is;
         grants = grants g c;
+        names = names g c;
         fails = subst (λ v. Fails g.D.Disk.keeps_model c.enter-done.result.save v.broken (g.D.Disk.state v.disk) (g.D.Disk.state c.enter-done.new.store.disk)) c.self.view_is c.enter-done.ensures.saved.fails;
         said = subst (λ (s : State). AreAll s.number (own_numbers_in base.state.settings.me c.enter-done.new.answer.outs.items)) (sym stands)
             (said-new base c.self.inside.journal.entries (entry g c) c.self.inside.first c.self.inside.member c.enter-done.new.member c.self.inside.store.ceiling c.enter-done.new.store.ceiling c.self.inside.most c.self.invariant.0 (enters g c));

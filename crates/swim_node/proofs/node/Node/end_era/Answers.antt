@@ -2,6 +2,8 @@ use Rattle.std.proofs.Common.{◌≡◌, subst, refl}
 use Rattle.swim_node.proofs.Living.{ends_era}
 use Rattle.swim_node.proofs.Nodes.{node-rebased}
 use Rattle.swim_node.specs.Lives.{EndsEra}
+use Rattle.swim_node.specs.Probing.{GoesInTurns}
+use Rattle.swim_node.proofs.Probing.{goes-in_turns}
 use Rattle.swim_node.specs.Node.{base_of, next_base}
 use denote.Param.{param}
 use Rattle.swim_node.specs.contracts.node.Node.{the_view}
@@ -22,3 +24,7 @@ returns-clause-living g c =
     let new = record c.self.inside { base = c.replace.new.dest; journal = c.take.new.self } in
     subst (λ v. EndsEra g.D.Disk.state v (the_view (param 0 g.row.D) g.D.Disk new)) c.self.view_is
     (ends_era g.D.Disk.state (the_view (param 0 g.row.D) g.D.Disk c.self.inside) (the_view (param 0 g.row.D) g.D.Disk new) base refl refl n.legal n.begun)
+
+pub returns-clause-turns : goal.returns-clause-turns
+returns-clause-turns g c =
+    subst (λ v. GoesInTurns v.base v.entries) c.self.view_is (goes-in_turns (base_of c.self.inside.base) c.self.inside.journal.entries c.self.invariant.0.legal c.self.invariant.0.start)
