@@ -110,9 +110,9 @@ def encode(datagram):
     return head + six_bytes(datagram.sender) + six_bytes(datagram.subject) + b"".join(updates)
 
 
-def decode(data):
+def decode(data, rules=1):
     mark, version, kind, count, zero, group, sequence = struct.unpack(">4sBBBBQI", data[:20])
-    expect((mark, version, zero, len(data)), (b"SWIM", 1, 0, 32 + 16 * count), "the head of a datagram")
+    expect((mark, version, zero, len(data)), (b"SWIM", rules, 0, 32 + 16 * count), "the head of a datagram")
     updates = []
     for at in range(32, len(data), 16):
         update_kind, zero, who, number = struct.unpack(">BB6sQ", data[at : at + 16])

@@ -28,15 +28,18 @@ ANSWERS = {  # what a line that is no event may print, in one line
     "crash": "crashed|no disk",
     "slots": rf"slots a {SLOT} b {SLOT}|no disk",
     "rebase": "rebase ok|no member",
+    "keep": rf"keep (ok|{REFUSAL})|no member",
+    "peers": rf"peers( {ADDRESS})+|peers none|no member",
     "disk": "|open already|no disk",
 }
 
 
 class Step(NamedTuple):
-    """A line of a script, and what it printed."""
+    """A line of a script, what it printed, and the rules of the life that it met."""
 
     command: str
     printed: tuple
+    rules: int
 
     @property
     def word(self):
@@ -74,11 +77,15 @@ def steps_of(script, transcript):
     """The lines of a script, each with what it printed. Wrong where a line cannot have printed that."""
     left = transcript.split("\n")
     expect_true(left.pop() == "", "a transcript's last line has its end")
-    steps = []
+    steps, rules, rules_to_come = [], 1, 1
     for command in commands_of(script):
         word = command.split(" ")[0]
+        if command.startswith("set rules "):
+            rules_to_come = int(command.removeprefix("set rules "))
+        elif word in ("start", "open"):
+            rules = rules_to_come
         count = lines_of_event(left) if word in EVENTS else lines_of_answer(word, left)
-        steps.append(Step(command, tuple(left[:count])))
+        steps.append(Step(command, tuple(left[:count]), rules))
         del left[:count]
     expect_true(not left, f"lines that no line of the script prints: {left[:3]}")
     return steps
@@ -120,7 +127,7 @@ def first_number(step):
 def sends_of(step):
     """The datagrams that a step sent, each with what became of it."""
     parts = (PART.fullmatch(line) for line in step.printed[1:])
-    return [(found[1], decode(bytes.fromhex(found[2]))) for found in parts if found and found[1]]
+    return [(found[1], decode(bytes.fromhex(found[2]), step.rules)) for found in parts if found and found[1]]
 
 
 def own_numbers(step):

@@ -1,5 +1,5 @@
-//! A member of a group, as a program: `swim init` makes its state file, `swim run` runs it, `swim ctl` asks it, and
-//! `swim play` plays a script over a member in memory.
+//! A member of a group, as a program: `swim init` makes its state file, `swim run` runs it, `swim ctl`,
+//! `swim members` and `swim watch` ask it, and `swim play` plays a script over a member in memory.
 #![tactic(auto)]
 
 use clap::Error;
@@ -12,7 +12,9 @@ use std::sync::Wait;
 use std::thread::Threads;
 use std::time::Clock;
 use swim_play::play;
-use swim_run::{Ending, Stamped, Subcommand, ask, level, make, read_words, run};
+use swim_run::{
+    Ending, Stamped, Subcommand, ask, level, make, read_words, run, show_members, watch_members,
+};
 use swim_script::ScriptFault;
 
 /// The exit status where the words are refused.
@@ -75,6 +77,14 @@ fn answer<T: Threads + Wait + Log + Clock + Sync>(
             Ok(ExitCode::SUCCESS)
         }
         Subcommand::Ctl { to, line } => ask_member(rt, to, line),
+        Subcommand::Members { to, as_json } => {
+            show_members(rt, to, as_json)?;
+            Ok(ExitCode::SUCCESS)
+        }
+        Subcommand::Watch { to, as_json, every } => {
+            watch_members(rt, logged, to, as_json, every)?;
+            Ok(ExitCode::SUCCESS)
+        }
         Subcommand::Play => play_input(rt),
     }
 }

@@ -15,6 +15,7 @@ use Rattle.swim_member.specs.Checks.{fault_of}
 use Rattle.swim_member.specs.declared.event.Event.{Event}
 use Rattle.swim_member.specs.declared.settings.SettingsFault.{SettingsFault}
 use Rattle.swim_node.specs.Lives.{Life}
+use Rattle.swim_node.specs.declared.entry.Entry.{Entry}
 use Rattle.swim_node.specs.declared.fault.ApplyFault.{ApplyFault}
 use Rattle.swim_node.specs.declared.fault.ApplyFault.TheVariants.{EraFull, OutOfTurn}
 use Rattle.swim_node.specs.declared.fault.ApplyFault.TheVariants as apply
@@ -22,15 +23,15 @@ use Rattle.swim_node.specs.declared.fault.OpenFault.{OpenFault}
 use Rattle.swim_node.specs.declared.fault.OpenFault.TheVariants.{NoMemory}
 use Rattle.swim_node.specs.declared.fault.OpenFault.TheVariants as node
 use Rattle.swim_node.specs.Node.{owner_of}
-use Rattle.swim_script.specs.declared.command.Command.TheVariants.{Init, Start, Crash, Overwrite}
+use Rattle.swim_script.specs.declared.command.Command.TheVariants.{Init, Start, Crash, Overwrite, KeepPeers}
 use Rattle.swim_script.specs.declared.patch.Patch.{Patch}
 use Rattle.swim_script.specs.declared.first.FirstNumber.{FirstNumber}
 use Rattle.swim_play.specs.declared.session.Opening.{Opening}
 use Rattle.swim_play.specs.declared.session.Opening.TheVariants.{Begun, Refused}
 use Rattle.swim_play.specs.declared.session.Refusal.TheVariants as refusal
 use Rattle.swim_play.specs.Life.{PlayDisk, disk_state, Adds, IsDeclined}
-use Rattle.swim_play.specs.Play.{Playing, ScriptedLife, Becomes, IfClosed, IfDisk, IsMade, with_disk, IsCrashed, IsOpening, IsRefused, ComesAfterLives, Opens, Starts, CanOpen, with_life, with_life_ended, ended_with, asked_of, event_of, Does}
-use Rattle.swim_play.specs.Machinery.Session.{IsAnswered}
+use Rattle.swim_play.specs.Play.{Playing, ScriptedLife, Becomes, IfClosed, IfOpen, IfDisk, IsMade, with_disk, IsCrashed, IsOpening, IsRefused, ComesAfterLives, Opens, Starts, CanOpen, with_life, with_life_ended, ended_with, asked_of, event_of, with_left, with_new_era, WritesState, Does}
+use Rattle.swim_play.specs.Machinery.Session.{IsAnswered, events_in}
 
 some-of : {A : Type 0} (o : Option A) → is_some o ≡ true → (x : A) × (o ≡ Some x)
 some-of None h = absurd (cc)
@@ -144,3 +145,28 @@ answered-is p old new event answer at living added declined same =
     by-answer (Err EraFull) added declined same = (length-map old.entries event_of ∙ declined, rw same (ap (λ (o : Option PlayDisk). record p { disk = o; life = Some (asked_of old) }) (sym at) ∙ ap (λ (o : Option ScriptedLife). record p { life = o }) (sym living)))
     by-answer (Err apply.NoMemory) added declined same = rw same (ap (λ (o : Option PlayDisk). record p { disk = o; life = Some (asked_of old) }) (sym at) ∙ ap (λ (o : Option ScriptedLife). record p { life = o }) (sym living))
     by-answer (Err OutOfTurn) added declined same = declined
+
+-- ---- peers that are kept
+
+-- a new era is one of the open life, and has no events
+pub era-open : (o : Option ScriptedLife) → is_some o ≡ true → is_some (with_new_era o) ≡ true
+era-open None h = absurd (cc)
+era-open (Some life) h = refl
+
+pub era-empty : (o : Option ScriptedLife) → events_in (with_new_era o) ≡ []
+era-empty None = refl
+era-empty (Some life) = refl
+
+pub no-events : (entries : List Entry) → map event_of entries ≡ [] → entries ≡ []
+no-events [] h = refl
+no-events (e ∷ entries) h = absurd (cc)
+
+-- what the open life wrote, as what plays sees it
+pub written-is : (p : Playing) (old new : Life PlayDisk) → p.life ≡ Some (asked_of old) → asked_of new ≡ record (asked_of old) { left = new.left } → WritesState p (record p { disk = Some new.left; life = Some (asked_of new) })
+written-is p old new living kept =
+    (new.left, ap (λ (l : ScriptedLife). record p { disk = Some new.left; life = Some l }) kept ∙ ap (λ (o : Option ScriptedLife). record p { disk = Some new.left; life = with_left new.left o }) (sym living))
+
+pub keep-does : (p m q : Playing) → is_some p.life ≡ true → m ≡ record p { life = with_new_era p.life } → WritesState m q → Does p KeepPeers q
+keep-does p m q opened era writes =
+    subst (λ (o : Option ScriptedLife). IfOpen o p q (WritesState (record p { life = with_new_era p.life }) q)) (sym (some-of p.life opened).1)
+    (subst (λ (r : Playing). WritesState r q) era writes)

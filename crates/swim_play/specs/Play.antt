@@ -27,6 +27,7 @@ use Rattle.swim_script.specs.declared.command.Command.{Command}
 use Rattle.swim_script.specs.declared.command.Command.TheVariants.{Group, Me, Set, Start, Init}
 use Rattle.swim_script.specs.declared.command.Command.TheVariants.{Open, Happen, Plan, Kill, Crash}
 use Rattle.swim_script.specs.declared.command.Command.TheVariants.{Overwrite, Slots, Rebase}
+use Rattle.swim_script.specs.declared.command.Command.TheVariants.{KeepPeers, Peers}
 use Rattle.swim_script.specs.declared.command.Failure.{Failure}
 use Rattle.swim_script.specs.declared.command.Failure.TheVariants as failure
 use Rattle.swim_script.specs.declared.command.Setting.{Setting}
@@ -77,6 +78,7 @@ first_setup = record {
     forget = 40;
     helpers = 2;
     block = 1;
+    rules = 1;
   };
   limit = 4096;
 }
@@ -91,6 +93,7 @@ with_setting s setting.Forget n = record s { settings = record s.settings { forg
 with_setting s setting.Helpers n = record s { settings = record s.settings { helpers = n } }
 with_setting s setting.Limit n = record s { limit = n }
 with_setting s setting.Block n = record s { settings = record s.settings { block = n } }
+with_setting s setting.Rules n = record s { settings = record s.settings { rules = n } }
 
 -- another group or another member is named
 abbrev pub with_settings : Settings → Playing → Playing
@@ -246,6 +249,16 @@ abbrev pub with_new_era : Option ScriptedLife → Option ScriptedLife
 with_new_era None = None
 with_new_era (Some life) = Some (record life { eras = life.eras ++ life.events ∷ []; events = [] })
 
+-- the disk of the open life is another one
+abbrev pub with_left : PlayDisk → Option ScriptedLife → Option ScriptedLife
+with_left disk None = None
+with_left disk (Some life) = Some (record life { left = disk })
+
+-- the open member writes its state file: its disk may have become another one
+abbrev pub WritesState : Playing → Playing → Type 0
+WritesState p q = (disk : PlayDisk)
+    × (q ≡ record p { disk = Some disk; life = with_left disk p.life })
+
 -- the open life, if there is one, has ended; its disk stays
 abbrev pub ended_with : Option ScriptedLife → Playing → Playing
 ended_with None p = p
@@ -261,6 +274,11 @@ with_life_ended p = ended_with p.life p
 abbrev pub IfClosed : Option ScriptedLife → Playing → Playing → Type 0 → Type 0
 IfClosed None p q done = done
 IfClosed (Some life) p q done = q ≡ p
+
+-- without an open member nothing happens
+abbrev pub IfOpen : Option ScriptedLife → Playing → Playing → Type 0 → Type 0
+IfOpen None p q done = q ≡ p
+IfOpen (Some life) p q done = done
 
 -- without a disk nothing happens
 abbrev pub IfDisk : Option PlayDisk → Playing → Playing → (PlayDisk → Type 0) → Type 0
@@ -289,6 +307,9 @@ Does p (Overwrite patch) q =
     (record p { apart = true }) q))
 Does p Slots q = q ≡ p
 Does p Rebase q = q ≡ record p { life = with_new_era p.life }
+Does p KeepPeers q =
+    IfOpen p.life p q (WritesState (record p { life = with_new_era p.life }) q)
+Does p Peers q = q ≡ p
 
 -- ---- the link
 

@@ -3,13 +3,15 @@
 ghost use Rattle.std.specs.Prelude.{◌≡◌, ◌≢◌, ◌⊎◌, ◌+◌, ◌≤◌, ◌++◌, ◌∷◌, [], None, ℕ, List, IfOk, IfErr, OnOk, OnErr, IfSome, length};
 ghost use Rattle.swim_member.specs.Checks.{AreSound};
 ghost use Rattle.swim_state.specs.File.{floor};
-ghost use Rattle.swim_state.specs.Held.{Held};
+ghost use Rattle.swim_state.specs.Held.{Held, HasPeers};
 ghost use Rattle.swim_state.specs.Recovery.{fault_of};
 ghost use Rattle.swim_state.specs.declared.fault.RecoverFault.{RecoverFault as Recoveries};
 ghost use Rattle.swim_state.specs.declared.fault.RecoverFault.TheVariants.{Device, Exhausted};
 ghost use Rattle.swim_node.specs.declared.opening.TheConstants.{LIMIT_MAX};
 ghost use Rattle.swim_node.specs.Lives.{IsLived};
-ghost use Rattle.swim_node.specs.Node.{owner_of, next_base};
+ghost use Rattle.swim_node.specs.History.{state_after};
+ghost use Rattle.swim_node.specs.Node.{granted_base, owner_of, next_base};
+ghost use Rattle.swim_node.specs.Peers.{known_peers};
 ghost use Rattle.swim_node.specs.Sending.{HasTexts};
 ghost use Rattle.swim_node.specs.declared.entry.Entry.{Entry as Entries};
 ghost use Rattle.swim_node.specs.declared.fault.OpenFault.TheVariants as faults;
@@ -24,6 +26,7 @@ use std::snapshot::Snapshot;
 use swim_disk::{FaultDisk, MemDisk};
 use swim_member::Event;
 use swim_node::{ApplyFault, Entry, Era, MemoryLink, Node, OpenFault, Tag};
+use swim_state::{Peers, SaveFault};
 
 /// The disk of a script.
 pub type PlayDisk = FaultDisk<MemDisk>;
@@ -199,6 +202,24 @@ impl OpenLife {
         self.eras.reserve(1)?;
         self.eras.push_reserved(self.node.end_era());
         Ok(())
+    }
+
+    /// Saves whom the member knows, at the begin of an era. After Ok a crash leaves just these.
+    pub(crate) fn keep_peers(&mut self) -> Result<(), SaveFault>
+        requires empty { self.old.entries ≡ [] }
+        ensures kept { self.new ≡ record self.old {
+          base = granted_base self.old.base self.new.base.granted;
+          left = self.new.left;
+        } }
+        ensures named { OnOk result (HasPeers (disk_state self.new.left)
+            (known_peers (state_after self.old.base self.old.entries))) }
+    {
+        self.node.keep_peers()
+    }
+
+    /// Whom the state file keeps.
+    pub(crate) fn peers(&self) -> Peers {
+        self.node.peers()
     }
 
     /// Ends it: the member is dropped, and its disk stays as it is.

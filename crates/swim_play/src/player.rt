@@ -8,7 +8,7 @@ ghost use Rattle.swim_play.specs.Play.{ArePlayed, Shows, IsMade, IsRun, IsRising
 
 use crate::life::PlayDisk;
 use crate::session::{Run, Session};
-use crate::transcript::{write_entry, write_opening, write_slots};
+use crate::transcript::{write_entry, write_opening, write_peers, write_slots};
 use std::alloc::{AllocError, Global};
 use std::fmt::Write;
 use std::marker::Model;
@@ -232,6 +232,20 @@ impl Player {
         writeln!(self.text, "rebase ok")
     }
 
+    /// Begins an era, and saves whom the member knows.
+    fn keep_peers(&mut self) -> Result<(), AllocError>
+        ensures { OnOk result (Shows self.old Command.KeepPeers self.new) }
+    {
+        if !self.session.is_open() {
+            return writeln!(self.text, "no member");
+        }
+        self.session.rebase()?;
+        match self.session.keep_peers() {
+            Ok(()) => writeln!(self.text, "keep ok"),
+            Err(fault) => writeln!(self.text, "keep refused {fault}"),
+        }
+    }
+
     /// Does what a line says.
     fn execute(&mut self, command: Command) -> Result<(), AllocError>
         ensures { OnOk result (Shows self.old command self.new) }
@@ -253,6 +267,8 @@ impl Player {
             Command::Overwrite(patch) => self.overwrite(patch)?,
             Command::Slots => write_slots(&mut self.text, self.session.image())?,
             Command::Rebase => self.rebase()?,
+            Command::KeepPeers => self.keep_peers()?,
+            Command::Peers => write_peers(&mut self.text, self.session.peers())?,
         }
         Ok(())
     }

@@ -7,7 +7,7 @@ ghost use Rattle.swim_node.specs.Node.{owner_of};
 ghost use Rattle.swim_node.specs.Sending.{HasTexts};
 ghost use Rattle.swim_member.specs.declared.event.Event.{Event as Events};
 ghost use Rattle.swim_play.specs.Life.{PlayDisk as PlayDisks, disk_state, AreOnOneDisk};
-ghost use Rattle.swim_play.specs.Play.{Becomes, IfDisk, IsCrashed, IsOpening, IsRefused, IsRun, IsRising, all_of, and_run, asked_of, first_scene, with_life_ended, with_disk, with_settings, with_new_era, run_of, with_setting};
+ghost use Rattle.swim_play.specs.Play.{Becomes, IfDisk, IsCrashed, IsOpening, IsRefused, IsRun, IsRising, WritesState, all_of, and_run, asked_of, first_scene, with_life_ended, with_disk, with_settings, with_new_era, run_of, with_setting};
 ghost use Rattle.swim_play.specs.Machinery.Session.{IsAnswered, events_in};
 
 use crate::life::{Life, OpenLife, PlayDisk};
@@ -19,7 +19,7 @@ use swim_disk::{Choice, MemDisk};
 use swim_member::{Event, SettingsFault};
 use swim_node::{ApplyFault, Entry, MemoryLink, OpenFault, own_numbers_rise};
 use swim_script::{Patch, Setting};
-use swim_state::Owner;
+use swim_state::{Owner, Peers, SaveFault};
 use swim_wire::Endpoint;
 
 /// Lives of one owner on one disk, one after another.
@@ -288,6 +288,28 @@ impl Session {
         match &mut self.stage {
             Stage::Open(living) => living.rebase(),
             _ => unreachable!(),
+        }
+    }
+
+    /// Saves whom the open member knows, at the begin of an era.
+    pub(crate) fn keep_peers(&mut self) -> Result<(), SaveFault>
+        requires opened { is_some self.old.life ≡ true }
+        requires empty { events_in self.old.life ≡ [] }
+        ensures { WritesState self.old self.new }
+    {
+        match &mut self.stage {
+            Stage::Open(living) => living.keep_peers(),
+            _ => unreachable!(),
+        }
+    }
+
+    /// Whom the state file of the open member keeps, if one is open.
+    pub(crate) fn peers(&self) -> Option<Peers>
+        ensures none { result ≡ None → self.now.life ≡ None }
+    {
+        match &self.stage {
+            Stage::Open(living) => Some(living.peers()),
+            _ => None,
         }
     }
 

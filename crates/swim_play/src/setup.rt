@@ -34,6 +34,7 @@ impl Setup {
             forget: 40,
             helpers: 2,
             block: 1,
+            rules: 1,
         };
         Setup {
             settings,
@@ -54,6 +55,7 @@ impl Setup {
             Setting::Helpers => self.settings.helpers = value as usize,
             Setting::Limit => self.limit = value,
             Setting::Block => self.settings.block = u64::from(value),
+            Setting::Rules => self.settings.rules = value,
         }
     }
 }

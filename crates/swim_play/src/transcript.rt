@@ -11,7 +11,7 @@ use std::fmt;
 use std::fmt::Write;
 use swim_member::{Note, Out};
 use swim_node::{Entry, Outcome, Save, Status};
-use swim_state::{Reading, slots_in};
+use swim_state::{Peers, Reading, slots_in};
 use swim_wire::{Update, encode};
 use swim_words::{kind_name, phase_name};
 
@@ -142,5 +142,20 @@ pub(crate) fn write_slots(text: &mut String, image: Option<&[u8]>) -> Result<(),
     write_slot(text, slots.a)?;
     write!(text, " b ")?;
     write_slot(text, slots.b)?;
+    writeln!(text)
+}
+
+/// The line of the peers that the state file of the open member keeps, or of a member that is missing.
+pub(crate) fn write_peers(text: &mut String, peers: Option<Peers>) -> Result<(), AllocError> {
+    let Some(peers) = peers else {
+        return writeln!(text, "no member");
+    };
+    write!(text, "peers")?;
+    if peers.as_slice().is_empty() {
+        write!(text, " none")?;
+    }
+    for peer in peers.as_slice() {
+        write!(text, " {peer}")?;
+    }
     writeln!(text)
 }

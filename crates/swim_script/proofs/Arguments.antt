@@ -1,14 +1,16 @@
 -- What the arguments of a line are, where it says a command.
-use Rattle.std.proofs.Common.{◌≡◌, ℕ, ◌+◌, ◌^◌, ◌<◌, ◌≤◌, List, length, inl, inr, refl, sym, subst, ap, ◌∙◌, arith}
+use Rattle.std.proofs.Common.{◌≡◌, ℕ, ◌+◌, ◌%◌, ◌^◌, ◌<◌, ◌≤◌, List, [], ◌∷◌, map, length, inl, inr, refl, sym, subst, ap, ◌∙◌, arith}
 use Rattle.std.specs.Prelude.{◌≢◌, codes}
+use Rattle.std.specs.List.{range_with_len}
 use Rattle.std.specs.Fmt.{decimal}
 use Rattle.std.proofs.lemmas.Fmt.{decimal_injective}
 use Rattle.swim_wire.specs.Numbers.{IsEndpoint}
+use Rattle.swim_member.specs.Deals.{deal_from}
 use Rattle.swim_member.specs.declared.event.Event.TheVariants as event
 use Rattle.swim_disk.specs.declared.mem.Choice.{Choice}
 use Rattle.swim_disk.specs.declared.mem.Choice.TheVariants.{Keep, Drop, Fill}
 use Rattle.swim_script.specs.declared.command.Command.{Command}
-use Rattle.swim_script.specs.declared.command.Command.TheVariants.{Group, Me, Set, Start, Init, Open, Happen, Plan, Kill, Crash, Overwrite, Slots, Rebase}
+use Rattle.swim_script.specs.declared.command.Command.TheVariants.{Group, Me, Set, Start, Init, Open, Happen, Plan, Kill, Crash, Overwrite, Slots, Rebase, KeepPeers, Peers}
 use Rattle.swim_script.specs.declared.command.Setting.{Setting}
 use Rattle.swim_script.specs.declared.command.Failure.{Failure}
 use Rattle.swim_script.specs.declared.command.Failure.TheVariants as failure
@@ -23,12 +25,17 @@ use Rattle.swim_words.proofs.Digits.{lacks_decimal}
 use Rattle.swim_words.proofs.Endpoints.{endpoint_lacks}
 use Rattle.swim_script.proofs.Hex.{same_bytes}
 
--- the arguments of a line that sets, receives or overwrites
+-- the arguments of a line that sets, ticks, receives or overwrites
 record IsSet (args : List ℕ) : Type 0 where
   setting : Setting
   n : ℕ
   small : n ≤ 1000000
   is : args ≡ spaced (setting_text setting) (decimal n)
+
+record IsNumbered (args : List ℕ) : Type 0 where
+  number : ℕ
+  small : number < 2 ^ 32
+  is : args ≡ decimal number
 
 record IsFrom (args : List ℕ) : Type 0 where
   from : ℕ
@@ -49,6 +56,7 @@ record IsOver (args : List ℕ) : Type 0 where
 -- what the keyword takes, as far as a lemma below asks
 abbrev Takes : Keyword → List ℕ → Type 0
 Takes keyword.Set args = IsSet args
+Takes keyword.Tick args = IsNumbered args
 Takes keyword.Receive args = IsFrom args
 Takes keyword.Overwrite args = IsOver args
 Takes _ args = Unit {0}
@@ -66,7 +74,7 @@ takes j args (Set s n) says = along j keyword.Set args (spaced (setting_text s) 
 takes j args (Start first) says = along j keyword.Start args (decimal first.value) says tt
 takes j args (Init n) says = along j keyword.Init args (decimal n) says.0 tt
 takes j args Open says = absurd (not_alone j keyword.Open args says)
-takes j args (Happen (event.Tick word)) says = along j keyword.Tick args (decimal word) says.0 tt
+takes j args (Happen (event.Tick deal)) says = along j keyword.Tick args (decimal says.number) says.says (record { number = says.number; small = says.small; is = refl })
 takes j args (Happen (event.Datagram from bytes)) says = along j keyword.Receive args (spaced (endpoint_text from) says.word) says.says (record { from = from; word = says.word; bytes = bytes.items; sender = says.sender; hex = says.hex; is = refl })
 takes j args (Happen event.ReceiveFailed) says = absurd (not_alone j keyword.ReceiveFailed args says)
 takes j args (Happen (event.SendFailed count)) says = along j keyword.SendFailed args (decimal count) says.0 tt
@@ -85,6 +93,8 @@ takes j args (Crash choice) says = along j keyword.Crash args says.word says.say
 takes j args (Overwrite patch) says = along j keyword.Overwrite args (spaced (decimal patch.at) says.word) says.says (record { at = patch.at; word = says.word; bytes = patch.bytes.items; fits = patch.fits; hex = says.hex; is = refl })
 takes j args Slots says = absurd (not_alone j keyword.Slots args says)
 takes j args Rebase says = absurd (not_alone j keyword.Rebase args says)
+takes j args KeepPeers says = absurd (not_alone j keyword.Keep args says)
+takes j args Peers says = absurd (not_alone j keyword.Peers args says)
 
 -- where the arguments have no space, or the word before it is none of those that may stand there, no command is said
 pub set_uncut : (args : List ℕ) → Lacks 32 args → No (Says (line_of keyword.Set args))
@@ -96,6 +106,23 @@ pub set_none : (args word number : List ℕ) → args ≡ spaced word number →
 set_none args word number cut lacks none command says =
     let is = takes keyword.Set args command says in
     none is.setting (same_split 32 args word number (setting_text is.setting) (decimal is.n) lacks cut (setting_lacks is.setting) is.is).0
+
+-- a tick's arguments are a number of 32 bits
+pub tick_none : (args : List ℕ) → No (SaysNumber args 0 4294967295) → No (Says (line_of keyword.Tick args))
+tick_none args none command says =
+    let is = takes keyword.Tick args command says in
+    let small = is.small in
+    none is.number (record { says = is.is; at_least = omega arith; at_most = omega arith })
+
+-- a deal begins with a number as it does with what is left of it by 256
+pub deal-around : (n : ℕ) → deal_from (n % 256) ≡ deal_from n
+deal-around n = around n (range_with_len 0 256)
+  where
+    around : (n : ℕ) (places : List ℕ) → map (λ i. (n % 256 + i) % 256) places ≡ map (λ i. (n + i) % 256) places
+    around n [] = refl
+    around n (i ∷ places) =
+        let one : (n % 256 + i) % 256 ≡ (n + i) % 256 = omega arith in
+        ap (λ m. m ∷ map (λ i. (n % 256 + i) % 256) places) one ∙ ap (λ ms. (n + i) % 256 ∷ ms) (around n places)
 
 -- the word of the call that is to fail, and which of those calls
 record IsFailing (args : List ℕ) (f : Failure) : Type 0 where

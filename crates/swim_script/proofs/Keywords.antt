@@ -32,6 +32,8 @@ keyword_lacks keyword.Crash = lacks_byte 32 (codes "crash") refl
 keyword_lacks keyword.Overwrite = lacks_byte 32 (codes "disk") refl
 keyword_lacks keyword.Slots = lacks_byte 32 (codes "slots") refl
 keyword_lacks keyword.Rebase = lacks_byte 32 (codes "rebase") refl
+keyword_lacks keyword.Keep = lacks_byte 32 (codes "keep") refl
+keyword_lacks keyword.Peers = lacks_byte 32 (codes "peers") refl
 
 pub setting_lacks : (s : Setting) → Lacks 32 (setting_text s)
 setting_lacks setting.Lambda = lacks_byte 32 (codes "lambda") refl
@@ -42,6 +44,7 @@ setting_lacks setting.Forget = lacks_byte 32 (codes "forget") refl
 setting_lacks setting.Helpers = lacks_byte 32 (codes "helpers") refl
 setting_lacks setting.Limit = lacks_byte 32 (codes "limit") refl
 setting_lacks setting.Block = lacks_byte 32 (codes "block") refl
+setting_lacks setting.Rules = lacks_byte 32 (codes "rules") refl
 
 -- the keyword of a keyword's text
 abbrev named : List ℕ → Keyword
@@ -66,7 +69,9 @@ named text =
     if bytes_eq text (codes "crash") then keyword.Crash else
     if bytes_eq text (codes "disk") then keyword.Overwrite else
     if bytes_eq text (codes "slots") then keyword.Slots else
-    keyword.Rebase
+    if bytes_eq text (codes "rebase") then keyword.Rebase else
+    if bytes_eq text (codes "keep") then keyword.Keep else
+    keyword.Peers
 
 named-text : (k : Keyword) → named (keyword_text k) ≡ k
 named-text keyword.Group = refl
@@ -90,6 +95,8 @@ named-text keyword.Crash = refl
 named-text keyword.Overwrite = refl
 named-text keyword.Slots = refl
 named-text keyword.Rebase = refl
+named-text keyword.Keep = refl
+named-text keyword.Peers = refl
 
 same_keyword : (j k : Keyword) → keyword_text j ≡ keyword_text k → j ≡ k
 same_keyword j k same = sym (named-text j) ∙ ap named same ∙ named-text k

@@ -25,6 +25,8 @@ pub enum Setting {
     Limit,
     /// Numbers that one save reserves.
     Block,
+    /// By which rules the group lives.
+    Rules,
 }
 
 /// What a line makes fail. The number counts the calls of its sort from now on, the next one being 1.
@@ -73,4 +75,8 @@ pub enum Command {
     Slots,
     /// Begins an era.
     Rebase,
+    /// Begins an era, and saves whom the member knows.
+    KeepPeers,
+    /// Shows whom the state file keeps.
+    Peers,
 }

@@ -28,6 +28,8 @@ pub enum Keyword {
     Overwrite,
     Slots,
     Rebase,
+    Keep,
+    Peers,
 }
 
 impl Keyword {
@@ -58,6 +60,8 @@ impl Keyword {
             b"disk" => Some(Keyword::Overwrite),
             b"slots" => Some(Keyword::Slots),
             b"rebase" => Some(Keyword::Rebase),
+            b"keep" => Some(Keyword::Keep),
+            b"peers" => Some(Keyword::Peers),
             _ => None,
         }
     }

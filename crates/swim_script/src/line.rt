@@ -15,7 +15,7 @@ use crate::keyword::Keyword;
 use crate::patch::Patch;
 use std::alloc::Global;
 use swim_disk::Choice;
-use swim_member::Event;
+use swim_member::{Deal, Event};
 use swim_wire::Cursor;
 use swim_words::{read_endpoint, read_number, read_within, split_at_byte};
 
@@ -48,6 +48,7 @@ impl Setting {
             b"helpers" => Some(Setting::Helpers),
             b"limit" => Some(Setting::Limit),
             b"block" => Some(Setting::Block),
+            b"rules" => Some(Setting::Rules),
             _ => None,
         }
     }
@@ -79,6 +80,8 @@ fn bare(keyword: Keyword) -> Option<Command>
         Keyword::Kill => Some(Command::Kill),
         Keyword::Slots => Some(Command::Slots),
         Keyword::Rebase => Some(Command::Rebase),
+        Keyword::Keep => Some(Command::KeepPeers),
+        Keyword::Peers => Some(Command::Peers),
         Keyword::ReceiveFailed => Some(Command::Happen(Event::ReceiveFailed)),
         Keyword::Leave => Some(Command::Happen(Event::Leave)),
         Keyword::Members => Some(Command::Happen(Event::Members {
@@ -97,6 +100,16 @@ fn read_set(arguments: &[u8]) -> Option<Command>
     let setting = Setting::of(word)?;
     let value = read_count(number, 0, COUNT_MAX)?;
     Some(Command::Set(setting, value))
+}
+
+/// The tick of the arguments' number: its deal begins with that, modulo 256, and goes up cyclically.
+fn read_tick(arguments: &[u8]) -> Option<Command>
+    ensures command { IfSome result (λ command. Says (line_of Keyword.Tick arguments.now) command) }
+    ensures none { IfNone result (No (Says (line_of Keyword.Tick arguments.now))) }
+{
+    let number = read_count(arguments, 0, u32::MAX)?;
+    let deal = Deal::from_first((number % 256) as u8);
+    Some(Command::Happen(Event::Tick { deal }))
 }
 
 /// The call that the arguments make fail.
@@ -138,9 +151,7 @@ fn read_plain(keyword: Keyword, arguments: &[u8]) -> Option<Command>
         Keyword::Fail => Some(Command::Plan(read_failure(arguments)?)),
         Keyword::Tear => Some(Command::Plan(read_torn(arguments)?)),
         Keyword::Halt => Some(Command::Plan(Failure::Halt(read_count(arguments, 1, COUNT_MAX)?))),
-        Keyword::Tick => Some(Command::Happen(Event::Tick {
-            word: read_count(arguments, 0, u32::MAX)?,
-        })),
+        Keyword::Tick => read_tick(arguments),
         Keyword::SendFailed => Some(Command::Happen(Event::SendFailed {
             count: read_count(arguments, 0, u32::MAX)?,
         })),

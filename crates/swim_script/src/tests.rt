@@ -1,8 +1,11 @@
-//! The faults of scripts.
+//! The faults of scripts, and the deals of their ticks.
 
+use crate::command::Command;
 use crate::fault::FaultKind;
 use crate::script::read_script;
 use std::alloc::Global;
+use std::test::Fail;
+use swim_member::Event;
 
 /// The line and the kind of the script's fault.
 fn fault_of(alloc: Global, script: &str) -> Option<(usize, FaultKind)> {
@@ -83,4 +86,25 @@ fn first_faulty_line(rt: HostRuntime) {
     let script = "start 1\n\n# frob\nfrob\nstart 0\n";
     assert_eq!(rt; fault_of(rt.alloc(), script), Some((4, FaultKind::Command)));
     assert_eq!(rt; fault_of(rt.alloc(), ""), None);
+}
+
+/// A tick's deal begins with its number, and goes up cyclically.
+#[test]
+fn deals_of_ticks(rt: HostRuntime) -> Result<(), Fail> {
+    let table = [
+        ("tick 0", 0, 255),
+        ("tick 2", 2, 1),
+        ("tick 255", 255, 254),
+        ("tick 256", 0, 255),
+        ("tick 4294967295", 255, 254),
+    ];
+    for (script, first, last) in table {
+        let commands = read_script(rt.alloc(), script.as_bytes()).map_err(|_| "a fault")?;
+        let Some(Command::Happen(Event::Tick { deal })) = commands.first() else {
+            return Err("a tick".into());
+        };
+        assert_eq!(&rt; deal.numbers().first(), Some(&first), "{script}");
+        assert_eq!(&rt; deal.numbers().last(), Some(&last), "{script}");
+    }
+    Ok(())
 }
