@@ -3,8 +3,8 @@ use Rattle.std.specs.Prelude.{ℕ, List, [], ◌∷◌, take, codes}
 use Rattle.swim_settings.specs.declared.key.Key.{Key}
 use Rattle.swim_settings.specs.declared.key.Key.TheVariants.{File, Group, Me, Control, TickMs}
 use Rattle.swim_settings.specs.declared.key.Key.TheVariants.{Lambda, Period, Direct, Suspect}
-use Rattle.swim_settings.specs.declared.key.Key.TheVariants.{Forget, Helpers, Limit, Block}
-use Rattle.swim_settings.specs.declared.key.Key.TheVariants.{RandomKey, Join}
+use Rattle.swim_settings.specs.declared.key.Key.TheVariants.{Forget, Helpers, Limit, Block, Rules}
+use Rattle.swim_settings.specs.declared.key.Key.TheVariants.{RandomKey, Join, Rejoin}
 
 -- the key as a file has it
 abbrev pub key_text : Key → List ℕ
@@ -21,13 +21,15 @@ key_text Forget = codes "forget"
 key_text Helpers = codes "helpers"
 key_text Limit = codes "limit"
 key_text Block = codes "block"
+key_text Rules = codes "rules"
 key_text RandomKey = codes "random_key"
 key_text Join = codes "join"
+key_text Rejoin = codes "rejoin"
 
 -- all keys, in the order in which a refused one is looked for
 abbrev pub keys : List Key
 keys = File ∷ Group ∷ Me ∷ Control ∷ TickMs ∷ Lambda ∷ Period ∷ Direct ∷ Suspect ∷ Forget ∷ Helpers
-    ∷ Limit ∷ Block ∷ RandomKey ∷ Join ∷ []
+    ∷ Limit ∷ Block ∷ Rules ∷ RandomKey ∷ Join ∷ Rejoin ∷ []
 
 -- how many keys come before it
 abbrev pub key_place : Key → ℕ
@@ -44,8 +46,10 @@ key_place Forget = 9
 key_place Helpers = 10
 key_place Limit = 11
 key_place Block = 12
-key_place RandomKey = 13
-key_place Join = 14
+key_place Rules = 13
+key_place RandomKey = 14
+key_place Join = 15
+key_place Rejoin = 16
 
 -- the keys before it
 abbrev pub keys_before : Key → List Key

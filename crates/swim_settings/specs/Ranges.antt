@@ -11,3 +11,4 @@ pub record AreInRange (run : RunSettings) : Type 0 where
   pub tick_high : run.tick_ms ≤ 60000
   pub limit_low : 1 ≤ run.limit
   pub limit_high : run.limit ≤ 65536
+  pub rejoin_high : run.rejoin ≤ 1000000

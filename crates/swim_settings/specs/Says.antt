@@ -11,8 +11,8 @@ use Rattle.swim_words.specs.Words.{endpoint_text, No}
 use Rattle.swim_settings.specs.declared.key.Key.{Key}
 use Rattle.swim_settings.specs.declared.key.Key.TheVariants.{File, Group, Me, Control, TickMs}
 use Rattle.swim_settings.specs.declared.key.Key.TheVariants.{Lambda, Period, Direct, Suspect}
-use Rattle.swim_settings.specs.declared.key.Key.TheVariants.{Forget, Helpers, Limit, Block}
-use Rattle.swim_settings.specs.declared.key.Key.TheVariants.{RandomKey, Join}
+use Rattle.swim_settings.specs.declared.key.Key.TheVariants.{Forget, Helpers, Limit, Block, Rules}
+use Rattle.swim_settings.specs.declared.key.Key.TheVariants.{RandomKey, Join, Rejoin}
 use Rattle.swim_member.specs.declared.settings.TheConstants.{HELPERS_MAX, BLOCK_MAX}
 use Rattle.swim_member.specs.declared.settings.Settings.{Settings}
 use Rattle.swim_settings.specs.declared.refusal.Refusal.{Refusal}
@@ -62,7 +62,7 @@ AreEndpoints key table es =
     × AreTexts items es)
     ⊎ ((value_at key table ≡ None) × (es ≡ []))
 
--- the table says these settings of the member; its group, endpoint and block aside
+-- the table says these settings of the member; its group, endpoint, block and rules aside
 pub record SaysMember (table : Members) (settings : Settings) : Type 0 where
   pub lambda : IsNumber Lambda 3 table settings.lambda
   pub period : IsNumber Period 10 table settings.period
@@ -81,8 +81,10 @@ pub record Says (table : Members) (run : RunSettings) : Type 0 where
   pub member : SaysMember table run.settings
   pub limit : IsNumber Limit 4096 table run.limit
   pub block : IsNumber Block 1 table run.settings.block
+  pub rules : IsNumber Rules 1 table run.settings.rules
   pub random_key : AreBytes RandomKey table run.random_key
   pub join : AreEndpoints Join table run.join.items
+  pub rejoin : IsNumber Rejoin 300 table run.rejoin
 
 -- the endpoint whose text is there
 abbrev pub IsEndpointAt : Key → Members → ℕ → Type 0
@@ -92,7 +94,7 @@ IsEndpointAt key table e = (text_at key table ≡ Some (endpoint_text e)) × IsE
 abbrev pub IsWithin : Key → ℕ → ℕ → ℕ → Members → ℕ → Type 0
 IsWithin key default least most table n = IsNumber key default table n × (least ≤ n) × (n ≤ most)
 
--- the table has nothing at the key that the key takes; of the last two keys it isn't said
+-- the table has nothing at the key that the key takes; of random_key and join it isn't said
 abbrev pub IsRefused : Key → Members → Type 0
 IsRefused File table = text_at File table ≡ None
 IsRefused Group table = number_at Group table ≡ None
@@ -108,6 +110,8 @@ IsRefused Forget table = No (IsWithin Forget 6000 1 1000000 table)
 IsRefused Helpers table = No (IsWithin Helpers 3 0 HELPERS_MAX table)
 IsRefused Limit table = No (IsWithin Limit 4096 1 65536 table)
 IsRefused Block table = No (IsWithin Block 1 1 BLOCK_MAX table)
+IsRefused Rules table = No (IsWithin Rules 1 1 2 table)
+IsRefused Rejoin table = No (IsWithin Rejoin 300 0 1000000 table)
 IsRefused _ table = Unit
 
 -- the refusal is of the text, which is no TOML, or memory ran out
@@ -116,7 +120,7 @@ IsOfText text refusals.Memory = Unit
 IsOfText text refusals.Toml = IsUtf8 text → parse_document text ≡ None
 IsOfText text _ = ⊥
 
--- the table has at the key what the key takes; of the last two keys it isn't said
+-- the table has at the key what the key takes; of random_key and join it isn't said
 abbrev pub IsTaken : Key → Members → Type 0
 IsTaken File table = (text : List ℕ) × (text_at File table ≡ Some text)
 IsTaken Group table = (n : ℕ) × (number_at Group table ≡ Some n)
@@ -132,6 +136,8 @@ IsTaken Forget table = (n : ℕ) × IsWithin Forget 6000 1 1000000 table n
 IsTaken Helpers table = (n : ℕ) × IsWithin Helpers 3 0 HELPERS_MAX table n
 IsTaken Limit table = (n : ℕ) × IsWithin Limit 4096 1 65536 table n
 IsTaken Block table = (n : ℕ) × IsWithin Block 1 1 BLOCK_MAX table n
+IsTaken Rules table = (n : ℕ) × IsWithin Rules 1 1 2 table n
+IsTaken Rejoin table = (n : ℕ) × IsWithin Rejoin 300 0 1000000 table n
 IsTaken _ table = Unit
 
 -- all keys before the key have what they take

@@ -34,15 +34,19 @@ pub enum Key {
     Limit,
     /// Numbers that one save reserves.
     Block,
-    /// The key of the generator that the ticker's words come from.
+    /// By which rules the group lives.
+    Rules,
+    /// The key of the generator that the ticker's deals and the drawn members come from.
     RandomKey,
     /// Whom to join after the opening.
     Join,
+    /// Ticks from one join of a drawn member to the next.
+    Rejoin,
 }
 
 impl Key {
     /// All keys, in the order in which a refused one is looked for.
-    pub const ALL: [Key; 15] = [
+    pub const ALL: [Key; 17] = [
         Key::File,
         Key::Group,
         Key::Me,
@@ -56,8 +60,10 @@ impl Key {
         Key::Helpers,
         Key::Limit,
         Key::Block,
+        Key::Rules,
         Key::RandomKey,
         Key::Join,
+        Key::Rejoin,
     ];
 
     /// The key as a file has it.
@@ -78,8 +84,10 @@ impl Key {
             Key::Helpers => "helpers",
             Key::Limit => "limit",
             Key::Block => "block",
+            Key::Rules => "rules",
             Key::RandomKey => "random_key",
             Key::Join => "join",
+            Key::Rejoin => "rejoin",
         }
     }
 }

@@ -6,7 +6,7 @@ ghost use Rattle.toml.specs.Parse.{parse_document};
 ghost use Rattle.toml.specs.View.{table_view};
 ghost use Rattle.swim_member.specs.Checks.{AreSound};
 ghost use Rattle.swim_settings.specs.Ranges.{AreInRange};
-ghost use Rattle.swim_settings.specs.Says.{AreTakenBefore, IsOfKey, IsOfText, IsOfUnknown, IsReason, Says, SaysMember};
+ghost use Rattle.swim_settings.specs.Says.{AreTakenBefore, IsNumber, IsOfKey, IsOfText, IsOfUnknown, IsReason, Says, SaysMember};
 ghost use Rattle.swim_settings.specs.declared.key.Key.TheVariants as keys;
 
 use crate::key::Key;
@@ -28,7 +28,7 @@ pub const JOIN_MAX: usize = 8;
 pub struct RunSettings {
     /// `file`: the path of the state file.
     pub file: String,
-    /// `group`, `me`, `lambda` to `helpers`, and `block`: what the member is told.
+    /// `group`, `me`, `lambda` to `helpers`, `block` and `rules`: what the member is told.
     pub settings: Settings,
     /// `control`: the endpoint of the control socket.
     pub control: Endpoint,
@@ -36,10 +36,12 @@ pub struct RunSettings {
     pub tick_ms: u64,
     /// `limit`: entries in an era, 1 to 65,536.
     pub limit: u32,
-    /// `random_key`: the key of the generator that the ticker's words come from, if the file has one.
+    /// `random_key`: the key of the generator that deals and drawn members come from, if the file has one.
     pub random_key: Option<[u8; 32]>,
     /// `join`: whom to join after the opening, in this order.
     pub join: ArrayVec<Endpoint, JOIN_MAX>,
+    /// `rejoin`: ticks from one join of a drawn member to the next, at most 1,000,000; 0 for never.
+    pub rejoin: u64,
 }
 
 /// The bytes as a TOML table.
@@ -66,7 +68,8 @@ fn refuse_unknown(alloc: Global, table: &Table) -> Result<(), Refusal>
     Ok(())
 }
 
-/// What the member is told, with this group and endpoint, and a block of 1: its key comes later.
+/// What the member is told, with this group and endpoint, and a block of 1 and rules 1: their keys come
+/// later.
 fn read_member(table: &Table, group: u64, me: Endpoint) -> Result<Settings, Refusal>
     requires { AreTakenBefore keys.Lambda (table_view table.now) }
     ensures sound { IfOk result AreSound }
@@ -91,6 +94,28 @@ fn read_member(table: &Table, group: u64, me: Endpoint) -> Result<Settings, Refu
         forget,
         helpers: helpers as usize,
         block: 1,
+        rules: 1,
+    })
+}
+
+/// The member's settings with the block and the rules of the table.
+fn read_block_and_rules(table: &Table, member: Settings) -> Result<Settings, Refusal>
+    requires taken { AreTakenBefore keys.Block (table_view table.now) }
+    requires sound { AreSound member }
+    ensures sound { IfOk result AreSound }
+    ensures block { IfOk result (λ s. IsNumber keys.Block 1 (table_view table.now) s.block) }
+    ensures rules { IfOk result (λ s. IsNumber keys.Rules 1 (table_view table.now) s.rules) }
+    ensures rest { IfOk result
+        (λ s. s ≡ record member { block = s.block; rules = s.rules }) }
+    ensures taken { IfOk result (λ _. AreTakenBefore keys.RandomKey (table_view table.now)) }
+    ensures refused { IfErr result (IsOfKey (table_view table.now)) }
+{
+    let block = read_within(table, Key::Block, 1, 1, BLOCK_MAX)?;
+    let rules = read_within(table, Key::Rules, 1, 1, 2)?;
+    Ok(Settings {
+        block,
+        rules: rules as u32,
+        ..member
     })
 }
 
@@ -107,17 +132,19 @@ fn read_keys(alloc: Global, table: &Table) -> Result<RunSettings, Refusal>
     let tick_ms = read_within(table, Key::TickMs, 100, 1, 60_000)?;
     let member = read_member(table, group, me)?;
     let limit = read_within(table, Key::Limit, 4096, 1, 65_536)?;
-    let block = read_within(table, Key::Block, 1, 1, BLOCK_MAX)?;
+    let settings = read_block_and_rules(table, member)?;
     let random_key = read_bytes(table, Key::RandomKey)?;
     let join = read_endpoints(table, Key::Join)?;
+    let rejoin = read_within(table, Key::Rejoin, 300, 0, 1_000_000)?;
     Ok(RunSettings {
         file: String::from_str(alloc, file)?,
-        settings: Settings { block, ..member },
+        settings,
         control,
         tick_ms,
         limit: limit as u32,
         random_key,
         join,
+        rejoin,
     })
 }
 

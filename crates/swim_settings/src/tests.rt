@@ -45,6 +45,7 @@ fn defaults(rt: HostRuntime) -> Result<(), Fail> {
         limit,
         random_key,
         join,
+        rejoin,
     } = read_settings(rt.alloc(), text.as_bytes())?;
     assert_eq!(rt; file.as_str(), "s");
     assert_eq!(rt; settings.group, 7);
@@ -59,15 +60,17 @@ fn defaults(rt: HostRuntime) -> Result<(), Fail> {
     assert_eq!(rt; settings.helpers, 3);
     assert_eq!(rt; limit, 4096);
     assert_eq!(rt; settings.block, 1);
+    assert_eq!(rt; settings.rules, 1);
     assert!(rt; random_key.is_none());
     assert_eq!(rt; join.len(), 0);
+    assert_eq!(rt; rejoin, 300);
     Ok(())
 }
 
 #[test]
 fn every_key(rt: HostRuntime) -> Result<(), Fail> {
     let lines = "tick_ms = 20\nlambda = 5\nperiod = 8\ndirect = 7\nsuspect = 90\nforget = 400
-helpers = 0\nlimit = 20\nblock = 64\njoin = ['10.0.0.2:7000', '10.0.0.3:7001']
+helpers = 0\nlimit = 20\nblock = 64\nrules = 2\nrejoin = 90\njoin = ['10.0.0.2:7000', '10.0.0.3:7001']
 random_key = '000102030405060708090a0b0c0d0e0f101112131415161718191A1B1C1D1E1F'\n";
     let text = file_with(rt.alloc(), Key::Join, lines)?;
     let run = read_settings(rt.alloc(), text.as_bytes())?;
@@ -80,10 +83,12 @@ random_key = '000102030405060708090a0b0c0d0e0f101112131415161718191A1B1C1D1E1F'\
     assert_eq!(rt; run.settings.helpers, 0);
     assert_eq!(rt; run.limit, 20);
     assert_eq!(rt; run.settings.block, 64);
+    assert_eq!(rt; run.settings.rules, 2);
     let peers = [
         Endpoint::new(0x0a00_0002, 7000),
         Endpoint::new(0x0a00_0003, 7001),
     ];
+    assert_eq!(rt; run.rejoin, 90);
     assert_eq!(rt; run.join.len(), 2);
     for (peer, want) in run.join.as_slice().iter().zip(peers) {
         assert_eq!(rt; Some(*peer), want);
@@ -116,6 +121,10 @@ fn taken_values(rt: HostRuntime) -> Result<(), Fail> {
         (Key::Limit, "limit = 65536"),
         (Key::Block, "block = 1"),
         (Key::Block, "block = 1024"),
+        (Key::Rules, "rules = 1"),
+        (Key::Rules, "rules = 2"),
+        (Key::Rejoin, "rejoin = 0"),
+        (Key::Rejoin, "rejoin = 1000000"),
         (Key::Join, "join = []"),
         (
             Key::Join,
@@ -166,9 +175,15 @@ fn refused_values(rt: HostRuntime) -> Result<(), Fail> {
         (Key::Block, "block = 0"),
         (Key::Block, "block = 1025"),
         (Key::Block, "block = '1'"),
+        (Key::Rules, "rules = 0"),
+        (Key::Rules, "rules = 3"),
+        (Key::Rules, "rules = 'two'"),
         (Key::RandomKey, "random_key = ''"),
         (Key::RandomKey, "random_key = 'zz'"),
         (Key::RandomKey, "random_key = 32"),
+        (Key::Rejoin, "rejoin = -1"),
+        (Key::Rejoin, "rejoin = 1000001"),
+        (Key::Rejoin, "rejoin = '300'"),
         (Key::Join, "join = '10.0.0.2:7000'"),
         (Key::Join, "join = [7000]"),
         (Key::Join, "join = ['10.0.0.2']"),
@@ -190,8 +205,10 @@ fn first_refused(rt: HostRuntime) -> Result<(), Fail> {
     for (lines, want) in [
         ("limit = 0\nlambda = 0", "lambda"),
         ("block = 0\nlimit = 0", "limit"),
-        ("random_key = 0\nblock = 0", "block"),
-        ("alpha = 1\njoin = 0", "join"),
+        ("rules = 0\nblock = 0", "block"),
+        ("random_key = 0\nrules = 0", "rules"),
+        ("rejoin = -1\njoin = 0", "join"),
+        ("alpha = 1\nrejoin = -1", "rejoin"),
         ("beta = 1\nalpha = 1", "alpha"),
         ("[table]", "table"),
         ("gamma.delta = 1", "gamma"),
