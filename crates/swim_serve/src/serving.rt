@@ -16,9 +16,7 @@ use std::time::Clock;
 use swim_disk::Disk;
 use swim_node::Link;
 use swim_shared::{Name, Pass, Shared, Watch};
-use swim_shell::{
-    ControlEnd, Doors, Gate, Inbound, Turn, WorkerEnd, control, receiver, sender, ticker,
-};
+use swim_shell::{ControlEnd, Doors, Gate, Inbound, Joiner, Refusal, Turn, WorkerEnd, control};
 
 /// How the workers ended.
 #[derive(Clone, Copy, Debug, PartialEq, Eq)]
@@ -29,11 +27,21 @@ pub struct Ends {
     pub ticker: WorkerEnd,
     /// The worker that sends what the outbox took.
     pub sender: WorkerEnd,
-    /// The worker that answers control lines.
+    /// The worker that answers control lines, and the joiner.
     pub control: ControlEnd,
 }
 
-/// Serves one control connection after the other. The end of a connection, or a failure of it, ends it alone.
+/// How control ends where a call of the joiner was refused so.
+fn end_by(refusal: Refusal) -> ControlEnd {
+    match refusal {
+        Refusal::EraFull => ControlEnd::EraFull,
+        Refusal::Memory => ControlEnd::Memory,
+        Refusal::Unread => ControlEnd::Unread,
+    }
+}
+
+/// Serves one control connection after the other, and gives the joiner a turn before each. The end of a connection, or a
+/// failure of it, ends it alone.
 fn doorkeeper<N: Name, D: Disk, L: Link, R: Wait + Drop, W: Wait + Log + Clock, O: Doors, G: Gate>(
     rt: &W,
     shared: &Shared<N, D, L, R>,
@@ -41,10 +49,16 @@ fn doorkeeper<N: Name, D: Disk, L: Link, R: Wait + Drop, W: Wait + Log + Clock, 
     watch: &mut Watch<N>,
     doors: &mut O,
     gate: &mut G,
+    joiner_pass: &mut Pass<N>,
+    status: &mut Watch<N>,
+    joiner: &mut Joiner,
 ) -> ControlEnd {
     for _ in rt.forever() {
         if gate.turn() == Turn::Stop {
             return ControlEnd::Stop;
+        }
+        if let Err(refusal) = joiner.turn(rt, shared, joiner_pass, status) {
+            return end_by(refusal);
         }
         if let Some((mut reader, mut writer)) = doors.next() {
             match control(rt, shared, pass, watch, &mut reader, &mut writer, gate) {
@@ -64,6 +78,9 @@ fn run_control<N: Name, D: Disk, L: Link, R: Wait + Drop, W: Wait + Log + Clock,
     watch: &mut Watch<N>,
     doors: &mut O,
     gate: &mut G,
+    joiner_pass: &mut Pass<N>,
+    status: &mut Watch<N>,
+    joiner: &mut Joiner,
     start: &Start,
     ended: &Ended,
 ) -> ControlEnd {
@@ -71,7 +88,17 @@ fn run_control<N: Name, D: Disk, L: Link, R: Wait + Drop, W: Wait + Log + Clock,
     if !start.wait(rt) {
         ended.end();
     }
-    let end = doorkeeper(rt, shared, pass, watch, doors, &mut closing);
+    let end = doorkeeper(
+        rt,
+        shared,
+        pass,
+        watch,
+        doors,
+        &mut closing,
+        joiner_pass,
+        status,
+        joiner,
+    );
     ended.end();
     end
 }
@@ -98,6 +125,9 @@ fn send_and_control<
     watch: &mut Watch<N>,
     doors: &mut O,
     control_gate: &mut C,
+    joiner_pass: &mut Pass<N>,
+    status: &mut Watch<N>,
+    joiner: &mut Joiner,
     ended: &Ended,
 ) -> (WorkerEnd, ControlEnd) {
     let made = Start::new();
@@ -119,6 +149,9 @@ fn send_and_control<
                 watch,
                 doors,
                 control_gate,
+                joiner_pass,
+                status,
+                joiner,
                 start,
                 ended,
             )
@@ -152,6 +185,9 @@ fn tick_and_send<
     watch: &mut Watch<N>,
     doors: &mut O,
     control_gate: &mut C,
+    joiner_pass: &mut Pass<N>,
+    status: &mut Watch<N>,
+    joiner: &mut Joiner,
     ended: &Ended,
 ) -> (WorkerEnd, (WorkerEnd, ControlEnd)) {
     let made = Start::new();
@@ -184,13 +220,16 @@ fn tick_and_send<
                 watch,
                 doors,
                 control_gate,
+                joiner_pass,
+                status,
+                joiner,
                 ended,
             )
         },
     )
 }
 
-/// Runs receiver, ticker and sender in threads of their own and control in this one, until one of them has ended and
+/// Runs receiver, ticker and sender in threads of their own, and control and the joiner by turns in this one, until one of them has ended and
 /// the others have stopped. A gate that waits long may rest on `ended`, which no other workers had before. A worker for
 /// which the system has no thread ends with Memory, and all with it.
 pub fn serve<
@@ -214,6 +253,7 @@ pub fn serve<
     ticking: (&mut Pass<N>, &mut ChaCha20Rng, &mut B),
     sending: (&mut Pass<N>, &mut RingSender<N>, &mut M, &mut S),
     controlling: (&mut Pass<N>, &mut Watch<N>, &mut O, &mut C),
+    joining: (&mut Pass<N>, &mut Watch<N>, &mut Joiner),
 ) -> Ends {
     let made = Start::new();
     let start = &made;
@@ -221,6 +261,7 @@ pub fn serve<
     let (ticker_pass, rng, ticker_gate) = ticking;
     let (sender_pass, ring, link, sender_gate) = sending;
     let (control_pass, watch, doors, control_gate) = controlling;
+    let (joiner_pass, status, joiner) = joining;
     let mut work = Receiving { inbound };
     let (receiver, (ticker, (sender, control))) = beside(
         rt,
@@ -252,6 +293,9 @@ pub fn serve<
                 watch,
                 doors,
                 control_gate,
+                joiner_pass,
+                status,
+                joiner,
                 ended,
             )
         },

@@ -9,8 +9,9 @@
 //!     shared: &Shared<N, D, L, &R>,
 //!     mut pass: Pass<N>,
 //! ) -> Pass<N> {
-//!     for word in 0..50 {
-//!         if shared.call(rt, &mut pass, Event::Tick { word }).is_err() {
+//!     for turn in 0..CALLS {
+//!         let deal = Deal::from_first((turn % 256) as u8);
+//!         if shared.call(rt, &mut pass, Event::Tick { deal }).is_err() {
 //!             break;
 //!         }
 //!     }

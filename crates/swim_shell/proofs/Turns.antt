@@ -2,7 +2,7 @@
 use Rattle.std.proofs.Common.{◌≡◌, ℕ, ◌+◌, ◌<◌, ◌≤◌, ◌&&◌, Bool, true, false, List, [], ◌∷◌, ◌++◌, length, refl, ap, sym, ◌∙◌, arith, if◌then◌else◌, subst}
 use Rattle.std.proofs.lemmas.List.{append-nil}
 use Rattle.std.proofs.lemmas.Bool.Decides.{nat_tests}
-use Rattle.rand_chacha.specs.ChaCha.{ChaCha, next_word}
+use Rattle.rand_core.specs.Stream.{Stream}
 use Rattle.swim_member.specs.declared.event.Event.TheVariants.{Tick, Datagram, ReceiveFailed}
 use Rattle.swim_shared.specs.Passes.{PassView}
 use Rattle.swim_shell.specs.declared.worker.WorkerEnd.TheVariants as ends
@@ -11,7 +11,7 @@ use Rattle.swim_shell.specs.declared.worker.Turn.TheVariants.{Go, Stop}
 use Rattle.swim_shell.specs.Calls.{NewCalls}
 use Rattle.swim_shell.specs.Gates.{Went}
 use Rattle.swim_shell.specs.Inbounds.{Came, Received, Nothing, Failed, events_at, events_for, failures_in, row_after, failures_in_a_row, is_calm, Took, Refused, Receives, Receiving, TookOne, Refuses}
-use Rattle.swim_shell.specs.Ticks.{Draws, ticks_of, LastRefused, Ticks, Ticking}
+use Rattle.swim_shell.specs.Ticks.{next_deal, Draws, ticks_of, LastRefused, Ticks, Ticking}
 use Rattle.swim_shell.proofs.News.{assoc, no_calls, more_calls}
 use Rattle.swim_shell.proofs.Gating.{went_none, went_along, halts}
 
@@ -24,51 +24,51 @@ refuses_failure tells old new f g p q t n = record { one = Failed; event = Recei
 pub took_nothing : (tells : Type 0) (old new : List Came) (f g : ℕ) (p : PassView) → Took tells old new f g (Nothing ∷ []) → TookOne tells old new f g p p false
 took_nothing tells old new f g p t = record { one = Nothing; took = t; calls = no_calls p; row_is = λ n. refl }
 
-pub draws_more : (g : ChaCha) (ws : List ℕ) (h : ChaCha) → Draws g ws h → Draws g (ws ++ (next_word 10 h).0 ∷ []) (next_word 10 h).1
-draws_more g [] h d = (ap (λ x. (next_word 10 x).0) d, ap (λ x. (next_word 10 x).1) d)
-draws_more g (w ∷ ws) h d = (d.0, draws_more (next_word 10 g).1 ws h d.1)
+pub draws_more : (g : Stream) (ds : List (List ℕ)) (h : Stream) → Draws g ds h → Draws g (ds ++ (next_deal h).0 ∷ []) (next_deal h).1
+draws_more g [] h d = (ap (λ x. (next_deal x).0) d, ap (λ x. (next_deal x).1) d)
+draws_more g (e ∷ ds) h d = (d.0, draws_more (next_deal g).1 ds h d.1)
 
-pub ticks_of-append : (xs ys : List ℕ) → ticks_of (xs ++ ys) ≡ ticks_of xs ++ ticks_of ys
+pub ticks_of-append : (xs ys : List (List ℕ)) → ticks_of (xs ++ ys) ≡ ticks_of xs ++ ticks_of ys
 ticks_of-append [] ys = refl
 ticks_of-append (x ∷ xs) ys = ap (λ w. Tick x ∷ w) (ticks_of-append xs ys)
 
-pub ticks_start : (g : ChaCha) (p : PassView) (s : Type 0) (t : List Turn) → Ticking g g p p s t t
-ticks_start g p s t = record { words = []; draws = refl; turns = went_none s t; calls = no_calls p }
+pub ticks_start : (g : Stream) (p : PassView) (s : Type 0) (t : List Turn) → Ticking g g p p s t t
+ticks_start g p s t = record { deals = []; draws = refl; turns = went_none s t; calls = no_calls p }
 
-pub ticks_more : (g h k : ChaCha) (p q r : PassView) (s : Type 0) (t u v : List Turn) → Ticking g h p q s t u → (s → v ≡ u ++ Go ∷ []) → k ≡ (next_word 10 h).1 → NewCalls q r (Tick (next_word 10 h).0 ∷ []) → Ticking g k p r s t v
+pub ticks_more : (g h k : Stream) (p q r : PassView) (s : Type 0) (t u v : List Turn) → Ticking g h p q s t u → (s → v ≡ u ++ Go ∷ []) → k ≡ (next_deal h).1 → NewCalls q r (Tick (next_deal h).0 ∷ []) → Ticking g k p r s t v
 ticks_more g h k p q r s t u v w go e n = record {
-  words = w.words ++ (next_word 10 h).0 ∷ [];
-  draws = subst (Draws g (w.words ++ (next_word 10 h).0 ∷ [])) (sym e) (draws_more g w.words h w.draws);
-  turns = went_along s t u v w.words (next_word 10 h).0 w.turns go;
-  calls = subst (NewCalls p r) (sym (ticks_of-append w.words ((next_word 10 h).0 ∷ []))) (more_calls p q r (ticks_of w.words) (Tick (next_word 10 h).0 ∷ []) w.calls n);
+  deals = w.deals ++ (next_deal h).0 ∷ [];
+  draws = subst (Draws g (w.deals ++ (next_deal h).0 ∷ [])) (sym e) (draws_more g w.deals h w.draws);
+  turns = went_along s t u v w.deals (next_deal h).0 w.turns go;
+  calls = subst (NewCalls p r) (sym (ticks_of-append w.deals ((next_deal h).0 ∷ []))) (more_calls p q r (ticks_of w.deals) (Tick (next_deal h).0 ∷ []) w.calls n);
 }
 
-pub ticks_stop : (g h : ChaCha) (p q : PassView) (s : Type 0) (t u v : List Turn) → Ticking g h p q s t u → (s → v ≡ u ++ Stop ∷ []) → Ticks g h p q s t v ends.Stopped
-ticks_stop g h p q s t u v w stop = record { words = w.words; draws = w.draws; turns = halts s t u v (length w.words) w.turns stop; ended = w.calls }
+pub ticks_stop : (g h : Stream) (p q : PassView) (s : Type 0) (t u v : List Turn) → Ticking g h p q s t u → (s → v ≡ u ++ Stop ∷ []) → Ticks g h p q s t v ends.Stopped
+ticks_stop g h p q s t u v w stop = record { deals = w.deals; draws = w.draws; turns = halts s t u v (length w.deals) w.turns stop; ended = w.calls }
 
--- the word drawn last, with its turn, and what is known before the end has a name
-record LastTick (g k : ChaCha) (p r : PassView) (s : Type 0) (t v : List Turn) : Type 0 where
-  words : List ℕ
-  draws : Draws g words k
-  turns : Went s t v (length words)
-  refused : LastRefused p r words
+-- the deal drawn last, with its turn, and what is known before the end has a name
+record LastTick (g k : Stream) (p r : PassView) (s : Type 0) (t v : List Turn) : Type 0 where
+  deals : List (List ℕ)
+  draws : Draws g deals k
+  turns : Went s t v (length deals)
+  refused : LastRefused p r deals
 
-last_tick : (g h k : ChaCha) (p q r : PassView) (s : Type 0) (t u v : List Turn) → Ticking g h p q s t u → (s → v ≡ u ++ Go ∷ []) → k ≡ (next_word 10 h).1 → NewCalls q r [] → LastTick g k p r s t v
+last_tick : (g h k : Stream) (p q r : PassView) (s : Type 0) (t u v : List Turn) → Ticking g h p q s t u → (s → v ≡ u ++ Go ∷ []) → k ≡ (next_deal h).1 → NewCalls q r [] → LastTick g k p r s t v
 last_tick g h k p q r s t u v w go e n = record {
-  words = w.words ++ (next_word 10 h).0 ∷ [];
-  draws = subst (Draws g (w.words ++ (next_word 10 h).0 ∷ [])) (sym e) (draws_more g w.words h w.draws);
-  turns = went_along s t u v w.words (next_word 10 h).0 w.turns go;
-  refused = record { before = w.words; last = (next_word 10 h).0; words_are = refl; calls = subst (NewCalls p r) (append-nil (ticks_of w.words)) (more_calls p q r (ticks_of w.words) [] w.calls n) };
+  deals = w.deals ++ (next_deal h).0 ∷ [];
+  draws = subst (Draws g (w.deals ++ (next_deal h).0 ∷ [])) (sym e) (draws_more g w.deals h w.draws);
+  turns = went_along s t u v w.deals (next_deal h).0 w.turns go;
+  refused = record { before = w.deals; last = (next_deal h).0; deals_are = refl; calls = subst (NewCalls p r) (append-nil (ticks_of w.deals)) (more_calls p q r (ticks_of w.deals) [] w.calls n) };
 }
 
-pub ticks_erafull : (g h k : ChaCha) (p q r : PassView) (s : Type 0) (t u v : List Turn) → Ticking g h p q s t u → (s → v ≡ u ++ Go ∷ []) → k ≡ (next_word 10 h).1 → NewCalls q r [] → Ticks g k p r s t v ends.EraFull
-ticks_erafull g h k p q r s t u v w go e n = let l = last_tick g h k p q r s t u v w go e n in record { words = l.words; draws = l.draws; turns = l.turns; ended = l.refused }
+pub ticks_erafull : (g h k : Stream) (p q r : PassView) (s : Type 0) (t u v : List Turn) → Ticking g h p q s t u → (s → v ≡ u ++ Go ∷ []) → k ≡ (next_deal h).1 → NewCalls q r [] → Ticks g k p r s t v ends.EraFull
+ticks_erafull g h k p q r s t u v w go e n = let l = last_tick g h k p q r s t u v w go e n in record { deals = l.deals; draws = l.draws; turns = l.turns; ended = l.refused }
 
-pub ticks_memory : (g h k : ChaCha) (p q r : PassView) (s : Type 0) (t u v : List Turn) → Ticking g h p q s t u → (s → v ≡ u ++ Go ∷ []) → k ≡ (next_word 10 h).1 → NewCalls q r [] → Ticks g k p r s t v ends.Memory
-ticks_memory g h k p q r s t u v w go e n = let l = last_tick g h k p q r s t u v w go e n in record { words = l.words; draws = l.draws; turns = l.turns; ended = l.refused }
+pub ticks_memory : (g h k : Stream) (p q r : PassView) (s : Type 0) (t u v : List Turn) → Ticking g h p q s t u → (s → v ≡ u ++ Go ∷ []) → k ≡ (next_deal h).1 → NewCalls q r [] → Ticks g k p r s t v ends.Memory
+ticks_memory g h k p q r s t u v w go e n = let l = last_tick g h k p q r s t u v w go e n in record { deals = l.deals; draws = l.draws; turns = l.turns; ended = l.refused }
 
-pub ticks_unread : (g h k : ChaCha) (p q r : PassView) (s : Type 0) (t u v : List Turn) → Ticking g h p q s t u → (s → v ≡ u ++ Go ∷ []) → k ≡ (next_word 10 h).1 → NewCalls q r [] → Ticks g k p r s t v ends.Unread
-ticks_unread g h k p q r s t u v w go e n = let l = last_tick g h k p q r s t u v w go e n in record { words = l.words; draws = l.draws; turns = l.turns; ended = l.refused }
+pub ticks_unread : (g h k : Stream) (p q r : PassView) (s : Type 0) (t u v : List Turn) → Ticking g h p q s t u → (s → v ≡ u ++ Go ∷ []) → k ≡ (next_deal h).1 → NewCalls q r [] → Ticks g k p r s t v ends.Unread
+ticks_unread g h k p q r s t u v w go e n = let l = last_tick g h k p q r s t u v w go e n in record { deals = l.deals; draws = l.draws; turns = l.turns; ended = l.refused }
 
 events_for-append : (xs ys : List Came) → events_for (xs ++ ys) ≡ events_for xs ++ events_for ys
 events_for-append [] ys = refl

@@ -1,5 +1,6 @@
 pub mod Calls
 pub mod Gates
+pub mod Joins
 pub mod Inbounds
 pub mod Ticks
 pub mod Control

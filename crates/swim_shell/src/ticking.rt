@@ -1,23 +1,35 @@
 //! The worker that ticks.
 
 ghost use Rattle.std.specs.Prelude.{◌≡◌, ◌∷◌, [], IfOk, IfErr};
-ghost use Rattle.rand_chacha.specs.ChaCha.{next_word};
 ghost use Rattle.swim_member.specs.declared.event.Event.TheVariants.{Tick};
 ghost use Rattle.swim_shell.specs.Calls.{NewCalls};
-ghost use Rattle.swim_shell.specs.Ticks.{Ticks};
+ghost use Rattle.swim_shell.specs.Ticks.{Ticks, answers, next_deal};
 
 use crate::calling::{Refusal, enter};
 use crate::note_log::NoteLog;
 use crate::worker::{Gate, Turn, WorkerEnd};
 use log::Log;
+use rand::seq::SliceRandom;
 use rand_chacha::ChaCha20Rng;
-use rand_core::utils::NextWord;
 use std::sync::{Wait, WaitMethods};
 use std::time::Clock;
 use swim_disk::Disk;
-use swim_member::Event;
+use swim_member::{Deal, Event};
 use swim_node::Link;
 use swim_shared::{Name, Pass, Shared};
+
+/// The next deal of the generator: the numbers in order, shuffled by it.
+fn draw_deal(rng: &mut ChaCha20Rng) -> Deal
+    ensures { (result, answers rng.new) ≡ next_deal (answers rng.old) }
+{
+    let mut numbers = [0; 256];
+    numbers.copy_from_slice(Deal::from_first(0).numbers());
+    numbers.as_mut_slice().shuffle(rng);
+    match Deal::new(numbers) {
+        Some(deal) => deal,
+        None => unreachable!(),
+    }
+}
 
 /// One turn.
 fn tick_one<N: Name, D: Disk, L: Link, R: Wait + Drop, W: Wait + Log + Clock>(
@@ -28,18 +40,18 @@ fn tick_one<N: Name, D: Disk, L: Link, R: Wait + Drop, W: Wait + Log + Clock>(
     rng: &mut ChaCha20Rng,
 ) -> Result<(), Refusal>
     ensures ok { IfOk result (λ _.
-        NewCalls pass.old pass.new (Tick (next_word 10 rng.old).0 ∷ [])) }
+        NewCalls pass.old pass.new (Tick (next_deal (answers rng.old)).0 ∷ [])) }
     ensures err { IfErr result (λ _. NewCalls pass.old pass.new []) }
-    ensures rng { rng.new ≡ (next_word 10 rng.old).1 }
+    ensures rng { answers rng.new ≡ (next_deal (answers rng.old)).1 }
 {
-    let word = rng.next_word();
-    match enter(rt, shared, pass, notes, Event::Tick { word }) {
+    let deal = draw_deal(rng);
+    match enter(rt, shared, pass, notes, Event::Tick { deal }) {
         Ok(_) => Ok(()),
         Err(refusal) => Err(refusal),
     }
 }
 
-/// Makes one call a turn, a Tick with the generator's next word, until its gate stops it or a call is refused. Ends:
+/// Makes one call a turn, a Tick with the generator's next deal, until its gate stops it or a call is refused. Ends:
 /// Stopped by its gate; EraFull, Memory or Unread as its last call was refused.
 #[tactic(auto, using(crate::proofs::Turns::ticks_start, crate::proofs::Turns::ticks_more, crate::proofs::Turns::ticks_stop, crate::proofs::Turns::ticks_erafull, crate::proofs::Turns::ticks_memory, crate::proofs::Turns::ticks_unread))]
 pub fn ticker<N: Name, D: Disk, L: Link, R: Wait + Drop, W: Wait + Log + Clock, G: Gate>(
@@ -49,8 +61,8 @@ pub fn ticker<N: Name, D: Disk, L: Link, R: Wait + Drop, W: Wait + Log + Clock, 
     rng: &mut ChaCha20Rng,
     gate: &mut G,
 ) -> WorkerEnd
-    ensures { Ticks rng.old rng.new pass.old pass.new G.tells (G.turns gate.old) (G.turns gate.new)
-        result }
+    ensures { Ticks (answers rng.old) (answers rng.new) pass.old pass.new G.tells
+        (G.turns gate.old) (G.turns gate.new) result }
 {
     let mut notes = NoteLog::new();
     for _ in rt.forever() {

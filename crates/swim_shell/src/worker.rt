@@ -67,7 +67,7 @@ pub enum ControlEnd {
     /// The era is full.
     #[error("EraFull")]
     EraFull,
-    /// No thread could be made for the worker. No connection ends so.
+    /// No thread could be made for the worker, or a call of the joiner found no memory.
     #[error("Memory")]
     Memory,
     /// What a call did could not be read back, or the watch gave no status.

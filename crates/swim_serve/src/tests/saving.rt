@@ -13,7 +13,7 @@ use swim_member::Event;
 use swim_node::{Link, MemoryLink};
 use swim_shared::{Name, Parts, Pass, Shared, Watch};
 use swim_shell::{ControlEnd, control};
-use swim_wire::{Cursor, Datagram, Endpoint, Kind, Update, UpdateKind, encode};
+use swim_wire::{Cursor, Datagram, Endpoint, Kind, Rules, Update, UpdateKind, encode};
 
 /// The member's port.
 const PORT: u16 = 7104;
@@ -87,6 +87,7 @@ fn suspicion() -> Option<Event> {
         number: 1,
     });
     let ping = Datagram {
+        version: Rules::One,
         kind: Kind::Ping,
         group: 7,
         seq: 1,

@@ -4,6 +4,7 @@ ghost use Rattle.std.specs.Prelude.{◌≡◌, ◌≤◌, []};
 ghost use Rattle.swim_disk.specs.MemDisk.{state_of};
 
 use crate::{Ended, Ends, RingSender, UdpInbound, UdpLink, bind_datagrams, serve};
+use arrayvec::ArrayVec;
 use log::Log;
 use rand_chacha::ChaCha20Rng;
 use rand_core::SeedableRng;
@@ -19,9 +20,9 @@ use swim_disk::{Disk, MemDisk};
 use swim_member::Settings;
 use swim_node::Node;
 use swim_shared::{Name, Outbox, Parts, Sender, Shared};
-use swim_shell::{Doors, Gate, Inbound, Turn};
+use swim_shell::{Doors, Gate, Inbound, Joiner, Paces, Turn};
 use swim_state::{Owner, init};
-use swim_wire::Endpoint;
+use swim_wire::{Endpoint, Rules};
 
 /// What a test runs on.
 pub(super) trait Host: Threads + Wait + Abort + Log + Clock + Sync {}
@@ -81,10 +82,22 @@ pub(super) fn opened<D: Disk + Drop>(
         forget: 40,
         helpers: 3,
         block: 1,
+        rules: 1,
     };
     settings.check().ok().expect(rt, "sound settings");
     let node = Node::open(alloc, disk, settings, 20_000);
     node.ok().expect(rt, "an opening")
+}
+
+/// A joiner that has nobody to join.
+fn idle(rt: &impl Abort) -> Joiner {
+    let me = Endpoint::new(0x7f00_0001, 1).expect(rt, "a port");
+    let paces = Paces {
+        period: Duration::from_secs(1),
+        rejoin: None,
+    };
+    let rng = ChaCha20Rng::from_seed([8; 32]);
+    Joiner::new(me, Rules::One, ArrayVec::new(), paces, rng)
 }
 
 /// Serves a new member of this port until its workers have ended, and says how they did.
@@ -99,7 +112,7 @@ pub(super) fn served<I: Inbound + Send, O: Doors, R: Host>(
     let disk = MemDisk::new(alloc, 1, Vec::new(alloc));
     let node = opened(rt, alloc, disk, port);
     let (outbox, sender) = Outbox::new(alloc, 16).ok().expect(rt, "memory");
-    let parts = Parts::new(node, outbox, 4, 1);
+    let parts = Parts::new(node, outbox, 5, 2);
     on_stage::<Brand, I, O, R>(rt, alloc, parts, sender, inbound, link, doors)
 }
 
@@ -124,11 +137,14 @@ fn on_stage<N: Name + Send + Sync, I: Inbound + Send, O: Doors, R: Host>(
     let mut ring = RingSender::<N>::new(sender);
     let made = Shared::<N, MemDisk, Outbox, &R>::new(alloc, rt, parts);
     let (shared, mut passes, mut watches) = made.ok().expect(rt, "memory");
+    let mut fifth = passes.pop().expect(rt, "five passes");
     let mut fourth = passes.pop().expect(rt, "four passes");
     let mut third = passes.pop().expect(rt, "three passes");
     let mut second = passes.pop().expect(rt, "two passes");
     let mut first = passes.pop().expect(rt, "a pass");
+    let mut status = watches.pop().expect(rt, "two watches");
     let mut watch = watches.pop().expect(rt, "a watch");
+    let mut joiner = idle(rt);
     let mut rng = ChaCha20Rng::from_seed([7; 32]);
     let mut receives = Paced { clock: rt };
     let mut ticks = Paced { clock: rt };
@@ -142,5 +158,6 @@ fn on_stage<N: Name + Send + Sync, I: Inbound + Send, O: Doors, R: Host>(
         (&mut second, &mut rng, &mut ticks),
         (&mut third, &mut ring, link, &mut sends),
         (&mut fourth, &mut watch, doors, &mut answers),
+        (&mut fifth, &mut status, &mut joiner),
     )
 }

@@ -29,6 +29,7 @@ no_settings = record {
   forget = 0;
   helpers = 0;
   block = 0;
+  rules = 0;
 }
 
 -- the base of no era

@@ -11,7 +11,7 @@ use swim_disk::{FaultDisk, MemDisk, Plan};
 use swim_member::{Event, Settings};
 use swim_node::{Link, LinkFault, Node};
 use swim_state::{Owner, init};
-use swim_wire::{Cursor, Datagram, Endpoint, Kind, Update, UpdateKind, encode};
+use swim_wire::{Cursor, Datagram, Endpoint, Kind, Rules, Update, UpdateKind, encode};
 
 pub(super) type Device = FaultDisk<MemDisk>;
 
@@ -80,6 +80,7 @@ pub(super) fn opened(rt: &impl Abort, alloc: Global, limit: u32) -> (Node<Device
         forget: 40,
         helpers: 3,
         block: 1,
+        rules: 1,
     };
     settings.check().ok().expect(rt, "sound settings");
     let node = Node::open(alloc, disk, settings, limit)
@@ -94,6 +95,7 @@ pub(super) fn ping(rt: &impl Abort, seq: u32, updates: &[Update]) -> Event {
     let mut carried = ArrayVec::new();
     assert!(rt; carried.try_extend_from_slice(updates).is_ok());
     let datagram = Datagram {
+        version: Rules::One,
         kind: Kind::Ping,
         group: 7,
         seq,

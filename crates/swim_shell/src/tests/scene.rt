@@ -16,7 +16,7 @@ use swim_member::{RECEIVED_MAX, Settings};
 use swim_node::Node;
 use swim_shared::{Name, Outbox, Parts, Pass, Sender, Shared, Watch};
 use swim_state::{Owner, init};
-use swim_wire::{Cursor, Datagram, Endpoint, Kind, Update, UpdateKind, encode};
+use swim_wire::{Cursor, Datagram, Endpoint, Kind, Rules, Update, UpdateKind, encode};
 
 /// What a test runs on.
 pub(super) trait Host: Wait + Abort + Log + Clock {}
@@ -54,6 +54,7 @@ fn ping_of(number: u32) -> Option<Datagram> {
         number: 1,
     });
     Some(Datagram {
+        version: Rules::One,
         kind: Kind::Ping,
         group: 7,
         seq: number,
@@ -90,6 +91,7 @@ fn opened(rt: &impl Abort, alloc: Global, limit: u32) -> Result<Node<MemDisk>, F
         forget: 40,
         helpers: 3,
         block: 1,
+        rules: 1,
     };
     settings.check().ok().ok_or("sound settings")?;
     let node = Node::open(alloc, disk, settings, limit);
