@@ -75,7 +75,7 @@ fn read_answer<R: Clock>(
 }
 
 /// Connects, sends the line and reads its answer, within the time limit.
-fn exchange<R: Net<Stream = TcpStream> + Clock + AllocGlobal>(
+pub(crate) fn exchange<R: Net<Stream = TcpStream> + Clock + AllocGlobal>(
     rt: &R,
     to: Endpoint,
     line: &str,

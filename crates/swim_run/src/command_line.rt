@@ -7,6 +7,9 @@ use std::alloc::Global;
 /// The greatest group number and ceiling among the words, 2^63 - 1.
 const NUMBER_LIMIT: u64 = 9_223_372_036_854_775_807;
 
+/// The most milliseconds from one comparison to the next, an hour.
+const EVERY_LIMIT: u64 = 3_600_000;
+
 /// What the words ask for.
 #[derive(Clone, Copy, Debug, PartialEq, Eq)]
 pub enum Subcommand<'a> {
@@ -32,6 +35,22 @@ pub enum Subcommand<'a> {
         to: &'a str,
         /// The line.
         line: &'a str,
+    },
+    /// All rows of a member.
+    Members {
+        /// The control socket, not yet judged.
+        to: &'a str,
+        /// Whether as JSON.
+        as_json: bool,
+    },
+    /// What changes of the rows of a member.
+    Watch {
+        /// The control socket, not yet judged.
+        to: &'a str,
+        /// Whether as JSON.
+        as_json: bool,
+        /// Milliseconds from one comparison to the next.
+        every: u64,
     },
     /// A script from standard input.
     Play,
@@ -69,6 +88,50 @@ fn init_command<'a>(alloc: Global) -> Result<Command<'a>, Error> {
     Ok(command)
 }
 
+/// The control socket of a member.
+fn address<'a>(alloc: Global) -> Arg<'a> {
+    word(
+        alloc,
+        "addr",
+        "ADDR",
+        "The member's control socket, as 127.0.0.1:7100",
+    )
+}
+
+/// `--json`.
+fn json<'a>(alloc: Global) -> Arg<'a> {
+    Arg::new(alloc, "json")
+        .long("json")
+        .action(ArgAction::SetTrue)
+        .help("Prints JSON, an object a line")
+}
+
+/// `swim members ADDR [--json]`.
+fn members_command<'a>(alloc: Global) -> Result<Command<'a>, Error> {
+    let command = Command::new(alloc, "members")
+        .about("Prints all members that a member knows")
+        .arg(address(alloc))?
+        .arg(json(alloc))?;
+    Ok(command)
+}
+
+/// `swim watch ADDR [--json] [--every N]`.
+fn watch_command<'a>(alloc: Global) -> Result<Command<'a>, Error> {
+    let every = number(
+        alloc,
+        "every",
+        "Milliseconds from one comparison to the next",
+    )
+    .value_parser(ValueParser::unsigned(1, EVERY_LIMIT))
+    .default_value("1000");
+    let command = Command::new(alloc, "watch")
+        .about("Prints what changes of the members, a line a change, until it is stopped")
+        .arg(address(alloc))?
+        .arg(json(alloc))?
+        .arg(every)?;
+    Ok(command)
+}
+
 /// `swim ctl ADDR LINE`.
 fn ctl_command<'a>(alloc: Global) -> Result<Command<'a>, Error> {
     let line = word(
@@ -79,12 +142,7 @@ fn ctl_command<'a>(alloc: Global) -> Result<Command<'a>, Error> {
     );
     let command = Command::new(alloc, "ctl")
         .about("Sends a control line and prints the answer")
-        .arg(word(
-            alloc,
-            "addr",
-            "ADDR",
-            "The member's control socket, as 127.0.0.1:7100",
-        ))?
+        .arg(address(alloc))?
         .arg(line.allow_hyphen_values(true))?;
     Ok(command)
 }
@@ -104,6 +162,8 @@ fn command<'a>(alloc: Global) -> Result<Command<'a>, Error> {
         .subcommand(init_command(alloc)?)?
         .subcommand(run)?
         .subcommand(ctl_command(alloc)?)?
+        .subcommand(members_command(alloc)?)?
+        .subcommand(watch_command(alloc)?)?
         .subcommand(play)?;
     Ok(command)
 }
@@ -128,6 +188,15 @@ fn chosen<'a>(matches: &ArgMatches<'a>) -> Option<Subcommand<'a>> {
         ("ctl", words) => Some(Subcommand::Ctl {
             to: text(words, "addr"),
             line: text(words, "line"),
+        }),
+        ("members", words) => Some(Subcommand::Members {
+            to: text(words, "addr"),
+            as_json: words.get_flag("json"),
+        }),
+        ("watch", words) => Some(Subcommand::Watch {
+            to: text(words, "addr"),
+            as_json: words.get_flag("json"),
+            every: words.get_one::<u64>("every")?,
         }),
         ("play", _) => Some(Subcommand::Play),
         _ => None,

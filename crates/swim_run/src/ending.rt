@@ -30,6 +30,9 @@ pub enum Ending {
     /// A socket was not bound or connected, or a connection ended before the whole answer.
     #[error("socket refused")]
     Socket,
+    /// A member did not answer with its rows.
+    #[error("answer refused")]
+    Answer,
     /// A worker ended by itself.
     #[error("worker ended {0}")]
     Worker(WorkerEnd),

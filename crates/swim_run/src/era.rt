@@ -5,7 +5,6 @@ ghost use Rattle.std.specs.Prelude.{◌≡◌, []};
 use crate::ending::Ending;
 use crate::entrance::Entrance;
 use crate::gates::{Pace, Pacing, Resting, Ringing};
-use crate::joining::Joining;
 use crate::outside::Outside;
 use crate::said::Said;
 use log::Log;
@@ -19,12 +18,12 @@ use swim_member::Event;
 use swim_node::{Link, Node};
 use swim_serve::{Ends, RingSender, serve};
 use swim_shared::{Name, Outbox, Parts, Pass, Sender, Shared, Watch};
-use swim_shell::{ControlEnd, Doors, Inbound, NoteLog, Refusal, WorkerEnd, enter};
+use swim_shell::{ControlEnd, Doors, Inbound, Joiner, NoteLog, Refusal, WorkerEnd, enter};
 
 /// The workers, each with a pass of its own.
-pub(crate) const CALLERS: u8 = 4;
+pub(crate) const CALLERS: u8 = 5;
 
-/// One watch for control, and one for the program's own joins.
+/// One watch for control, and one for the joiner.
 pub(crate) const WATCHES: u8 = 2;
 
 /// What is left of an era.
@@ -89,6 +88,7 @@ fn attend<
     ticker: (&mut Pass<N>, &mut ChaCha20Rng, Duration),
     sender: (&mut Pass<N>, &mut RingSender<N>, &mut M),
     control: (&mut Pass<N>, &mut Watch<N>, &mut O),
+    joining: (&mut Pass<N>, &mut Watch<N>, &mut Joiner),
 ) -> Ends {
     let pace = Pace::new();
     let (receiver_pass, inbound) = receiver;
@@ -107,10 +107,11 @@ fn attend<
         (ticker_pass, rng, &mut ticker_gate),
         (sender_pass, ring, link, &mut sender_gate),
         (control_pass, watch, doors, &mut control_gate),
+        joining,
     )
 }
 
-/// Runs the workers with the program's own joins among the control connections.
+/// Runs the workers, with doors at which the program listens in.
 fn attend_entrance<
     'x,
     N: Name + Send + Sync,
@@ -122,7 +123,7 @@ fn attend_entrance<
     M: Link + Send,
     O: Doors,
 >(
-    rt: &'x T,
+    rt: &T,
     shared: &Shared<N, D, L, R>,
     passes: (&mut Pass<N>, &mut Pass<N>, &mut Pass<N>, &mut Pass<N>),
     shown: &mut Watch<N>,
@@ -132,17 +133,10 @@ fn attend_entrance<
     rng: &mut ChaCha20Rng,
     tick: Duration,
     doors: &'x mut O,
-    watch: &'x mut Watch<N>,
-    joining: &'x mut Joining,
     said: &'x Said,
+    joining: (&mut Pass<N>, &mut Watch<N>, &mut Joiner),
 ) -> Ends {
-    let mut entrance = Entrance {
-        doors,
-        watch,
-        joining,
-        clock: rt,
-        said,
-    };
+    let mut entrance = Entrance { doors, said };
     let (receiver, ticker, sender, control) = passes;
     attend(
         rt,
@@ -151,7 +145,33 @@ fn attend_entrance<
         (ticker, rng, tick),
         (sender, ring, link),
         (control, shown, &mut entrance),
+        joining,
     )
+}
+
+/// The passes and watches of an era, each its worker's.
+#[derive(Drop)]
+struct Readers<N: Name> {
+    receiver: Pass<N>,
+    ticker: Pass<N>,
+    sender: Pass<N>,
+    control: Pass<N>,
+    joiner: Pass<N>,
+    shown: Watch<N>,
+    watch: Watch<N>,
+}
+
+/// Gives each worker its own; none where there are too few.
+fn share_out<N: Name>(mut passes: Vec<Pass<N>>, mut watches: Vec<Watch<N>>) -> Option<Readers<N>> {
+    Some(Readers {
+        receiver: passes.pop()?,
+        ticker: passes.pop()?,
+        sender: passes.pop()?,
+        control: passes.pop()?,
+        joiner: passes.pop()?,
+        shown: watches.pop()?,
+        watch: watches.pop()?,
+    })
 }
 
 /// Tells what the era before owes, and runs the workers until one of them ends. Says whether the line `stop` ended it;
@@ -168,39 +188,36 @@ fn work<
 >(
     rt: &T,
     shared: &Shared<N, D, L, R>,
-    mut passes: Vec<Pass<N>>,
-    mut watches: Vec<Watch<N>>,
+    readers: &mut Readers<N>,
     ring: &mut RingSender<N>,
     owed: u32,
     outside: &mut Outside<I, M, O>,
 ) -> Result<bool, Ending> {
-    let mut receiver = passes.pop().ok_or(Ending::Memory)?;
-    let mut ticker = passes.pop().ok_or(Ending::Memory)?;
-    let mut sender = passes.pop().ok_or(Ending::Memory)?;
-    let mut control = passes.pop().ok_or(Ending::Memory)?;
-    let mut shown = watches.pop().ok_or(Ending::Memory)?;
-    let mut watch = watches.pop().ok_or(Ending::Memory)?;
-    tell(rt, shared, &mut receiver, owed)?;
+    tell(rt, shared, &mut readers.receiver, owed)?;
     let said = Said::new();
     let ends = attend_entrance(
         rt,
         shared,
-        (&mut receiver, &mut ticker, &mut sender, &mut control),
-        &mut shown,
+        (
+            &mut readers.receiver,
+            &mut readers.ticker,
+            &mut readers.sender,
+            &mut readers.control,
+        ),
+        &mut readers.shown,
         ring,
         &mut outside.inbound,
         &mut outside.link,
         &mut outside.rng,
         outside.tick,
         &mut outside.doors,
-        &mut watch,
-        &mut outside.joining,
         &said,
+        (&mut readers.joiner, &mut readers.watch, &mut outside.joiner),
     );
     if let Some(end) = fault_of(&ends) {
         return Err(Ending::Worker(end));
     }
-    outside.end_era(rt, &ends, &said);
+    outside.end_era(&ends);
     Ok(said.is_stopping())
 }
 
@@ -232,8 +249,9 @@ pub(crate) fn run_era<
 {
     let made = Shared::<N, D, Outbox, &T>::new(alloc, rt, parts);
     let (shared, passes, watches) = made.ok().ok_or(Ending::Memory)?;
+    let mut readers = share_out(passes, watches).ok_or(Ending::Memory)?;
     let mut ring = RingSender::<N>::new(sender);
-    let is_stopped = work(rt, &shared, passes, watches, &mut ring, owed, outside)?;
+    let is_stopped = work(rt, &shared, &mut readers, &mut ring, owed, outside)?;
     let sender = ring.into_inner();
     let (none, nobody) = (Vec::new(alloc), Vec::new(alloc));
     let closed = shared.close_sent(none, nobody, sender, &mut outside.link);

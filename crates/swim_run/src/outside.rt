@@ -1,13 +1,11 @@
 //! What a member has outside itself, from one era to the next.
 
 use crate::again::Again;
-use crate::joining::Joining;
-use crate::said::Said;
 use rand_chacha::ChaCha20Rng;
-use std::time::{Clock, Duration};
+use std::time::Duration;
 use swim_node::Link;
 use swim_serve::Ends;
-use swim_shell::{Doors, Inbound, WorkerEnd};
+use swim_shell::{Doors, Inbound, Joiner, WorkerEnd};
 
 /// What the workers of each era work on.
 #[derive(Drop)]
@@ -18,20 +16,19 @@ pub(crate) struct Outside<I: Inbound, M: Link, O: Doors> {
     pub(crate) link: M,
     /// Whence control connections come.
     pub(crate) doors: O,
-    /// What gives the ticks their words.
+    /// What gives the ticks their deals.
     pub(crate) rng: ChaCha20Rng,
-    /// The peers to join.
-    pub(crate) joining: Joining,
+    /// What joins members and tells their news.
+    pub(crate) joiner: Joiner,
     /// How long a tick is.
     pub(crate) tick: Duration,
 }
 
 impl<I: Inbound, M: Link, O: Doors> Outside<I, M, O> {
     /// After an era that ended so: what did not fit into it comes again.
-    pub(crate) fn end_era<C: Clock>(&mut self, clock: &C, ends: &Ends, said: &Said) {
+    pub(crate) fn end_era(&mut self, ends: &Ends) {
         if ends.receiver == WorkerEnd::EraFull {
             self.inbound.repeat();
         }
-        self.joining.take_note(said, clock);
     }
 }

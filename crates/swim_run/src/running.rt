@@ -7,11 +7,11 @@ ghost use Rattle.swim_settings.specs.Ranges.{AreInRange};
 use crate::again::Again;
 use crate::ending::Ending;
 use crate::era::{CALLERS, WATCHES, run_era};
-use crate::joining::Joining;
 use crate::locked_file::open_locked;
 use crate::outside::Outside;
 use crate::sockets::{bind_doors, wait_of};
-use log::Log;
+use arrayvec::ArrayVec;
+use log::{Log, warn};
 use rand_chacha::ChaCha20Rng;
 use rand_core::SeedableRng;
 use std::alloc::Global;
@@ -29,7 +29,8 @@ use swim_node::{Link, Node};
 use swim_serve::{address_of, bind_datagrams};
 use swim_settings::{Refusal, RunSettings, read_settings};
 use swim_shared::{Outbox, Parts};
-use swim_shell::{Doors, Inbound};
+use swim_shell::{Doors, Inbound, Joiner, LIST_MAX, Paces};
+use swim_wire::Endpoint;
 
 /// How many datagrams wait at most until the sender takes them.
 const OUTBOX_PLACES: usize = 256;
@@ -66,14 +67,56 @@ fn open<R: Files<File = File> + AllocGlobal>(
     }
 }
 
-/// The generator of the ticks' words, by the given key or by one from the system.
-fn generator<R: RandomSource>(rt: &R, given: Option<[u8; 32]>) -> Result<ChaCha20Rng, Ending> {
+/// What draws the ticks' deals, and what draws the members to join: two streams of one generator, by the given key or by
+/// one from the system.
+fn generators<R: RandomSource>(
+    rt: &R,
+    given: Option<[u8; 32]>,
+) -> Result<(ChaCha20Rng, ChaCha20Rng), Ending> {
     let mut key = [0u8; 32];
     match given {
         Some(given) => key = given,
         None => rt.fill_bytes(&mut key).map_err(|_| Ending::File)?,
     }
-    Ok(ChaCha20Rng::from_seed(key))
+    let mut other = ChaCha20Rng::from_seed(key);
+    other.set_stream(1);
+    Ok((ChaCha20Rng::from_seed(key), other))
+}
+
+/// The listed peers, and then the stored ones that are not among them. There is room for both.
+fn peers_of(listed: &[Endpoint], stored: &[Endpoint]) -> ArrayVec<Endpoint, LIST_MAX> {
+    let mut peers = ArrayVec::new();
+    let _ = peers.try_extend_from_slice(listed);
+    for peer in stored {
+        if !listed.contains(peer) {
+            let _ = peers.try_push(*peer);
+        }
+    }
+    peers
+}
+
+/// How often the joiner does what, by settings in ticks of so many milliseconds.
+fn paces_of(period: u64, rejoin: u64, tick_ms: u64) -> Paces {
+    let lasting = |ticks: u64| Duration::from_millis(ticks.saturating_mul(tick_ms));
+    Paces {
+        period: lasting(period),
+        rejoin: if rejoin == 0 {
+            None
+        } else {
+            Some(lasting(rejoin))
+        },
+    }
+}
+
+/// Ends an era of a node, and keeps the peers that the member knows then. A fault there is logged only: the member goes
+/// on, and its next save keeps the peers that it knows by then.
+fn end_era<D: Disk, T: Log>(rt: &T, node: &mut Node<D>)
+    ensures { node.new.entries ≡ [] }
+{
+    node.rebase();
+    if let Err(fault) = node.keep_peers() {
+        warn!(rt; "keep refused {fault}");
+    }
 }
 
 /// One era of a node, and the node at the beginning of the next with what is owed; none where the line `stop` ended it.
@@ -97,10 +140,10 @@ fn one_era<
     let (outbox, sender) = made.ok().ok_or(Ending::Memory)?;
     let parts = Parts::new(node, outbox, CALLERS, WATCHES);
     let mut end = run_era::<Brand, _, _, _, _, _>(rt, alloc, parts, sender, owed, outside)?;
+    end_era(rt, &mut end.node);
     if end.is_stopped {
         return Ok(None);
     }
-    end.node.rebase();
     Ok(Some((end.node, end.owed)))
 }
 
@@ -146,17 +189,21 @@ where
         limit,
         random_key,
         join,
+        rejoin,
     } = settings_at(rt, config)?;
     let node = open(rt, file.as_str(), settings, limit)?;
     let wait = wait_of(tick_ms);
     let bound = bind_datagrams(rt, address_of(settings.me), wait);
     let (inbound, link) = bound.map_err(|_| Ending::Socket)?;
+    let (rng, draws) = generators(rt, random_key)?;
+    let peers = peers_of(join.as_slice(), node.peers().as_slice());
+    let paces = paces_of(settings.period, rejoin, tick_ms);
     let mut outside = Outside {
         inbound: Again::new(inbound),
         link,
         doors: bind_doors(rt, logged, control, wait)?,
-        rng: generator(rt, random_key)?,
-        joining: Joining::new(join, settings.period, tick_ms),
+        rng,
+        joiner: Joiner::new(settings.me, settings.rules_of(), peers, paces, draws),
         tick: Duration::from_millis(tick_ms),
     };
     eras(logged, rt.alloc(), node, &mut outside)

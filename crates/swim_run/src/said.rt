@@ -6,7 +6,6 @@ use std::sync::atomic::{AtomicBool, Ordering};
 #[derive(Drop)]
 pub(crate) struct Said {
     stopping: AtomicBool,
-    joined: AtomicBool,
 }
 
 impl Said {
@@ -14,7 +13,6 @@ impl Said {
     pub(crate) fn new() -> Said {
         Said {
             stopping: AtomicBool::new(false),
-            joined: AtomicBool::new(false),
         }
     }
 
@@ -26,15 +24,5 @@ impl Said {
     /// Whether the line `stop` was answered.
     pub(crate) fn is_stopping(&self) -> bool {
         self.stopping.load(Ordering::SeqCst)
-    }
-
-    /// The program's own join was answered, and is not to be said again in another era.
-    pub(crate) fn join(&self) {
-        self.joined.store(true, Ordering::SeqCst);
-    }
-
-    /// Whether the program's own join was answered since this was asked.
-    pub(crate) fn take_joined(&self) -> bool {
-        self.joined.swap(false, Ordering::SeqCst)
     }
 }
