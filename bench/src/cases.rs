@@ -112,6 +112,14 @@ fn ticking(name: &str, bar: Option<f64>, period: u64, turns: u32) -> Case {
     )
 }
 
+/// The second tick of a member, at which it makes its first turn list.
+fn listing() -> Case {
+    Case {
+        warm: 1,
+        ..ticking("tick that lists 256 rows", Some(2.0), 2, 1)
+    }
+}
+
 /// The timed turns of a node: with those before them fewer than an era has.
 const CALLS: u32 = 700;
 
@@ -220,7 +228,8 @@ pub fn cases() -> Vec<Case> {
     cases.push(pinging("ping with 30 kept updates", 2.0, 30, NUMBER, 2_000));
     cases.push(newer_pinging());
     cases.push(ticking("tick over 256 rows", None, 1000, 3_000));
-    cases.push(ticking("tick of a probe, 256 rows", Some(0.9), 2, 500));
+    cases.push(ticking("tick of a probe, 256 rows", Some(1.5), 2, 500));
+    cases.push(listing());
     cases.push(picking(10, None, 140));
     cases.push(picking(100, None, 400));
     cases.push(picking(257, Some(1.5), 1_200));

@@ -1,8 +1,10 @@
-//! What both sides are given: the members, the texts and the words of the ticks.
+//! What both sides are given: the members, the texts and the deal of the ticks.
 
-use crate::plain::wire::{Datagram, Endpoint, Kind, Update, UpdateKind, Updates, encode};
+use crate::plain::wire::{Datagram, Endpoint, Kind, Rules, Update, UpdateKind, Updates, encode};
 
 pub const GROUP: u64 = 7;
+/// By which all members live.
+pub const RULES: Rules = Rules::One;
 pub const HELPERS: usize = 3;
 pub const PORT: u16 = 7000;
 /// The address of the member, 10.0.0.1.
@@ -35,6 +37,7 @@ pub fn ping(rows: u32, from: u32, count: u32, number: u64) -> Vec<u8> {
     }
     let (sender, subject) = (member(OTHERS), member(ME));
     let ping = Datagram {
+        version: RULES,
         kind: Kind::Ping,
         group: GROUP,
         seq: 1,
@@ -61,7 +64,10 @@ pub fn newer_text(text: &mut [u8], turn: u32) {
     }
 }
 
-/// The random word of a tick.
-pub fn word(turn: u32) -> u32 {
-    turn.wrapping_mul(2_654_435_761)
+/// The numbers 0 to 255 in some order: in which the members of a new turn list are probed.
+pub type Deal = [u8; 256];
+
+/// The deal of each tick.
+pub fn deal() -> Deal {
+    std::array::from_fn(|at| (13 + at) as u8)
 }

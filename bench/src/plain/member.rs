@@ -1,8 +1,10 @@
 //! The part of a member that pings and ticks need: the own number, table, buffer, the probe, the acks.
 
 use super::buffer::Buffer;
-use super::table::{Counts, Heard, Row, Table};
-use super::wire::{Datagram, Endpoint, Kind, NUMBER_MAX, Update, UpdateKind, WireFault, decode};
+use super::list::List;
+use super::table::{Counts, Heard, ROWS_MAX, Row, Table};
+use super::wire::{Datagram, Endpoint, Kind, NUMBER_MAX, Rules, Update, UpdateKind, WireFault, decode};
+use crate::scene::Deal;
 
 const LEAP: u64 = 1 << 20;
 const HELPERS_MAX: usize = 8;
@@ -18,6 +20,7 @@ pub struct Settings {
     pub suspect: u64,
     pub forget: u64,
     pub helpers: usize,
+    pub rules: Rules,
 }
 
 /// Why a datagram is not answered.
@@ -25,6 +28,7 @@ pub struct Settings {
 pub enum Refusal {
     BadDatagram(WireFault),
     OtherGroup,
+    OtherVersion,
     NotSender,
     FromSelf,
     Expelled,
@@ -39,6 +43,12 @@ struct Probe {
     seq: u32,
 }
 
+/// The members that are probed in this turn, and how many of them were probed or passed over.
+struct Turn {
+    listed: List<Endpoint, ROWS_MAX>,
+    place: usize,
+}
+
 /// A member of a group, as far as the cases need it.
 pub struct Member {
     settings: Settings,
@@ -46,6 +56,7 @@ pub struct Member {
     time: u64,
     seq: u32,
     probe: Option<Probe>,
+    turn: Turn,
     table: Table,
     buffer: Buffer,
 }
@@ -64,7 +75,11 @@ impl Member {
             time: 0,
             seq: 1,
             probe: None,
-            table: Table::new(),
+            turn: Turn {
+                listed: List::new(),
+                place: 0,
+            },
+            table: Table::new(settings.rules),
             buffer,
         }
     }
@@ -98,8 +113,9 @@ impl Member {
     /// A ping, a ping-req or an ack, with what waits.
     fn send(&mut self, kind: Kind, seq: u32, subject: Endpoint) -> Datagram {
         let updates = self.buffer.pick(self.limit());
-        let Settings { group, me, .. } = self.settings;
+        let Settings { group, me, rules, .. } = self.settings;
         Datagram {
+            version: rules,
             kind,
             group,
             seq,
@@ -112,6 +128,9 @@ impl Member {
     fn refuse(&self, from: Endpoint, datagram: &Datagram) -> Result<(), Refusal> {
         if datagram.group != self.settings.group {
             return Err(Refusal::OtherGroup);
+        }
+        if datagram.version != self.settings.rules {
+            return Err(Refusal::OtherVersion);
         }
         if datagram.sender != from {
             return Err(Refusal::NotSender);
@@ -129,11 +148,20 @@ impl Member {
         Ok(datagram)
     }
 
+    /// Whether an update of this kind about oneself asks for a greater number.
+    fn asks(&self, kind: UpdateKind) -> bool {
+        match kind {
+            UpdateKind::Alive => false,
+            UpdateKind::Suspect => true,
+            UpdateKind::Confirm => self.settings.rules == Rules::Two,
+        }
+    }
+
     /// The own number that the updates want, if any.
     pub fn wanted(&self, updates: &[Update]) -> Option<u64> {
         let own = updates.iter().filter(|update| {
             update.who == self.settings.me
-                && update.kind == UpdateKind::Suspect
+                && self.asks(update.kind)
                 && update.number >= self.number
                 && update.number - self.number <= LEAP
                 && update.number < NUMBER_MAX
@@ -149,7 +177,7 @@ impl Member {
         for update in updates {
             if update.who != me {
                 self.hear(*update);
-            } else if update.kind == UpdateKind::Confirm {
+            } else if update.kind == UpdateKind::Confirm && self.settings.rules == Rules::One {
                 expelled = true;
             }
         }
@@ -209,17 +237,39 @@ impl Member {
         }
     }
 
-    /// Pings the eligible member that the word chooses.
-    fn probe_next(&mut self, word: u32, sent: &mut impl FnMut(Endpoint, &Datagram)) {
-        self.probe = None;
-        let count = self.table.eligible_count();
-        if count == 0 {
-            return;
+    /// The next listed member that is eligible.
+    fn go_on(&mut self) -> Option<Endpoint> {
+        let left = &self.turn.listed.as_slice()[self.turn.place..];
+        let over = left
+            .iter()
+            .position(|who| self.table.get(*who).is_some_and(Row::is_eligible))?;
+        self.turn.place += over + 1;
+        Some(left[over])
+    }
+
+    /// Lists the eligible members in the order of the deal, and gives the first of them.
+    fn begin_turn(&mut self, deal: &Deal) -> Option<Endpoint> {
+        let mut names: List<Endpoint, ROWS_MAX> = List::new();
+        for row in self.table.rows().iter().filter(|row| row.is_eligible()) {
+            names.push(row.update.who);
         }
-        let Some(row) = self.table.eligible(word as usize % count) else {
+        self.turn.listed = List::new();
+        for number in deal {
+            if let Some(name) = names.as_slice().get(usize::from(*number)) {
+                self.turn.listed.push(*name);
+            }
+        }
+        let first = self.turn.listed.as_slice().first().copied();
+        self.turn.place = usize::from(first.is_some());
+        first
+    }
+
+    /// Pings the member to which the turn comes.
+    fn probe_next(&mut self, deal: &Deal, sent: &mut impl FnMut(Endpoint, &Datagram)) {
+        self.probe = None;
+        let Some(target) = self.go_on().or_else(|| self.begin_turn(deal)) else {
             return;
         };
-        let target = row.update.who;
         let seq = self.seq;
         self.seq = seq.wrapping_add(1);
         self.probe = Some(Probe { target, seq });
@@ -258,14 +308,14 @@ impl Member {
     }
 
     /// One tick, with what it sends.
-    pub fn tick(&mut self, word: u32, mut sent: impl FnMut(Endpoint, &Datagram)) {
+    pub fn tick(&mut self, deal: &Deal, mut sent: impl FnMut(Endpoint, &Datagram)) {
         self.time += 1;
         self.age();
         let Settings { period, direct, .. } = self.settings;
         let moment = self.time % period;
         if moment == 0 {
             self.blame();
-            self.probe_next(word, &mut sent);
+            self.probe_next(deal, &mut sent);
         }
         if moment == direct {
             self.ask_all(&mut sent);

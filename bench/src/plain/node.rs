@@ -5,6 +5,7 @@ use super::list::List;
 use super::member::{Member, Refusal, Settings};
 use super::table::Counts;
 use super::wire::{Datagram, Endpoint, Packet, Update, encode};
+use crate::scene::Deal;
 
 const CALLERS: usize = 16;
 
@@ -16,7 +17,7 @@ pub struct Tag {
 }
 
 pub enum Event {
-    Tick { word: u32 },
+    Tick { deal: Deal },
     Datagram { from: Endpoint, bytes: List<u8, 513> },
 }
 
@@ -186,9 +187,9 @@ impl Node {
     fn step(&mut self, event: &Event) -> (Save, Answer) {
         let mut answer = Answer::new();
         let save = match event {
-            Event::Tick { word } => {
+            Event::Tick { deal } => {
                 let outs = &mut answer.outs;
-                self.member.tick(*word, |to, datagram| {
+                self.member.tick(deal, |to, datagram| {
                     outs.push(Out {
                         to,
                         datagram: *datagram,

@@ -2,7 +2,7 @@
 
 use super::member::{Member, Settings};
 use super::wire::{DATAGRAM_MAX, Endpoint, Packet, encode};
-use crate::scene::{GROUP, HELPERS, ME, OTHERS, PORT};
+use crate::scene::{Deal, GROUP, HELPERS, ME, OTHERS, PORT, RULES, deal};
 use std::hint::black_box;
 use std::sync::atomic::{AtomicBool, Ordering};
 use std::sync::mpsc::{Receiver, SyncSender, TryRecvError, TrySendError, sync_channel};
@@ -25,7 +25,7 @@ struct Status {
 struct Entry {
     caller: u32,
     turn: u32,
-    word: u32,
+    deal: Deal,
     sent: Vec<(Endpoint, Packet)>,
     status: Status,
 }
@@ -50,6 +50,7 @@ impl Node {
             suspect: 50,
             forget: 6000,
             helpers: HELPERS,
+            rules: RULES,
         };
         Node {
             member: Member::new(settings, 1),
@@ -57,10 +58,10 @@ impl Node {
         }
     }
 
-    fn tick(&mut self, caller: u32, turn: u32, word: u32) -> Status {
+    fn tick(&mut self, caller: u32, turn: u32, deal: Deal) -> Status {
         let mut sent = Vec::new();
         self.member
-            .tick(word, |to, datagram| sent.push((to, encode(datagram))));
+            .tick(&deal, |to, datagram| sent.push((to, encode(datagram))));
         let status = Status {
             number: self.member.number(),
             eligible: self.member.eligible_count(),
@@ -69,7 +70,7 @@ impl Node {
         self.journal.push(Entry {
             caller,
             turn,
-            word,
+            deal,
             sent,
             status,
         });
@@ -81,7 +82,8 @@ impl Node {
         let parts = self.journal.iter().map(|entry| {
             let status = entry.status;
             let counts = status.eligible + status.length + entry.sent.len();
-            u64::from(entry.caller ^ entry.turn ^ entry.word) + status.number + counts as u64
+            let first = u32::from(entry.deal[0]);
+            u64::from(entry.caller ^ entry.turn ^ first) + status.number + counts as u64
         });
         parts.sum()
     }
@@ -101,9 +103,9 @@ impl Shared {
         }
     }
 
-    fn call(&self, caller: u32, turn: u32, word: u32) -> Status {
+    fn call(&self, caller: u32, turn: u32, deal: Deal) -> Status {
         let mut node = self.node.lock().unwrap_or_else(PoisonError::into_inner);
-        let status = node.tick(caller, turn, word);
+        let status = node.tick(caller, turn, deal);
         *self.status.write().unwrap_or_else(PoisonError::into_inner) = status;
         status
     }
@@ -136,8 +138,9 @@ fn on_threads(threads: u32, work: impl Fn(u32) + Sync) -> Duration {
 pub fn applied(_threads: u32, count: u32) -> Duration {
     let mut node = Node::new();
     let start = Instant::now();
-    for word in 0..count {
-        black_box(node.tick(0, word + 1, word));
+    let deal = deal();
+    for turn in 0..count {
+        black_box(node.tick(0, turn + 1, black_box(deal)));
     }
     let took = start.elapsed();
     black_box(node.sum());
@@ -148,8 +151,9 @@ pub fn applied(_threads: u32, count: u32) -> Duration {
 pub fn called(threads: u32, count: u32) -> Duration {
     let shared = Shared::new();
     let took = on_threads(threads, |caller| {
-        for word in 0..count {
-            black_box(shared.call(caller, word + 1, word));
+        let deal = deal();
+        for turn in 0..count {
+            black_box(shared.call(caller, turn + 1, black_box(deal)));
         }
     });
     let node = shared.node.lock().unwrap_or_else(PoisonError::into_inner);
@@ -169,10 +173,11 @@ pub fn read_beside_calls(threads: u32, count: u32) -> Duration {
     let is_over = AtomicBool::new(false);
     thread::scope(|scope| {
         scope.spawn(|| {
-            let mut word = 0;
+            let deal = deal();
+            let mut turn = 0_u32;
             while !is_over.load(Ordering::SeqCst) {
-                black_box(shared.call(0, word, word));
-                word = word.wrapping_add(1);
+                black_box(shared.call(0, turn, black_box(deal)));
+                turn = turn.wrapping_add(1);
             }
         });
         let took = on_threads(threads, |_| shared.read_all(count));

@@ -1,15 +1,17 @@
 //! What is known of each other member.
 
-use super::wire::{Endpoint, Update, UpdateKind};
+use super::wire::{Endpoint, Rules, Update, UpdateKind};
 
 pub const ROWS_MAX: usize = 256;
 
-/// Whether the new update overrides the old one about the same member.
-pub fn overrides(new: &Update, old: &Update) -> bool {
-    match (new.kind, old.kind) {
-        (_, UpdateKind::Confirm) => false,
-        (UpdateKind::Confirm, _) => true,
-        (UpdateKind::Suspect, UpdateKind::Alive) => new.number >= old.number,
+/// Whether the new update overrides the old one about the same member, by these rules.
+pub fn overrides(new: &Update, old: &Update, rules: Rules) -> bool {
+    match (rules, new.kind, old.kind) {
+        (Rules::One, _, UpdateKind::Confirm) => false,
+        (Rules::One, UpdateKind::Confirm, _) => true,
+        (Rules::Two, _, UpdateKind::Confirm) => new.number > old.number,
+        (Rules::Two, UpdateKind::Confirm, _) => new.number >= old.number,
+        (_, UpdateKind::Suspect, UpdateKind::Alive) => new.number >= old.number,
         _ => new.number > old.number,
     }
 }
@@ -61,14 +63,16 @@ pub struct Table {
     rows: [Row; ROWS_MAX],
     len: usize,
     counts: Counts,
+    rules: Rules,
 }
 
 impl Table {
-    pub fn new() -> Table {
+    pub fn new(rules: Rules) -> Table {
         Table {
             rows: [Row::default(); ROWS_MAX],
             len: 0,
             counts: Counts::default(),
+            rules,
         }
     }
 
@@ -95,7 +99,7 @@ impl Table {
     pub fn hear(&mut self, update: Update, now: u64) -> Heard {
         match self.find(update.who) {
             Ok(at) => {
-                if !overrides(&update, &self.rows[at].update) {
+                if !overrides(&update, &self.rows[at].update, self.rules) {
                     return Heard::Kept;
                 }
                 *self.counts.of(self.rows[at].update.kind) -= 1;
@@ -141,10 +145,5 @@ impl Table {
                 at += 1;
             }
         }
-    }
-
-    /// The eligible row with this number, from 0.
-    pub fn eligible(&self, number: usize) -> Option<&Row> {
-        self.rows().iter().filter(|row| row.is_eligible()).nth(number)
     }
 }

@@ -40,6 +40,14 @@ pub enum Kind {
     Page,
 }
 
+/// The rules by which a member lives, which are the version of its datagrams.
+#[derive(Clone, Copy, Debug, Default, PartialEq, Eq)]
+pub enum Rules {
+    #[default]
+    One,
+    Two,
+}
+
 /// Why bytes are no datagram: the first that holds, in this order.
 #[derive(Clone, Copy, Debug, PartialEq, Eq)]
 pub enum WireFault {
@@ -60,6 +68,7 @@ pub type Updates = List<Update, UPDATES_MAX>;
 
 #[derive(Clone, Copy, Default)]
 pub struct Datagram {
+    pub version: Rules,
     pub kind: Kind,
     pub group: u64,
     pub seq: u32,
@@ -94,6 +103,14 @@ fn number(bytes: &[u8]) -> u64 {
     ])
 }
 
+fn rules_of(code: u8) -> Option<Rules> {
+    match code {
+        1 => Some(Rules::One),
+        2 => Some(Rules::Two),
+        _ => None,
+    }
+}
+
 fn kind_of(code: u8) -> Option<Kind> {
     match code {
         1 => Some(Kind::Ping),
@@ -105,8 +122,8 @@ fn kind_of(code: u8) -> Option<Kind> {
     }
 }
 
-/// The kind of a text without one of the faults of the head's first seven bytes and its length.
-fn shape(bytes: &[u8]) -> Result<Kind, WireFault> {
+/// The version and the kind of a text without one of the faults of the head's first seven bytes and its length.
+fn shape(bytes: &[u8]) -> Result<(Rules, Kind), WireFault> {
     if bytes.len() < HEAD_LEN {
         return Err(WireFault::TooShort);
     }
@@ -116,14 +133,12 @@ fn shape(bytes: &[u8]) -> Result<Kind, WireFault> {
     if &bytes[..4] != b"SWIM" {
         return Err(WireFault::Magic);
     }
-    if bytes[4] != 1 {
-        return Err(WireFault::Version);
-    }
+    let version = rules_of(bytes[4]).ok_or(WireFault::Version)?;
     let kind = kind_of(bytes[5]).ok_or(WireFault::Kind)?;
     if bytes.len() != HEAD_LEN + UPDATE_LEN * usize::from(bytes[6]) {
         return Err(WireFault::Count);
     }
-    Ok(kind)
+    Ok((version, kind))
 }
 
 /// The faults of the fields, in their order, each over all updates.
@@ -166,10 +181,11 @@ fn read_updates(rest: &[u8]) -> Updates {
 
 /// The datagram that the bytes spell, or the first fault in the order of `WireFault`.
 pub fn decode(bytes: &[u8]) -> Result<Datagram, WireFault> {
-    let kind = shape(bytes)?;
+    let (version, kind) = shape(bytes)?;
     let (head, rest) = bytes.split_at(HEAD_LEN);
     check_fields(kind, head, rest)?;
     Ok(Datagram {
+        version,
         kind,
         group: number(&head[8..16]),
         seq: u32::from_be_bytes([head[16], head[17], head[18], head[19]]),
@@ -198,7 +214,10 @@ pub fn put_update(into: &mut [u8], update: &Update) {
 
 fn put_head(head: &mut [u8], datagram: &Datagram) {
     head[..4].copy_from_slice(b"SWIM");
-    head[4] = 1;
+    head[4] = match datagram.version {
+        Rules::One => 1,
+        Rules::Two => 2,
+    };
     head[5] = match datagram.kind {
         Kind::Ping => 1,
         Kind::PingReq => 2,

@@ -6,7 +6,7 @@ use super::member::{Member, Settings};
 use super::node::{Entry, Event, Link, Node, Reply, Save, Tag};
 use super::table::{Heard, Table};
 use super::wire::{Endpoint, Packet, Update, UpdateKind, decode, encode};
-use crate::scene::{ERA, GROUP, HELPERS, ME, OTHERS, PORT, TEXT_LEN, newer_text, word};
+use crate::scene::{ERA, GROUP, HELPERS, ME, OTHERS, PORT, RULES, TEXT_LEN, deal, newer_text};
 use std::hint::black_box;
 
 const PEER: Endpoint = Endpoint {
@@ -52,6 +52,7 @@ pub fn settings_of(period: u64) -> Settings {
         suspect: 100_000,
         forget: 1_000_000,
         helpers: HELPERS,
+        rules: RULES,
     }
 }
 
@@ -93,9 +94,10 @@ pub fn newer_ping_turns(before: &[u8], text: &mut [u8], turns: u32, out: &mut [u
 /// Takes ticks, and gives the count of datagrams that were sent.
 pub fn tick_turns(before: &[u8], period: u64, turns: u32, out: &mut [u8]) -> u64 {
     let mut member = full_member(before, period);
+    let deal = deal();
     let mut sent = 0;
-    for turn in 0..turns {
-        member.tick(word(turn), |to, datagram| {
+    for _ in 0..turns {
+        member.tick(black_box(&deal), |to, datagram| {
             black_box(to);
             write(&encode(datagram), out);
             sent += 1;
@@ -105,7 +107,7 @@ pub fn tick_turns(before: &[u8], period: u64, turns: u32, out: &mut [u8]) -> u64
 }
 
 fn full_table(before: &[u8]) -> Table {
-    let mut table = Table::new();
+    let mut table = Table::new(RULES);
     for text in before.chunks_exact(TEXT_LEN) {
         if let Ok(datagram) = decode(text) {
             for update in datagram.updates.as_slice() {
@@ -256,7 +258,7 @@ fn numbers_of(entry: &Entry) -> [u64; 16] {
         lost,
     } = &entry.reply;
     let source = match &entry.event {
-        Event::Tick { word } => *word,
+        Event::Tick { deal } => u32::from(deal[0]),
         Event::Datagram { from, .. } => from.address,
     };
     let target = entry.outs.as_slice().last().map_or(0, |out| out.to.address);
@@ -331,7 +333,6 @@ pub fn node_newer_ping_turns(before: &[u8], text: &mut [u8], turns: u32, out: &m
 
 /// Ticks.
 pub fn node_tick_turns(before: &[u8], period: u64, turns: u32, out: &mut [u8]) -> u64 {
-    node_turns(before, period, turns, out, |turn| Event::Tick {
-        word: word(turn),
-    })
+    let deal = deal();
+    node_turns(before, period, turns, out, |_| Event::Tick { deal })
 }

@@ -3,9 +3,11 @@
 use super::buffer::Buffer;
 use super::table::{Heard, ROWS_MAX, Table};
 use super::wire::{
-    ACK, ALIVE, CONFIRM, Datagram, Head, NUMBER_MAX, PING, PING_REQ, Room, SUSPECT, Update, decode,
+    ACK, ALIVE, CONFIRM, Datagram, Head, NUMBER_MAX, PING, PING_REQ, Room, Rules, SUSPECT, Update, decode,
+    version_of,
 };
 use crate::plain::member::{Refusal, Settings};
+use crate::scene::Deal;
 
 const LEAP: u64 = 1 << 20;
 const HELPERS_MAX: usize = 8;
@@ -28,6 +30,10 @@ pub struct Member {
     asks_at: u64,
     seq: u32,
     probe: Option<(u64, u32)>,
+    /// Who is probed in this turn, how many they are, and how many of them were probed or passed over.
+    listed: [u64; ROWS_MAX],
+    count: usize,
+    place: usize,
     table: Table,
     buffer: Buffer,
 }
@@ -45,7 +51,10 @@ impl Member {
             asks_at: settings.direct,
             seq: 1,
             probe: None,
-            table: Table::new(settings.suspect, settings.forget),
+            listed: [0; ROWS_MAX],
+            count: 0,
+            place: 0,
+            table: Table::new(settings.suspect, settings.forget, settings.rules),
             buffer,
         }
     }
@@ -70,6 +79,7 @@ impl Member {
         let bits = usize::BITS - (1 + self.table.eligible_count()).leading_zeros();
         let count = self.buffer.pick((self.settings.lambda * bits) as usize, room);
         let head = Head {
+            version: version_of(self.settings.rules),
             kind,
             group: self.settings.group,
             seq,
@@ -85,6 +95,9 @@ impl Member {
         if datagram.group() != self.settings.group {
             return Err(Refusal::OtherGroup);
         }
+        if datagram.version() != version_of(self.settings.rules) {
+            return Err(Refusal::OtherVersion);
+        }
         if datagram.sender() != from {
             return Err(Refusal::NotSender);
         }
@@ -94,11 +107,16 @@ impl Member {
         Ok(datagram)
     }
 
+    /// Whether an update of this kind about oneself asks for a greater number.
+    fn asks(&self, kind: u8) -> bool {
+        kind == SUSPECT || (kind == CONFIRM && self.settings.rules == Rules::Two)
+    }
+
     /// The own number that the updates want, or 0.
     pub fn wanted(&self, datagram: Datagram<'_>) -> u64 {
         let own = datagram.updates().filter(|update| {
             update.who() == self.me
-                && update.kind() == SUSPECT
+                && self.asks(update.kind())
                 && update.number >= self.number
                 && update.number - self.number <= LEAP
                 && update.number < NUMBER_MAX
@@ -113,7 +131,7 @@ impl Member {
             if update.who() != self.me {
                 self.hear(update);
             } else {
-                is_expelled |= update.kind() == CONFIRM;
+                is_expelled |= update.kind() == CONFIRM && self.settings.rules == Rules::One;
             }
         }
         if is_expelled {
@@ -168,17 +186,42 @@ impl Member {
         }
     }
 
-    /// Pings the eligible member that the word chooses.
-    fn probe_next(&mut self, word: u32, sink: &mut impl Sink) {
-        self.probe = None;
-        let count = self.table.eligible_count();
-        if count == 0 {
-            return;
+    /// The next listed member that is eligible.
+    fn go_on(&mut self) -> Option<u64> {
+        let left = &self.listed[self.place..self.count];
+        let over = left
+            .iter()
+            .position(|who| self.table.get(*who).is_some_and(|row| row.kind() != CONFIRM))?;
+        self.place += over + 1;
+        Some(left[over])
+    }
+
+    /// Lists the eligible members in the order of the deal, and gives the first of them.
+    #[cold]
+    fn begin_turn(&mut self, deal: &Deal) -> Option<u64> {
+        let (mut names, mut eligible) = ([0; ROWS_MAX], 0);
+        for name in self.table.eligible() {
+            names[eligible] = name;
+            eligible += 1;
         }
-        let Some(row) = self.table.eligible(word as usize % count) else {
+        self.count = 0;
+        for number in deal {
+            if usize::from(*number) < eligible {
+                self.listed[self.count] = names[usize::from(*number)];
+                self.count += 1;
+            }
+        }
+        self.place = self.count.min(1);
+        self.listed[..self.count].first().copied()
+    }
+
+    /// Pings the member to which the turn comes.
+    fn probe_next(&mut self, deal: &Deal, sink: &mut impl Sink) {
+        self.probe = None;
+        let Some(target) = self.go_on().or_else(|| self.begin_turn(deal)) else {
             return;
         };
-        let (target, seq) = (row.who(), self.seq);
+        let seq = self.seq;
         self.seq = seq.wrapping_add(1);
         self.probe = Some((target, seq));
         sink.send(target, |room| self.write(PING, seq, target, room));
@@ -216,7 +259,7 @@ impl Member {
     }
 
     /// One tick. It counts to the next probe, and divides nothing. Rows are walked only when one is due.
-    pub fn tick(&mut self, word: u32, sink: &mut impl Sink) {
+    pub fn tick(&mut self, deal: &Deal, sink: &mut impl Sink) {
         self.time += 1;
         if self.table.is_due(self.time) {
             self.age();
@@ -225,7 +268,7 @@ impl Member {
         if probes {
             self.probes_at += self.settings.period;
             self.blame();
-            self.probe_next(word, sink);
+            self.probe_next(deal, sink);
         }
         if asks {
             self.asks_at += self.settings.period;

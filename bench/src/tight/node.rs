@@ -5,15 +5,17 @@ use super::member::{Member, Sink};
 use super::wire::{ALIVE, CONFIRM, DATAGRAM_MAX, Room, SUSPECT};
 use crate::plain::member::{Refusal, Settings};
 use crate::plain::node::{Fault, Tag};
+use crate::scene::Deal;
 
 const CALLERS: usize = 16;
 const OUTS_MAX: usize = 10;
 const RECEIVED_MAX: usize = 513;
+const DEAL_LEN: u16 = 256;
 
 /// An event, whose bytes are lent.
 #[derive(Clone, Copy)]
 pub enum Event<'a> {
-    Tick { word: u32 },
+    Tick { deal: &'a Deal },
     Datagram { from: u64, bytes: &'a [u8] },
 }
 
@@ -35,15 +37,16 @@ pub struct Reply {
     pub lost: u8,
 }
 
-/// What an entry has beside bytes: these follow it, the received ones and then each datagram behind its `Sent`.
+/// What an entry has beside bytes: these follow it, the received ones or the deal, and then each datagram behind its
+/// `Sent`.
 #[derive(Clone, Copy)]
 pub struct Entry {
     pub tag: Tag,
     pub granted: u64,
     pub is_saved: bool,
-    /// Where the datagram came from, or the word of a tick.
+    /// Where the datagram came from.
     pub from: u64,
-    /// The count of received bytes. None: a tick.
+    /// The count of received bytes. None: a tick, whose deal stands in their place.
     pub received: Option<u16>,
     pub outs: u8,
     /// A bit for each datagram that was taken.
@@ -153,12 +156,12 @@ impl Node {
         self.turns[usize::from(caller)]
     }
 
-    /// The last entry: what it says, the received bytes, and the datagrams with what stands before them.
+    /// The last entry: what it says, the received bytes or the deal, and the datagrams with what stands before them.
     pub fn last(&self) -> Option<(Entry, &[u8], &[u8])> {
         let bytes = &self.journal.bytes[*self.journal.starts.last()? as usize..];
         // SAFETY: an entry stands at each start.
         let entry = unsafe { bytes.as_ptr().cast::<Entry>().read_unaligned() };
-        let (received, sent) = bytes[ENTRY_LEN..].split_at(usize::from(entry.received.unwrap_or(0)));
+        let (received, sent) = bytes[ENTRY_LEN..].split_at(usize::from(entry.received.unwrap_or(DEAL_LEN)));
         Some((entry, received, sent))
     }
 
@@ -220,7 +223,7 @@ impl Node {
         self.judge(tag)?;
         let start = self.journal.bytes.len();
         let (received, from) = match event {
-            Event::Tick { word } => (&[][..], u64::from(word)),
+            Event::Tick { deal } => (&deal[..], 0),
             Event::Datagram { from, bytes } => (&bytes[..bytes.len().min(RECEIVED_MAX)], from),
         };
         // SAFETY: the most bytes of an entry were reserved.
@@ -237,8 +240,8 @@ impl Node {
             taken: 0,
         };
         let (is_saved, note) = match event {
-            Event::Tick { word } => {
-                self.member.tick(word, &mut outs);
+            Event::Tick { deal } => {
+                self.member.tick(deal, &mut outs);
                 (false, None)
             }
             Event::Datagram { from, .. } => self.receive(from, received, &mut outs),

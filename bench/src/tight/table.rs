@@ -1,6 +1,6 @@
 //! What is known of each other member: rows that stay where they are, found by hash, and their order beside them.
 
-use super::wire::{ALIVE, CONFIRM, SUSPECT, Update};
+use super::wire::{ALIVE, CONFIRM, Rules, SUSPECT, Update};
 
 pub const ROWS_MAX: usize = 256;
 
@@ -10,12 +10,14 @@ const PLACES: usize = 1024;
 /// No row.
 const FREE: u16 = u16::MAX;
 
-/// Whether the new update overrides the old one about the same member.
-fn overrides(new: Update, old: Update) -> bool {
-    match (new.kind(), old.kind()) {
-        (_, CONFIRM) => false,
-        (CONFIRM, _) => true,
-        (SUSPECT, ALIVE) => new.number >= old.number,
+/// Whether the new update overrides the old one about the same member, by these rules.
+fn overrides(new: Update, old: Update, rules: Rules) -> bool {
+    match (rules, new.kind(), old.kind()) {
+        (Rules::One, _, CONFIRM) => false,
+        (Rules::One, CONFIRM, _) => true,
+        (Rules::Two, _, CONFIRM) => new.number > old.number,
+        (Rules::Two, CONFIRM, _) => new.number >= old.number,
+        (_, SUSPECT, ALIVE) => new.number >= old.number,
         _ => new.number > old.number,
     }
 }
@@ -41,6 +43,7 @@ pub struct Table {
     counts: [usize; 4],
     suspect: u64,
     forget: u64,
+    rules: Rules,
     /// No row is due before this tick.
     due: u64,
 }
@@ -50,7 +53,7 @@ fn place_of(who: u64) -> usize {
 }
 
 impl Table {
-    pub fn new(suspect: u64, forget: u64) -> Table {
+    pub fn new(suspect: u64, forget: u64, rules: Rules) -> Table {
         Table {
             places: [FREE; PLACES],
             order: [0; ROWS_MAX],
@@ -61,6 +64,7 @@ impl Table {
             counts: [0; 4],
             suspect,
             forget,
+            rules,
             due: u64::MAX,
         }
     }
@@ -127,7 +131,7 @@ impl Table {
         match self.find(update.who()) {
             Ok(row) => {
                 let old = self.row(row);
-                if !overrides(update, old) {
+                if !overrides(update, old, self.rules) {
                     return Heard::Kept;
                 }
                 self.counts[usize::from(old.kind())] -= 1;
@@ -209,15 +213,10 @@ impl Table {
         self.row(row).kind() != CONFIRM
     }
 
-    /// The eligible row with this number, from 0.
-    pub fn eligible(&self, number: usize) -> Option<Update> {
-        let row = if self.eligible_count() == self.len {
-            self.rows().get(number).copied()
-        } else {
-            let mut eligible = self.rows().iter().filter(|row| self.is_eligible(**row));
-            eligible.nth(number).copied()
-        };
-        row.map(|row| self.row(row))
+    /// The eligible members.
+    pub fn eligible(&self) -> impl Iterator<Item = u64> {
+        let rows = self.rows().iter().filter(|row| self.is_eligible(**row));
+        rows.map(|row| self.row(*row).who())
     }
 
     /// The eligible members after this one, around the end of the rows.

@@ -1,11 +1,11 @@
 //! The tight side beside the plain one, where no case goes: refused texts, and rows that expire and are forgotten.
 
 use super::member::{Member, Sink};
-use super::wire::{self, DATAGRAM_MAX, Room};
+use super::wire::{self, DATAGRAM_MAX, Room, Rules};
 use crate::plain::member::{self as plain, Settings};
 use crate::plain::wire::{Endpoint, decode, encode};
 use crate::plain::work::settings_of;
-use crate::scene::{ME, OTHERS, PORT, ping};
+use crate::scene::{ME, OTHERS, PORT, deal, ping};
 
 /// Numbers that look random.
 struct Numbers(u64);
@@ -32,25 +32,29 @@ impl Sink for Kept {
     }
 }
 
-/// A ping with updates of all kinds about few members, this one among them.
-fn mixed_ping(numbers: &mut Numbers) -> Vec<u8> {
+/// A ping with updates of all kinds about few members, this one among them. Few pings are of other rules than these.
+fn mixed_ping(numbers: &mut Numbers, rules: Rules) -> Vec<u8> {
     let mut text = ping(40, numbers.below(40) as u32, numbers.below(31) as u32, 9);
+    text[4] = wire::version_of(rules);
+    if numbers.below(60) == 0 {
+        text[4] = 3 - text[4];
+    }
     for part in text[32..].chunks_exact_mut(16) {
         part[0] = 1 + numbers.below(5).min(2) as u8;
         part[8..].copy_from_slice(&numbers.below(20).to_be_bytes());
         if numbers.below(60) == 0 {
-            part[0] = 2;
+            part[0] = 2 + numbers.below(2) as u8;
             part[2..6].copy_from_slice(&ME.to_be_bytes());
         }
     }
     text
 }
 
-#[test]
-fn members_send_the_same() {
+fn members_send_the_same_by(rules: Rules) {
     let settings = Settings {
         suspect: 7,
         forget: 11,
+        rules,
         ..settings_of(3)
     };
     let peer = Endpoint {
@@ -63,13 +67,14 @@ fn members_send_the_same() {
     for _ in 0..20_000 {
         let (mut from_plain, mut from_tight) = (Vec::new(), Kept::default());
         if numbers.below(2) == 0 {
-            let word = numbers.below(1 << 31) as u32;
-            plain.tick(word, |to, datagram| {
+            let mut deal = deal();
+            deal.rotate_left(numbers.below(256) as usize);
+            plain.tick(&deal, |to, datagram| {
                 from_plain.push((to.address, encode(datagram).as_slice().to_vec()))
             });
-            tight.tick(word, &mut from_tight);
+            tight.tick(&deal, &mut from_tight);
         } else {
-            let text = mixed_ping(&mut numbers);
+            let text = mixed_ping(&mut numbers, rules);
             let answer = plain.receive(peer, &text, 1_000);
             let heard = tight.receive(wire::member(OTHERS, PORT), &text, 1_000, &mut from_tight);
             assert_eq!(answer.map(|_| ()), heard);
@@ -84,6 +89,12 @@ fn members_send_the_same() {
         );
     }
     assert!(plain.number() > 1);
+}
+
+#[test]
+fn members_send_the_same() {
+    members_send_the_same_by(Rules::One);
+    members_send_the_same_by(Rules::Two);
 }
 
 #[test]

@@ -3,7 +3,7 @@
 use crate::plain::wire as plain;
 use std::mem::MaybeUninit;
 
-pub use crate::plain::wire::{DATAGRAM_MAX, NUMBER_MAX, UPDATES_MAX, WireFault};
+pub use crate::plain::wire::{DATAGRAM_MAX, NUMBER_MAX, Rules, UPDATES_MAX, WireFault};
 
 pub const HEAD_LEN: usize = 32;
 pub const UPDATE_LEN: usize = 16;
@@ -13,6 +13,7 @@ pub const PING_REQ: u8 = 2;
 pub const ACK: u8 = 3;
 const JOIN: u8 = 4;
 const KIND_MAX: u8 = 5;
+const VERSION_MAX: u8 = 2;
 
 pub const ALIVE: u8 = 1;
 pub const SUSPECT: u8 = 2;
@@ -76,6 +77,10 @@ unsafe fn put_word(at: *mut u8, word: u64) {
 pub struct Datagram<'a>(&'a [u8]);
 
 impl<'a> Datagram<'a> {
+    pub fn version(self) -> u8 {
+        self.0[4]
+    }
+
     pub fn kind(self) -> u8 {
         self.0[5]
     }
@@ -122,8 +127,9 @@ fn is_datagram(bytes: &[u8]) -> bool {
     }
     // SAFETY: the head is there.
     let first = unsafe { word(bytes, 0) };
-    let (kind, count) = ((first >> 16) as u8, (first >> 8) as u8);
-    if first & 0xffff_ffff_ff00_00ff != 0x5357_494d_0100_0000
+    let (version, kind, count) = ((first >> 24) as u8, (first >> 16) as u8, (first >> 8) as u8);
+    if first & 0xffff_ffff_0000_00ff != 0x5357_494d_0000_0000
+        || version.wrapping_sub(1) >= VERSION_MAX
         || kind.wrapping_sub(1) >= KIND_MAX
         || bytes.len() != HEAD_LEN + UPDATE_LEN * usize::from(count)
     {
@@ -149,9 +155,18 @@ pub fn decode(bytes: &[u8]) -> Result<Datagram<'_>, WireFault> {
     }
 }
 
+/// The version of the datagrams of a member that lives by these rules.
+pub fn version_of(rules: Rules) -> u8 {
+    match rules {
+        Rules::One => 1,
+        Rules::Two => 2,
+    }
+}
+
 /// What a head says beside the count.
 #[derive(Clone, Copy)]
 pub struct Head {
+    pub version: u8,
     pub kind: u8,
     pub group: u64,
     pub seq: u32,
@@ -163,7 +178,8 @@ impl Head {
     /// Writes the head of a datagram with so many updates, and gives the length of the whole.
     pub fn put(self, room: &mut Room, count: usize) -> usize {
         let at = room.as_mut_ptr().cast::<u8>();
-        let first = 0x5357_494d_0100_0000 | u64::from(self.kind) << 16 | (count as u64) << 8;
+        let codes = u64::from(self.version) << 24 | u64::from(self.kind) << 16;
+        let first = 0x5357_494d_0000_0000 | codes | (count as u64) << 8;
         // SAFETY: the head has 32 bytes, and the room more.
         unsafe {
             put_word(at, first);

@@ -10,7 +10,7 @@ use super::wire::{
 };
 use crate::plain::node::Tag;
 use crate::plain::work::settings_of;
-use crate::scene::{ERA, ME, OTHERS, PORT, TEXT_LEN, newer_text, word};
+use crate::scene::{ERA, ME, OTHERS, PORT, RULES, TEXT_LEN, deal, newer_text};
 use std::hint::black_box;
 use std::mem;
 
@@ -40,6 +40,7 @@ struct Parts {
 fn parts_of(datagram: Datagram<'_>) -> Parts {
     let mut parts = Parts {
         head: Head {
+            version: datagram.version(),
             kind: datagram.kind(),
             group: datagram.group(),
             seq: datagram.seq(),
@@ -135,14 +136,15 @@ pub fn newer_ping_turns(before: &[u8], text: &mut [u8], turns: u32, out: &mut [u
 pub fn tick_turns(before: &[u8], period: u64, turns: u32, out: &mut [u8]) -> u64 {
     let mut member = full_member(before, period);
     let mut sink = Over { out, sent: 0 };
-    for turn in 0..turns {
-        member.tick(word(turn), &mut sink);
+    let deal = deal();
+    for _ in 0..turns {
+        member.tick(black_box(&deal), &mut sink);
     }
     sink.sent
 }
 
 fn full_table(before: &[u8]) -> Table {
-    let mut table = Table::new(100_000, 1_000_000);
+    let mut table = Table::new(100_000, 1_000_000, RULES);
     for text in before.chunks_exact(TEXT_LEN) {
         if let Ok(datagram) = decode(text) {
             for update in datagram.updates() {
@@ -264,15 +266,14 @@ fn full_node(memory: &mut Memory, before: &[u8], period: u64) -> Node {
     node
 }
 
-/// The numbers of an entry whose last datagram went there. No case asks for a page.
-fn numbers_of(entry: &Entry, target: u64) -> [u64; 16] {
+/// The numbers of an entry with this source, whose last datagram went there. No case asks for a page.
+fn numbers_of(entry: &Entry, source: u64, target: u64) -> [u64; 16] {
     let Reply {
         status,
         note,
         sent,
         lost,
     } = entry.reply;
-    let is_tick = entry.received.is_none();
     [
         u64::from(entry.tag.turn),
         entry.granted,
@@ -288,7 +289,7 @@ fn numbers_of(entry: &Entry, target: u64) -> [u64; 16] {
         u64::from(lost),
         u64::from(note.is_some()),
         0,
-        if is_tick { entry.from } else { entry.from >> 16 },
+        source,
         target >> 16,
     ]
 }
@@ -299,7 +300,11 @@ fn write_last(node: &Node, link: &Link, out: &mut [u8]) {
     let Some((entry, received, mut sent)) = node.last() else {
         return;
     };
-    out[512..512 + received.len()].copy_from_slice(received);
+    let mut source = entry.from >> 16;
+    match entry.received {
+        Some(_) => out[512..512 + received.len()].copy_from_slice(received),
+        None => source = u64::from(received[0]),
+    }
     let mut target = 0;
     for _ in 0..entry.outs {
         // SAFETY: it stands before each datagram.
@@ -309,7 +314,7 @@ fn write_last(node: &Node, link: &Link, out: &mut [u8]) {
         target = before.to;
         sent = rest;
     }
-    for (number, part) in numbers_of(&entry, target)
+    for (number, part) in numbers_of(&entry, source, target)
         .iter()
         .zip(out[1536..].chunks_exact_mut(8))
     {
@@ -359,7 +364,8 @@ pub fn node_newer_ping_turns(
 
 /// Ticks.
 pub fn node_tick_turns(memory: &mut Memory, before: &[u8], period: u64, turns: u32, out: &mut [u8]) -> u64 {
-    node_turns(memory, before, period, turns, out, |node, link, turn| {
-        call(node, link, Event::Tick { word: word(turn) })
+    let deal = deal();
+    node_turns(memory, before, period, turns, out, |node, link, _| {
+        call(node, link, Event::Tick { deal: &deal })
     })
 }

@@ -6,7 +6,7 @@ ghost use Rattle.swim_node.specs.declared.entry.Entry.{Entry as Entries};
 ghost use Rattle.swim_wire.specs.declared.datagram.TheConstants.{DATAGRAM_MAX};
 ghost use Rattle.swim_bench.specs.declared.node.TheConstants.{SHOWN};
 
-use crate::scene::{GROUP, ME, endpoint, make_newer, received, settings_of, word};
+use crate::scene::{GROUP, ME, deal, endpoint, make_newer, received, settings_of};
 use crate::steps::write_all;
 use byteorder::{BigEndian, ByteOrder};
 use std::alloc::Global;
@@ -112,11 +112,11 @@ fn node_after(alloc: Global, texts: &[u8], period: u64) -> Option<Node<MemDisk>>
     Some(node)
 }
 
-/// Where the event of an entry came from, or the word of a tick.
+/// Where the event of an entry came from, or the first number of its deal.
 fn source_of(entry: &Entry) -> u32 {
     match &entry.event {
         Event::Datagram { from, .. } => from.address(),
-        Event::Tick { word } => *word,
+        Event::Tick { deal } => u32::from(deal.numbers()[0]),
         _ => 0,
     }
 }
@@ -255,8 +255,9 @@ pub extern "C" fn swim_bench_node_ticks(
     };
     let mut link = LastLink::new();
     let mut entered = 0;
-    for turn in 0..turns {
-        if call(&mut node, &mut link, Event::Tick { word: word(turn) }) {
+    let deal = deal();
+    for _ in 0..turns {
+        if call(&mut node, &mut link, Event::Tick { deal }) {
             entered += 1;
         }
     }

@@ -5,7 +5,7 @@ ghost use Rattle.swim_member.specs.Checks.{AreSound};
 
 use arrayvec::ArrayVec;
 use byteorder::{BigEndian, ByteOrder};
-use swim_member::{Event, Member, Settings};
+use swim_member::{Deal, Event, Member, Settings};
 use swim_wire::{DATAGRAM_MAX, Endpoint};
 
 /// The group of all members.
@@ -62,6 +62,7 @@ pub(crate) fn settings_of(period: u64) -> Option<Settings>
         forget: 1_000_000,
         helpers: 3,
         block: 1,
+        rules: 1,
     };
     settings.check().ok()?;
     Some(settings)
@@ -91,7 +92,7 @@ pub(crate) fn make_newer(text: &mut [u8], turn: u32)
     }
 }
 
-/// The random word of a tick.
-pub(crate) fn word(turn: u32) -> u32 {
-    turn.wrapping_mul(2_654_435_761)
+/// The deal of each tick.
+pub(crate) fn deal() -> Deal {
+    Deal::from_first(13)
 }

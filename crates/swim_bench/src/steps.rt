@@ -7,7 +7,7 @@ ghost use Rattle.swim_bench.specs.Texts.{BeginsWithText};
 ghost use Rattle.swim_member.specs.declared.answer.TheConstants.{OUTS_MAX};
 
 use crate::codec::write;
-use crate::scene::{make_newer, member_after, received, word};
+use crate::scene::{deal, make_newer, member_after, received};
 use swim_member::{Event, Member, Out};
 
 /// Writes the datagrams over the first bytes, one after the other, and answers how many there are.
@@ -87,8 +87,8 @@ pub extern "C" fn swim_bench_ticks(before: &[u8], period: u64, turns: u32, out: 
         return 0;
     };
     let mut sent = 0;
-    for turn in 0..turns {
-        let event = Event::Tick { word: word(turn) };
+    let event = Event::Tick { deal: deal() };
+    for _ in 0..turns {
         sent += turn_of(&mut member, &event, out) as u64;
     }
     sent

@@ -5,7 +5,7 @@ ghost use Rattle.std.specs.Prelude.{◌≡◌, ◌≤◌, ◌<◌, length};
 use crate::scene::{ME, endpoint, other};
 use byteorder::{BigEndian, ByteOrder};
 use swim_rules::{Heard, Row, Table};
-use swim_wire::{DATAGRAM_MAX, Endpoint, Update, UpdateKind, decode};
+use swim_wire::{DATAGRAM_MAX, Endpoint, Rules, Update, UpdateKind, decode};
 
 /// Tells a table an update, and answers whether it was accepted.
 fn tell(table: &mut Table, me: Endpoint, update: &Update) -> bool
@@ -57,7 +57,7 @@ fn tell_turns(table: &mut Table, me: Endpoint, step: u32, turns: u32) -> u64
 fn table_after(before: &[u8], me: Endpoint) -> Table
     ensures { result.me ≡ me }
 {
-    let mut table = Table::new(me, 100_000, 1_000_000);
+    let mut table = Table::new(me, 100_000, 1_000_000, Rules::One);
     for text in before.chunks_exact(DATAGRAM_MAX) {
         tell_all(&mut table, me, text);
     }

@@ -6,7 +6,7 @@ use std::sync::Wait;
 use std::thread::{Threads, map_vec};
 use std::time::{Clock, Duration, Instant};
 use swim_disk::Disk;
-use swim_member::Event;
+use swim_member::{Deal, Event};
 use swim_node::{Link, Tag};
 use swim_shared::{Name, Pass, Shared};
 
@@ -29,10 +29,10 @@ pub(crate) struct Calls {
 }
 
 impl Calls {
-    /// The next event.
-    fn event(&self, word: u32) -> Option<Event> {
+    /// The next event, of which a tick deals so.
+    fn event(&self, deal: Deal) -> Option<Event> {
         match self.what {
-            What::Tick => Some(Event::Tick { word }),
+            What::Tick => Some(Event::Tick { deal }),
             What::Ping => ping(),
         }
     }
@@ -45,8 +45,9 @@ fn call_all<N: Name, D: Disk + Drop, L: Link + Drop, R: Wait>(
     mut pass: Pass<N>,
     calls: Calls,
 ) -> Pass<N> {
-    for word in 0..calls.count {
-        let Some(event) = calls.event(word) else {
+    let deal = Deal::from_first(0);
+    for _ in 0..calls.count {
+        let Some(event) = calls.event(deal) else {
             break
         };
         if shared.call(rt, &mut pass, event).is_err() {
@@ -89,13 +90,14 @@ pub(crate) fn time_calls<
 pub(crate) fn applied<R: Clock>(rt: &R, alloc: Global, count: u32) -> Option<Duration> {
     let (mut node, _) = opened(alloc, count)?;
     let mut link = SlowLink::new(rt);
+    let deal = Deal::from_first(0);
     let start = Instant::now(rt).ok()?;
-    for word in 0..count {
+    for turn in 0..count {
         let tag = Tag {
             caller: 0,
-            turn: word + 1,
+            turn: turn + 1,
         };
-        node.apply(&mut link, tag, Event::Tick { word }).ok()?;
+        node.apply(&mut link, tag, Event::Tick { deal }).ok()?;
     }
     start.elapsed(rt).ok()
 }

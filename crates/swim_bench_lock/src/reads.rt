@@ -6,7 +6,7 @@ use std::sync::atomic::{AtomicBool, Ordering};
 use std::thread::{self, Threads, join, map_vec};
 use std::time::{Clock, Duration, Instant};
 use swim_disk::{Disk, Plan};
-use swim_member::Event;
+use swim_member::{Deal, Event};
 use swim_node::Link;
 use swim_shared::{Name, Pass, Shared, Watch};
 
@@ -49,11 +49,12 @@ fn call_until<N: Name, D: Disk + Drop, L: Link + Drop, R: Wait>(
     mut pass: Pass<N>,
     is_over: &AtomicBool,
 ) -> bool {
-    for word in 0..u32::MAX {
+    let deal = Deal::from_first(0);
+    for _ in 0..u32::MAX {
         if is_over.load(Ordering::SeqCst) {
             return true;
         }
-        if shared.call(rt, &mut pass, Event::Tick { word }).is_err() {
+        if shared.call(rt, &mut pass, Event::Tick { deal }).is_err() {
             return false;
         }
     }

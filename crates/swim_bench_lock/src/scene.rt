@@ -10,7 +10,7 @@ use swim_disk::{FaultDisk, MemDisk, Plan};
 use swim_member::{Event, Settings};
 use swim_node::{Link, LinkFault, Node};
 use swim_state::{Owner, init};
-use swim_wire::{Cursor, Datagram, Endpoint, Kind, Update, UpdateKind, encode};
+use swim_wire::{Cursor, Datagram, Endpoint, Kind, Rules, Update, UpdateKind, encode};
 
 /// The milliseconds that a send takes.
 const SEND_MILLIS: u64 = 1;
@@ -45,6 +45,7 @@ pub(crate) fn opened(alloc: Global, limit: u32) -> Option<(Node<Device>, Plan)>
         forget: 6000,
         helpers: 3,
         block: 1,
+        rules: 1,
     };
     settings.check().ok()?;
     let node = Node::open(alloc, disk, settings, limit).ok()?;
@@ -57,6 +58,7 @@ fn ping_with(updates: &[Update]) -> Option<Event> {
     let mut carried = ArrayVec::new();
     carried.try_extend_from_slice(updates).ok()?;
     let datagram = Datagram {
+        version: Rules::One,
         kind: Kind::Ping,
         group: GROUP,
         seq: 1,

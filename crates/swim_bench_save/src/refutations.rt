@@ -9,7 +9,7 @@ use swim_disk::Disk;
 use swim_member::{Event, Settings};
 use swim_node::{Link, LinkFault, Node, Tag};
 use swim_state::Owner;
-use swim_wire::{Cursor, Datagram, Endpoint, Kind, Update, UpdateKind, encode};
+use swim_wire::{Cursor, Datagram, Endpoint, Kind, Rules, Update, UpdateKind, encode};
 
 /// Entries in an era: the most refutations of one run.
 const LIMIT: u32 = 4096;
@@ -54,6 +54,7 @@ pub(crate) fn open<D: Disk + Drop>(
         forget: 6000,
         helpers: 3,
         block,
+        rules: 1,
     };
     settings.check().ok()?;
     Node::open(alloc, disk, settings, LIMIT).ok()
@@ -70,6 +71,7 @@ fn suspicion(owner: &Owner, number: u64) -> Option<Event> {
     };
     updates.try_push(suspect).ok()?;
     let datagram = Datagram {
+        version: Rules::One,
         kind: Kind::Ping,
         group: owner.group,
         seq: 1,

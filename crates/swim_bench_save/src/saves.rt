@@ -12,7 +12,7 @@ pub(crate) fn save<D: Disk>(store: &mut Store<D>, count: u32) -> bool
 {
     for _ in 0..count {
         let ceiling = store.ceiling();
-        if ceiling == NUMBER_MAX || store.raise(ceiling + 1, 0).is_err() {
+        if ceiling == NUMBER_MAX || store.raise(ceiling + 1, 0, &[]).is_err() {
             return false;
         }
     }

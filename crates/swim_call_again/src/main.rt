@@ -11,7 +11,7 @@ use std::marker::Brand;
 use std::process::ExitCode;
 use std::sync::Wait;
 use swim_disk::MemDisk;
-use swim_member::{Event, Settings};
+use swim_member::{Deal, Event, Settings};
 use swim_node::{MemoryLink, Node, Tag, run};
 use swim_shared::{CallFault, Name, Outbox, Parts, Pass, Sender, Shared};
 use swim_state::{Owner, init};
@@ -53,6 +53,7 @@ fn opened(alloc: Global) -> Option<Node<MemDisk>>
         forget: 6000,
         helpers: 3,
         block: 1,
+        rules: 1,
     };
     settings.check().ok()?;
     let disk = new_disk(alloc, me).or_else(|| new_disk(alloc, me))?;
@@ -62,11 +63,17 @@ fn opened(alloc: Global) -> Option<Node<MemDisk>>
     }
 }
 
+/// A tick of a turn, whose deal goes up from it.
+fn tick(turn: u32) -> Event {
+    let deal = Deal::from_first((turn % 256) as u8);
+    Event::Tick { deal }
+}
+
 /// The event of a turn: a datagram to another member, or a tick.
 fn event(turn: u32) -> Event {
     match endpoint(2) {
         Some(peer) if turn % 4 == 0 => Event::Join { peer },
-        _ => Event::Tick { word: turn },
+        _ => tick(turn),
     }
 }
 
@@ -190,11 +197,11 @@ fn run_alone(alloc: Global) -> Option<usize> {
     let mut node = opened(alloc)?;
     let mut link = MemoryLink::new(alloc, 2);
     let both = [
-        (Tag { caller: 0, turn: 1 }, Event::Tick { word: 1 }),
-        (Tag { caller: 0, turn: 2 }, Event::Tick { word: 2 }),
+        (Tag { caller: 0, turn: 1 }, tick(1)),
+        (Tag { caller: 0, turn: 2 }, tick(2)),
     ];
     if let Err((stand, _)) = run(&mut node, &mut link, &both) {
-        let second = [(Tag { caller: 0, turn: 2 }, Event::Tick { word: 2 })];
+        let second = [(Tag { caller: 0, turn: 2 }, tick(2))];
         let again = if stand == 0 {
             run(&mut node, &mut link, &both)
         } else {

@@ -11,7 +11,7 @@ use std::process::ExitCode;
 use std::sync::Wait;
 use std::thread::{Threads, map_vec};
 use swim_disk::{Disk, MemDisk};
-use swim_member::{Event, Settings};
+use swim_member::{Deal, Event, Settings};
 use swim_node::{Link, MemoryLink, Node, Status};
 use swim_shared::{Name, Parts, Pass, Shared};
 use swim_state::{Owner, init};
@@ -43,6 +43,7 @@ fn opened(alloc: Global) -> Option<Node<MemDisk>>
         forget: 6000,
         helpers: 3,
         block: 1,
+        rules: 1,
     };
     settings.check().ok()?;
     Node::open(alloc, disk, settings, LIMIT).ok()
@@ -54,8 +55,9 @@ fn ticks<N: Name, D: Disk + Drop, L: Link + Drop, R: Wait>(
     shared: &Shared<N, D, L, &R>,
     mut pass: Pass<N>,
 ) -> Pass<N> {
-    for word in 0..CALLS {
-        if shared.call(rt, &mut pass, Event::Tick { word }).is_err() {
+    for turn in 0..CALLS {
+        let deal = Deal::from_first((turn % 256) as u8);
+        if shared.call(rt, &mut pass, Event::Tick { deal }).is_err() {
             break;
         }
     }

@@ -1,5 +1,5 @@
 use Rattle.std.proofs.Common.{◌≤◌}
 use Rattle.swim_bench.proofs.node.swim_bench_node_ticks.Given as goal
 
-abbrev pub invariant-loop-turn : goal.invariant-loop-turn
-invariant-loop-turn l = l.entered ≤ l.turn
+abbrev pub invariant-loop : goal.invariant-loop
+invariant-loop l = l.entered ≤ l.counter
