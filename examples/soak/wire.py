@@ -8,8 +8,8 @@ from members import CONFIRM, PAGE, SUSPECT, Wrong, decode
 class Wire:
     """Counts the datagrams, and follows the own numbers and the first suspicion and Confirm of each member."""
 
-    def __init__(self, count, trials):
-        self.trials = trials
+    def __init__(self, count, trials, rules):
+        self.trials, self.rules = trials, rules
         self.places = {}  # of the members, by endpoint
         self.datagrams, self.bytes = 0, 0
         self.lives = [0] * count
@@ -25,7 +25,7 @@ class Wire:
         self.datagrams += 1
         self.bytes += len(data)
         try:
-            datagram = decode(data)
+            datagram = decode(data, self.rules)
         except Wrong as wrong:
             self.trials.holds(False, f"member {source} sends {data.hex()}: {wrong}")
             return
