@@ -82,9 +82,9 @@ def steps_of(script, transcript):
         word = command.split(" ")[0]
         if command.startswith("set rules "):
             rules_to_come = int(command.removeprefix("set rules "))
-        elif word in ("start", "open"):
-            rules = rules_to_come
         count = lines_of_event(left) if word in EVENTS else lines_of_answer(word, left)
+        if count and OPENED.fullmatch(left[0]):
+            rules = rules_to_come
         steps.append(Step(command, tuple(left[:count]), rules))
         del left[:count]
     expect_true(not left, f"lines that no line of the script prints: {left[:3]}")
