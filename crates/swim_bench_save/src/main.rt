@@ -46,7 +46,7 @@ fn make<R: Files<File = File>>(
     path: &str,
     block: Option<u64>,
 ) -> Option<Timed> {
-    let mut disk = FileDisk::create(rt, path).ok()?;
+    let mut disk = FileDisk::create(alloc, rt, path).ok()?;
     init(&mut disk, file_owner(), 0).ok()?;
     match block {
         None => Some(Timed::Saves(recover(disk, file_owner()).ok()?)),

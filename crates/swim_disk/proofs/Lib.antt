@@ -1,3 +1,5 @@
+mod Caching
+mod Filing
 mod Filled
 mod Parts
 pub mod Recorded

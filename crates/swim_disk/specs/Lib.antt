@@ -1,3 +1,4 @@
+pub mod Cache
 pub mod Choice
 pub mod Count
 pub mod Disk

@@ -1,84 +1,225 @@
 //! A file of the operating system, as a disk.
 
+ghost use Rattle.std.specs.Prelude.{◌≡◌, ◌+◌, ◌≤◌, ◌++◌, ◌∷◌, [], ℕ, length, map, IfOk, OnOk, OnErr};
+ghost use Rattle.swim_disk.specs.declared.mem.TheConstants.{MOST_BYTES};
+ghost use Rattle.swim_disk.specs.declared.past.Call.TheVariants.{Write, Sync};
+
+use crate::cached::CachedFile;
 use crate::count::Count;
-use crate::{Disk, DiskFault};
+use crate::mem::overlay;
+use crate::past::Call;
+use crate::{Disk, DiskFault, MOST_BYTES};
+use http_server::Log;
+use std::alloc::{AllocError, Global};
 use std::fs::{File, Files, OpenOptions};
 use std::io;
-use std::os::unix::fs::FileExt;
+use std::marker::Model;
 use std::path::AsPath;
 
-/// A file of the operating system. It tells nothing of keeping the model: that the file reads back what was written,
-/// and that a crash leaves what was synced, is a premise of its user.
+/// A file of the operating system, of which the first [`MOST_BYTES`] bytes are the disk. It is read once, when it is
+/// opened, and then its bytes are kept in memory, so that a read gives what was found and written, whatever the system
+/// does with its own memory. After a failed write or sync it writes again all that it wrote since the last sync that said
+/// Ok, before it syncs anew: the system may have let it go.
+///
+/// That a crash leaves an image of its state is the premise of its user: that the system keeps what it has written and
+/// synced with no failure between them, and that nobody else writes the file.
 #[derive(Drop)]
 pub struct FileDisk {
-    file: File,
+    alloc: Global,
+    number: u64,
+    file: CachedFile,
+    content: Vec<u8>,
+    calls: Log<Call, ()>,
+    unsynced: Vec<Call>,
+    is_stale: bool,
     failures: Count,
     asked: Count,
 }
 
+impl Model for FileDisk {
+    ghost use Rattle.std.specs.Prelude.{map};
+    ghost use Rattle.swim_disk.specs.Cache.{cache_of};
+    ghost use Rattle.swim_disk.specs.Count.{count_of};
+    ghost use Rattle.swim_disk.specs.File.{FileView, IsFile};
+
+    ghost Value = { FileView };
+
+    ghost view = { λ f. record {
+      name = f.number;
+      calls = map (λ noted. noted.0) f.calls.items;
+      failures = count_of f.failures;
+      asked = count_of f.asked;
+      deeds = f.file.deeds.items;
+    } };
+
+    ghost invariant = { λ f. IsFile f.content.items f.unsynced.items
+        (map (λ noted. noted.0) f.calls.items) f.is_stale (cache_of f.file) };
+}
+
 impl FileDisk {
-    /// A disk over this file, which is open for reading and writing.
-    pub fn new(file: File) -> FileDisk {
-        FileDisk {
+    ghost use Rattle.std.specs.Prelude.{IsErr};
+    ghost use Rattle.swim_disk.specs.Disk.{IsSettled, overlaid};
+    ghost use Rattle.swim_disk.specs.File.{HasAll, file_state};
+
+    /// A disk over this file, which is open for reading and writing. It syncs the file and reads it as the disk below has
+    /// it, so that a crash from now on leaves what it read. An error is the system's, or there was no memory.
+    pub fn load(alloc: Global, file: File) -> io::Result<FileDisk>
+        ensures settled { IfOk result (λ disk. IsSettled (file_state disk)) }
+        ensures has_all { IfOk result HasAll }
+    {
+        let (file, bytes, number) = CachedFile::load(alloc, file)?;
+        let found = Call::Write { at: 0, bytes };
+        let calls = Log::new().and(&found, &()).and(&Call::Sync, &());
+        let Call::Write { at: _, bytes } = found else {
+            unreachable!()
+        };
+        Ok(FileDisk {
+            alloc,
+            number,
             file,
+            content: bytes,
+            calls,
+            unsynced: Vec::new(alloc),
+            is_stale: false,
             failures: Count::new(),
             asked: Count::new(),
-        }
+        })
     }
 
     /// A disk over the file at this path, which has to be there.
-    pub fn open<R: Files<File = File>, P: AsPath>(files: &R, path: P) -> io::Result<FileDisk> {
+    pub fn open<R: Files<File = File>, P: AsPath>(
+        alloc: Global,
+        files: &R,
+        path: P,
+    ) -> io::Result<FileDisk> {
         let file = OpenOptions::new().read(true).write(true).open(files, path)?;
-        Ok(FileDisk::new(file))
+        FileDisk::load(alloc, file)
     }
 
     /// A disk over a new and empty file at this path, where nothing may be.
-    pub fn create<R: Files<File = File>, P: AsPath>(files: &R, path: P) -> io::Result<FileDisk> {
+    pub fn create<R: Files<File = File>, P: AsPath>(
+        alloc: Global,
+        files: &R,
+        path: P,
+    ) -> io::Result<FileDisk> {
         let mut options = OpenOptions::new();
         let file = options
             .read(true)
             .write(true)
             .create_new(true)
             .open(files, path)?;
-        Ok(FileDisk::new(file))
+        FileDisk::load(alloc, file)
+    }
+
+    /// Puts a write into memory, and among those that no sync has kept. Err: there was no memory, and all is as it was.
+    fn take_in(&mut self, at: u64, bytes: &[u8]) -> Result<(), AllocError>
+        requires { at + length bytes.now ≤ MOST_BYTES }
+        ensures calls { OnOk result ((kept : _) × (kept.items ≡ bytes.now)
+            × (self.new ≡ record self.old { calls = self.old.calls ++ Write at kept ∷ [] })) }
+        ensures same { OnErr result (self.new ≡ self.old) }
+    {
+        let next = overlay(self.alloc, &self.content, at, bytes)?;
+        let call = Call::Write {
+            at,
+            bytes: bytes.to_vec(self.alloc)?,
+        };
+        self.unsynced.reserve(1)?;
+        self.calls = self.calls.and(&call, &());
+        self.unsynced.push_reserved(call);
+        self.content = next;
+        Ok(())
+    }
+
+    /// Writes to the file what was taken in last.
+    fn pass_on(&mut self) -> io::Result<()>
+        ensures { self.new ≡ record self.old { deeds = self.new.deeds } }
+    {
+        let written = self.file.write_last(&self.unsynced);
+        if written.is_err() {
+            self.is_stale = true;
+        }
+        written
+    }
+
+    /// Syncs the file, after it has written again what it may have lost.
+    fn settle(&mut self) -> io::Result<()>
+        ensures done { OnOk result (self.new ≡ record self.old {
+          calls = self.old.calls ++ Sync ∷ [];
+          deeds = self.new.deeds;
+        }) }
+        ensures has_all { OnOk result (HasAll self.new) }
+        ensures failed { OnErr result (self.new ≡ record self.old { deeds = self.new.deeds }) }
+    {
+        let settled = self.file.settle(&self.unsynced, self.is_stale);
+        match &settled {
+            Ok(()) => {
+                self.calls = self.calls.and(&Call::Sync, &());
+                self.unsynced.clear();
+                self.is_stale = false;
+            }
+            Err(_) => self.is_stale = true,
+        }
+        settled
     }
 }
 
 impl Disk for FileDisk {
-    ghost use Rattle.swim_disk.specs.File.{file_state};
-    ghost use Rattle.swim_disk.specs.Count.{count_of};
+    ghost use Rattle.std.specs.Prelude.{◌<◌, take, drop, IfErr, IsOk};
+    ghost use Rattle.swim_disk.specs.Disk.{Counts, Rests, Syncs, Writes};
+    ghost use Rattle.swim_disk.specs.File.{file_state, HasAll, IsInDoubt};
 
-    ghost state = { λ f. file_state (count_of f.failures) (count_of f.asked) };
+    ghost state = { λ f. file_state f };
 
-    ghost keeps_model = { ⊥ };
+    ghost keeps_model = { Unit {0} };
 
     fn len(&mut self) -> Result<u64, DiskFault> {
         self.asked.add();
-        match self.file.metadata() {
-            Ok(found) => Ok(found.len()),
-            Err(_) => Err(self.failures.fail(DiskFault::System)),
-        }
+        Ok(self.content.len() as u64)
     }
 
     fn read_at(&mut self, at: u64, buffer: &mut [u8]) -> Result<(), DiskFault> {
         self.asked.add();
-        match self.file.read_exact_at(buffer, at) {
+        let len = self.content.len() as u64;
+        if at > len || buffer.len() as u64 > len - at {
+            return Err(self.failures.fail(DiskFault::PastEnd));
+        }
+        let at = at as usize;
+        buffer.copy_from_slice(&self.content[at..at + buffer.len()]);
+        Ok(())
+    }
+
+    fn write_at(&mut self, at: u64, bytes: &[u8]) -> Result<(), DiskFault>
+        ensures counts { Counts result (file_state self.old) (file_state self.new) }
+        ensures asked { (file_state self.new).calls ≡ (file_state self.old).calls + 1 }
+        ensures writes { Writes at bytes.now result (file_state self.old) (file_state self.new) }
+
+        // What the disk below may be missing is what was written since the last sync that said Ok.
+        ensures in_doubt { IsInDoubt self.new }
+    {
+        self.asked.add();
+        if at > MOST_BYTES || bytes.len() as u64 > MOST_BYTES - at {
+            return Err(self.failures.fail(DiskFault::NoRoom));
+        }
+        let Ok(()) = self.take_in(at, bytes) else {
+            return Err(self.failures.fail(DiskFault::NoMemory));
+        };
+        match self.pass_on() {
             Ok(()) => Ok(()),
             Err(_) => Err(self.failures.fail(DiskFault::System)),
         }
     }
 
-    fn write_at(&mut self, at: u64, bytes: &[u8]) -> Result<(), DiskFault> {
-        self.asked.add();
-        match self.file.write_all_at(bytes, at) {
-            Ok(()) => Ok(()),
-            Err(_) => Err(self.failures.fail(DiskFault::System)),
-        }
-    }
+    fn sync(&mut self) -> Result<(), DiskFault>
+        ensures counts { Counts result (file_state self.old) (file_state self.new) }
+        ensures asked { (file_state self.new).calls ≡ (file_state self.old).calls + 1 }
+        ensures syncs { Syncs result (file_state self.old) (file_state self.new) }
 
-    fn sync(&mut self) -> Result<(), DiskFault> {
+        // After Ok the disk below has all, also what an earlier failure may have lost.
+        ensures has_all { OnOk result (HasAll self.new) }
+        ensures in_doubt { IsInDoubt self.new }
+    {
         self.asked.add();
-        match self.file.sync_all() {
+        match self.settle() {
             Ok(()) => Ok(()),
             Err(_) => Err(self.failures.fail(DiskFault::System)),
         }

@@ -4,6 +4,7 @@
 #![tactic(auto)]
 
 mod beside;
+mod cached;
 mod count;
 mod disk;
 mod fault;

@@ -149,7 +149,12 @@ impl MemDisk {
 }
 
 /// The content with these bytes at this offset.
-fn overlay(alloc: Global, old: &[u8], at: u64, bytes: &[u8]) -> Result<Vec<u8>, AllocError>
+pub(crate) fn overlay(
+    alloc: Global,
+    old: &[u8],
+    at: u64,
+    bytes: &[u8],
+) -> Result<Vec<u8>, AllocError>
     requires room { at + length bytes.now ≤ MOST_BYTES }
     requires size { length old.now ≤ MOST_BYTES }
     ensures bytes { IfOk result (λ v. v.items ≡ overlaid old.now at bytes.now) }

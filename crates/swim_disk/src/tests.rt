@@ -156,15 +156,15 @@ fn another_thread_lets_a_sync_go_on(rt: HostRuntime) -> Result<(), Fail> {
 #[test]
 fn file_reads_back(rt: HostRuntime) -> Result<(), Fail> {
     let _ = fs::remove_file(&rt, "disk");
-    let mut disk = FileDisk::create(&rt, "disk")?;
+    let mut disk = FileDisk::create(rt.alloc(), &rt, "disk")?;
     disk.write_at(3, &[8, 9])?;
     disk.sync()?;
-    let mut again = FileDisk::open(&rt, "disk")?;
+    let mut again = FileDisk::open(rt.alloc(), &rt, "disk")?;
     let mut bytes = [1; 5];
     again.read_at(0, &mut bytes)?;
     assert_eq!(rt; bytes, [0, 0, 0, 8, 9]);
     assert_eq!(rt; again.len()?, 5);
-    assert_eq!(rt; again.read_at(4, &mut bytes), Err(DiskFault::System));
+    assert_eq!(rt; again.read_at(4, &mut bytes), Err(DiskFault::PastEnd));
     fs::remove_file(&rt, "disk")?;
     Ok(())
 }

@@ -7,7 +7,7 @@ use Rattle.swim_state.specs.Held.{Held, Through, Covers}
 use Rattle.swim_node.specs.History.{Base}
 use Rattle.swim_node.specs.Owns.{owns, owns_in, AreAtMost, AreAtLeast, greatest_with, greater_of}
 use Rattle.swim_node.specs.Node.{next_base}
-use Rattle.swim_node.specs.Lives.{Era, Life, AreJoined, numbers_in, numbers_of, ceiling_of, IsLived, Then, Killed, Crashed, Cut, Refused, Reached, Here, Next, AreLives, AreBelow, AreBelowAll, AreRising}
+use Rattle.swim_node.specs.Lives.{Era, Life, AreJoined, numbers_in, numbers_of, ceiling_of, IsLived, Then, Killed, Crashed, Cut, Refused, Reached, Here, Next, AreLives, BeginsAbove, AreBelow, AreBelowAll, AreRising}
 use Rattle.swim_node.proofs.Lists.{at_most-append}
 
 -- Disks
@@ -104,3 +104,11 @@ pub lives-rise : {D : Type 0} (state : D → DiskState) (owner : Owner) (lives :
 lives-rise state owner [] h = tt {0}
 lives-rise state owner (life ∷ lives) h =
     (below-all state owner (ceiling_of life) (numbers_of life) lives (life-most state owner life h.0) (firsts state owner life lives h) h.2, lives-rise state owner lives h.2)
+
+-- an opening that goes above what the disk holds goes above all that the last life said
+pub begins_above : {D : Type 0} (state : D → DiskState) (owner : Owner) (opened : D) (first : ℕ) → IsSettled (state opened) → ((b : ℕ) → Held owner (state opened) b → b < first)
+    → BeginsAbove state owner opened first
+begins_above state owner opened first settled above = λ last lived left.
+    let g = ceiling_of last in
+    below-bound g first (numbers_of last) (first ∷ []) (above g (held-settled owner g (state opened) settled (lived.held (state opened).content left)))
+    (life-most state owner last lived) (omega arith, tt {0})

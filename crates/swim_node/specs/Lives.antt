@@ -144,16 +144,24 @@ IsFollowed state owner life [] = Unit {0}
 IsFollowed {D} state owner life (next ∷ lives) =
     Reached D state owner (ceiling_of life) life.left next.opened
 
+-- each of the first numbers is below each of the others
+abbrev pub AreBelow : List ℕ → List ℕ → Type 0
+AreBelow [] ns = Unit {0}
+AreBelow (m ∷ ms) ns = AreAtLeast (m + 1) ns × AreBelow ms ns
+
+-- A life that begins with this number on this disk says none that the last one said, if the disk
+-- kept what it had synced: if it has what a crash now may have left of the disk of that one.
+abbrev pub BeginsAbove : {D : Type 0} → (D → DiskState) → Owner → D → ℕ → Type 0
+BeginsAbove {D} state owner opened first =
+    (last : Life D) → IsLived state owner last
+    → (state last.left).images (state opened).content
+    → AreBelow (numbers_of last) (first ∷ [])
+
 -- lives of one owner, each opened after the one before
 abbrev pub AreLives : {D : Type 0} → (D → DiskState) → Owner → List (Life D) → Type 0
 AreLives state owner [] = Unit {0}
 AreLives state owner (life ∷ lives) =
     IsLived state owner life × IsFollowed state owner life lives × AreLives state owner lives
-
--- each of the first numbers is below each of the others
-abbrev pub AreBelow : List ℕ → List ℕ → Type 0
-AreBelow [] ns = Unit {0}
-AreBelow (m ∷ ms) ns = AreAtLeast (m + 1) ns × AreBelow ms ns
 
 -- these numbers are below each own number of these lives
 abbrev pub AreBelowAll : {D : Type 0} → List ℕ → List (Life D) → Type 0

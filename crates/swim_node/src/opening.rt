@@ -1,7 +1,7 @@
 //! Opening a node.
 
 ghost use Rattle.std.specs.Prelude.{◌≡◌, ◌≢◌, ◌↔◌, ◌⊎◌, ◌+◌, ◌<◌, ◌≤◌, ◌^◌, [], false, None, Some, ℕ, IfOk, IfErr};
-ghost use Rattle.swim_disk.specs.Disk.{Rests};
+ghost use Rattle.swim_disk.specs.Disk.{IsSettled, Rests};
 ghost use Rattle.swim_member.specs.Checks.{AreSound};
 ghost use Rattle.swim_state.specs.File.{floor, floor_peers};
 ghost use Rattle.swim_state.specs.Held.{Held, HeldSince, Through, Covers};
@@ -9,7 +9,7 @@ ghost use Rattle.swim_state.specs.Recovery.{fault_of};
 ghost use Rattle.swim_state.specs.declared.fault.RecoverFault.{RecoverFault as Faults};
 ghost use Rattle.swim_state.specs.declared.fault.RecoverFault.TheVariants.{Device, Exhausted};
 ghost use Rattle.swim_node.specs.History.{fresh_base};
-ghost use Rattle.swim_node.specs.Lives.{IsLiving, life_of};
+ghost use Rattle.swim_node.specs.Lives.{BeginsAbove, IsLiving, life_of};
 ghost use Rattle.swim_node.specs.Node.{disk_of, owner_of};
 ghost use Rattle.swim_wire.specs.declared.update.TheConstants.{NUMBER_MAX};
 
@@ -94,6 +94,8 @@ impl<D: Disk> Node<D> {
             → (b : ℕ)
             → Held (owner_of settings) (D.state disk) b
             → IfOk result (λ n. b < n.first) }
+        ensures begins { D.keeps_model → IsSettled (D.state disk)
+            → IfOk result (λ n. BeginsAbove D.state n.owner disk n.first) }
         ensures living { D.keeps_model
             → IfOk result (λ n. IsLiving D.state n.owner (life_of settings limit disk [] n)) }
     {

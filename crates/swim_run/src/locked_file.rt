@@ -1,10 +1,16 @@
 //! State files, one process on each.
 
+ghost use Rattle.std.specs.Prelude.{IfOk};
+ghost use Rattle.swim_disk.specs.Disk.{IsSettled};
+ghost use Rattle.swim_disk.specs.File.{file_state};
+
 use crate::ending::Ending;
+use std::alloc::Global;
 use std::fs::{File, OpenOptions};
 use std::io;
 use std::path::Path;
 use std::rt::Files;
+use swim_disk::FileDisk;
 
 /// Opens a file for reading and writing, and locks it for this process until it is closed. Where `make`, it is made if
 /// it is not there.
@@ -19,6 +25,16 @@ pub(crate) fn open_locked<R: Files<File = File>>(
     match file.try_lock() {
         Ok(()) => Ok(file),
         Err(_) => Err(Ending::File),
+    }
+}
+
+/// The file as a disk, which is as the disk below it has it. Where the system refuses that, it ends so.
+pub(crate) fn load(alloc: Global, file: File, refused: Ending) -> Result<FileDisk, Ending>
+    ensures { IfOk result (λ disk. IsSettled (file_state disk)) }
+{
+    match FileDisk::load(alloc, file) {
+        Ok(disk) => Ok(disk),
+        Err(error) => Err(Ending::of(&error, refused)),
     }
 }
 

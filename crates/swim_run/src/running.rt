@@ -1,13 +1,15 @@
 //! `swim run`.
 
 ghost use Rattle.std.specs.Prelude.{◌≡◌, [], IfOk, IfSome};
+ghost use Rattle.swim_disk.specs.File.{FileView, file_state};
 ghost use Rattle.swim_member.specs.Checks.{AreSound};
+ghost use Rattle.swim_node.specs.Lives.{BeginsAbove, IsLiving, life_of};
 ghost use Rattle.swim_settings.specs.Ranges.{AreInRange};
 
 use crate::again::Again;
 use crate::ending::Ending;
 use crate::era::{CALLERS, WATCHES, run_era};
-use crate::locked_file::open_locked;
+use crate::locked_file::{load, open_locked};
 use crate::outside::Outside;
 use crate::sockets::{bind_doors, wait_of};
 use arrayvec::ArrayVec;
@@ -25,11 +27,12 @@ use std::thread::Threads;
 use std::time::{Clock, Duration};
 use swim_disk::{Disk, FileDisk};
 use swim_member::Settings;
-use swim_node::{Link, Node};
+use swim_node::{Link, Node, OpenFault};
 use swim_serve::{address_of, bind_datagrams};
 use swim_settings::{Refusal, RunSettings, read_settings};
 use swim_shared::{Outbox, Parts};
 use swim_shell::{Doors, Inbound, Joiner, LIST_MAX, Paces};
+use swim_state::RecoverFault;
 use swim_wire::Endpoint;
 
 /// How many datagrams wait at most until the sender takes them.
@@ -50,6 +53,9 @@ fn settings_at<R: Files<File = File> + AllocGlobal>(
     }
 }
 
+/// What the opening of a state file answers where a call of the disk failed.
+const DEVICE: OpenFault = OpenFault::Refused(RecoverFault::Device);
+
 /// Opens the member on its state file.
 fn open<R: Files<File = File> + AllocGlobal>(
     rt: &R,
@@ -58,9 +64,15 @@ fn open<R: Files<File = File> + AllocGlobal>(
     limit: u32,
 ) -> Result<Node<FileDisk>, Ending>
     requires { AreSound settings }
-    ensures { IfOk result (λ node. node.entries ≡ []) }
+    ensures entries { IfOk result (λ node. node.entries ≡ []) }
+
+    // A life has begun on what the file had when it was opened. Its first number is above all that the life before said,
+    // if the file kept what it had synced: if a crash may have left that of it.
+    ensures begins { IfOk result (λ node. (opened : FileView)
+        × BeginsAbove file_state node.owner opened node.first
+        × IsLiving file_state node.owner (life_of settings limit opened [] node)) }
 {
-    let disk = FileDisk::new(open_locked(rt, file, false)?);
+    let disk = load(rt.alloc(), open_locked(rt, file, false)?, Ending::Open(DEVICE))?;
     match Node::open(rt.alloc(), disk, settings, limit) {
         Ok(node) => Ok(node),
         Err((_, fault)) => Err(Ending::Open(fault)),

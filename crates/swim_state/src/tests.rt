@@ -587,10 +587,10 @@ fn init_fails_at_each_call(rt: HostRuntime) {
 #[test]
 fn real_file(rt: HostRuntime) -> Result<(), Fail> {
     let _ = fs::remove_file(&rt, "state");
-    let mut disk = FileDisk::create(&rt, "state")?;
+    let mut disk = FileDisk::create(rt.alloc(), &rt, "state")?;
     init(&mut disk, member(&rt, 1), 0)?;
     for want in [1, 3] {
-        let disk = FileDisk::open(&rt, "state")?;
+        let disk = FileDisk::open(rt.alloc(), &rt, "state")?;
         let mut store = recover(disk, member(&rt, 1)).ok().expect(&rt, "an opening");
         assert!(rt; store.ceiling() == want);
         assert!(rt; want < NUMBER_MAX);

@@ -1,9 +1,17 @@
-use Rattle.std.proofs.Common.{◌≡◌, ◌⊎◌, subst}
+use Rattle.std.proofs.Common.{◌≡◌, ◌⊎◌, arith, subst}
 use Rattle.swim_state.specs.declared.fault.RecoverFault.{RecoverFault}
 use Rattle.swim_state.specs.declared.fault.RecoverFault.TheVariants.{Device, Exhausted}
+use Rattle.swim_node.proofs.Lives.{begins_above}
 use Rattle.swim_node.proofs.node.Node.open.Goals as goal
 
 pub returns-in-Err-clause-from_held : goal.returns-in-Err-clause-from_held
 returns-in-Err-clause-from_held g c keeps b held fault is =
     let same : c.in-Err.fault ≡ fault = cc in
     subst (λ (f : RecoverFault). (f ≡ Device) ⊎ (f ≡ Exhausted)) same (c.in-Err.ensures.from_held keeps b held)
+
+-- the first number is one above the floor of what the disk has, and nothing else is left by a crash
+pub returns-in-Ok-clause-begins : goal.returns-in-Ok-clause-begins
+returns-in-Ok-clause-begins g c keeps settled =
+    let disk = g.D.Disk.state c.args.disk in
+    begins_above g.D.Disk.state c.in-Ok.store.owner c.args.disk c.ceiling-first.result settled
+    (λ b held. let covers = (held disk.content disk.reads).covered in omega (arith, covers, c.in-Ok.ensures.first keeps, c.ceiling-first.ensures.value))
