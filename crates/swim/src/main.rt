@@ -89,9 +89,13 @@ fn answer<T: Threads + Wait + Log + Clock + Sync>(
     }
 }
 
-/// Prints why the program ends, and gives the status. It is the same where standard error cannot be written.
+/// Prints why the program ends, with a hint where there is one, and gives the status. It is the same where standard error
+/// cannot be written.
 fn end(rt: &HostRuntime, ending: &Ending) -> ExitCode {
     let _ = eprintln!(rt; "swim: {ending}");
+    if let Some(hint) = ending.hint() {
+        let _ = eprintln!(rt; "swim: {hint}");
+    }
     ending.status()
 }
 

@@ -5,20 +5,21 @@ ghost use Rattle.std.specs.Prelude.{◌≡◌};
 use arrayvec::ArrayVec;
 use http_server::Log as Failures;
 use swim_member::RECEIVED_MAX;
-use swim_shell::{Inbound, ReceiveFault};
+use swim_shell::{Inbound, NumberLog, ReceiveFault};
 use swim_wire::Endpoint;
 
 /// What an inbound answered last.
 type Answer = Result<Option<Endpoint>, ReceiveFault>;
 
 /// An inbound that keeps its last answer, and gives it again where it is told to: the call for it was refused, since
-/// the era was full, and belongs into the next one.
+/// the era was full, and belongs into the next one. It also keeps, from one era to the next, what the receiver has logged.
 #[derive(Drop)]
 pub(crate) struct Again<I: Inbound> {
     inbound: I,
     last: Answer,
     bytes: ArrayVec<u8, RECEIVED_MAX>,
     is_wanted: bool,
+    numbers: Option<NumberLog>,
     failures: Failures<u8, u8>,
 }
 
@@ -30,6 +31,7 @@ impl<I: Inbound> Again<I> {
             last: Ok(None),
             bytes: ArrayVec::new(),
             is_wanted: false,
+            numbers: None,
             failures: Failures::new(),
         }
     }
@@ -37,6 +39,17 @@ impl<I: Inbound> Again<I> {
     /// The last answer comes once more.
     pub(crate) fn repeat(&mut self) {
         self.is_wanted = true;
+    }
+
+    /// What the receiver has logged of the own number in the eras so far. In the first one that is nothing, of this member
+    /// and number.
+    pub(crate) fn numbers(&self, me: Endpoint, number: u64) -> NumberLog {
+        self.numbers.unwrap_or(NumberLog::new(me, number))
+    }
+
+    /// What it has logged by the end of an era.
+    pub(crate) fn keep_numbers(&mut self, numbers: NumberLog) {
+        self.numbers = Some(numbers);
     }
 
     /// The next answer, whose bytes are kept here. It counts no failure.

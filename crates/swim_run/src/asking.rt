@@ -51,7 +51,7 @@ fn is_whole(line: &str, answer: &[u8]) -> bool {
     }
 }
 
-/// The whole answer to a line.
+/// The whole answer to a line. A read that a signal interrupts is tried again.
 fn read_answer<R: Clock>(
     rt: &R,
     start: &Instant,
@@ -65,11 +65,12 @@ fn read_answer<R: Clock>(
         }
         stream.set_read_timeout(Some(left(rt, start)?))?;
         let mut bytes = [0u8; 512];
-        let count = stream.read(&mut bytes)?;
-        if count == 0 {
-            return Err(io::Error::from(ErrorKind::UnexpectedEof));
+        match stream.read(&mut bytes) {
+            Ok(0) => return Err(io::Error::from(ErrorKind::UnexpectedEof)),
+            Ok(count) => answer.extend_from_slice(&bytes[..count])?,
+            Err(error) if error.kind() == ErrorKind::Interrupted => {}
+            Err(error) => return Err(error),
         }
-        answer.extend_from_slice(&bytes[..count])?;
     }
     Err(io::Error::from(ErrorKind::InvalidData))
 }

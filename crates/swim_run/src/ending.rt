@@ -6,7 +6,7 @@ use swim_node::OpenFault;
 use swim_script::ScriptFault;
 use swim_settings::Refusal;
 use swim_shell::WorkerEnd;
-use swim_state::InitFault;
+use swim_state::{InitFault, RecoverFault};
 use thiserror::Error;
 
 /// The exit status of a refusal or a fault.
@@ -15,7 +15,7 @@ const FAILED: u8 = 1;
 /// The exit status where words, settings or a script are refused.
 const REFUSED: u8 = 2;
 
-/// Why the program ends. Each prints its one line, after `swim: `.
+/// Why the program ends. Each prints its one line, after `swim: `, and some have a hint for a second one.
 #[derive(Debug, Drop, Error)]
 pub enum Ending {
     /// The state file was not made.
@@ -50,7 +50,22 @@ pub enum Ending {
     Script(ScriptFault),
 }
 
+/// What else to say where a part may be there that a cut off `swim init` left.
+const MAYBE_PART: &str =
+    "if `swim init` was cut off before it was done, this is the part that it left: no number was sent then, so delete it and run `swim init` again. If a member has run on the file, keep it, and see \"A lost state file\" in OPERATIONS.md";
+
 impl Ending {
+    /// What else there is to say, on a line of its own.
+    pub fn hint(&self) -> Option<&'static str> {
+        match self {
+            Ending::Init(InitFault::NotEmpty) => Some(MAYBE_PART),
+            Ending::Open(OpenFault::Refused(RecoverFault::NotState | RecoverFault::NoSlot)) => {
+                Some(MAYBE_PART)
+            }
+            _ => None,
+        }
+    }
+
     /// The ending by an error of the system: the lack of memory, or else the other one.
     pub(crate) fn of(error: &io::Error, otherwise: Ending) -> Ending {
         if error.kind() == ErrorKind::OutOfMemory {

@@ -18,7 +18,9 @@ use swim_member::Event;
 use swim_node::{Link, Node};
 use swim_serve::{Ends, RingSender, serve};
 use swim_shared::{Name, Outbox, Parts, Pass, Sender, Shared, Watch};
-use swim_shell::{ControlEnd, Doors, Inbound, Joiner, NoteLog, Refusal, WorkerEnd, enter};
+use swim_shell::{
+    ControlEnd, Doors, Inbound, Joiner, NoteLog, NumberLog, Refusal, WorkerEnd, enter,
+};
 
 /// The workers, each with a pass of its own.
 pub(crate) const CALLERS: u8 = 5;
@@ -84,14 +86,14 @@ fn attend<
 >(
     rt: &T,
     shared: &Shared<N, D, L, R>,
-    receiver: (&mut Pass<N>, &mut I),
+    receiver: (&mut Pass<N>, &mut NumberLog, &mut I),
     ticker: (&mut Pass<N>, &mut ChaCha20Rng, Duration),
     sender: (&mut Pass<N>, &mut RingSender<N>, &mut M),
     control: (&mut Pass<N>, &mut Watch<N>, &mut O),
     joining: (&mut Pass<N>, &mut Watch<N>, &mut Joiner),
 ) -> Ends {
     let pace = Pace::new();
-    let (receiver_pass, inbound) = receiver;
+    let (receiver_pass, numbers, inbound) = receiver;
     let (ticker_pass, rng, tick) = ticker;
     let (sender_pass, ring, link) = sender;
     let (control_pass, watch, doors) = control;
@@ -103,7 +105,7 @@ fn attend<
         rt,
         shared,
         &pace.ended,
-        (receiver_pass, inbound, &mut receiver_gate),
+        (receiver_pass, numbers, inbound, &mut receiver_gate),
         (ticker_pass, rng, &mut ticker_gate),
         (sender_pass, ring, link, &mut sender_gate),
         (control_pass, watch, doors, &mut control_gate),
@@ -128,6 +130,7 @@ fn attend_entrance<
     passes: (&mut Pass<N>, &mut Pass<N>, &mut Pass<N>, &mut Pass<N>),
     shown: &mut Watch<N>,
     ring: &mut RingSender<N>,
+    numbers: &mut NumberLog,
     inbound: &mut I,
     link: &mut M,
     rng: &mut ChaCha20Rng,
@@ -141,7 +144,7 @@ fn attend_entrance<
     attend(
         rt,
         shared,
-        (receiver, inbound),
+        (receiver, numbers, inbound),
         (ticker, rng, tick),
         (sender, ring, link),
         (control, shown, &mut entrance),
@@ -174,6 +177,17 @@ fn share_out<N: Name>(mut passes: Vec<Pass<N>>, mut watches: Vec<Watch<N>>) -> O
     })
 }
 
+/// What the receiver has logged of the own number before this era, which begins with the number that the watch shows.
+fn numbers_of<N: Name, I: Inbound, M: Link, O: Doors>(
+    outside: &Outside<I, M, O>,
+    watch: &mut Watch<N>,
+) -> Result<NumberLog, Ending> {
+    match watch.read() {
+        Some(status) => Ok(outside.numbers(status.number)),
+        None => Err(Ending::Worker(WorkerEnd::Unread)),
+    }
+}
+
 /// Tells what the era before owes, and runs the workers until one of them ends. Says whether the line `stop` ended it;
 /// where the era is full, what was received last comes again in the next one. An error is the program's end.
 fn work<
@@ -194,6 +208,7 @@ fn work<
     outside: &mut Outside<I, M, O>,
 ) -> Result<bool, Ending> {
     tell(rt, shared, &mut readers.receiver, owed)?;
+    let mut numbers = numbers_of(outside, &mut readers.shown)?;
     let said = Said::new();
     let ends = attend_entrance(
         rt,
@@ -206,6 +221,7 @@ fn work<
         ),
         &mut readers.shown,
         ring,
+        &mut numbers,
         &mut outside.inbound,
         &mut outside.link,
         &mut outside.rng,
@@ -217,7 +233,7 @@ fn work<
     if let Some(end) = fault_of(&ends) {
         return Err(Ending::Worker(end));
     }
-    outside.end_era(&ends);
+    outside.end_era(&ends, numbers);
     Ok(said.is_stopping())
 }
 

@@ -5,7 +5,7 @@ use rand_chacha::ChaCha20Rng;
 use std::time::Duration;
 use swim_node::Link;
 use swim_serve::Ends;
-use swim_shell::{Doors, Inbound, Joiner, WorkerEnd};
+use swim_shell::{Doors, Inbound, Joiner, NumberLog, WorkerEnd};
 
 /// What the workers of each era work on.
 #[derive(Drop)]
@@ -25,8 +25,15 @@ pub(crate) struct Outside<I: Inbound, M: Link, O: Doors> {
 }
 
 impl<I: Inbound, M: Link, O: Doors> Outside<I, M, O> {
-    /// After an era that ended so: what did not fit into it comes again.
-    pub(crate) fn end_era(&mut self, ends: &Ends) {
+    /// What the receiver has logged of the own number in the eras so far; in the first one, which begins with this number,
+    /// nothing.
+    pub(crate) fn numbers(&self, number: u64) -> NumberLog {
+        self.inbound.numbers(self.joiner.me(), number)
+    }
+
+    /// After an era that ended so: what did not fit into it comes again, and what was logged of the own number is kept.
+    pub(crate) fn end_era(&mut self, ends: &Ends, numbers: NumberLog) {
+        self.inbound.keep_numbers(numbers);
         if ends.receiver == WorkerEnd::EraFull {
             self.inbound.repeat();
         }

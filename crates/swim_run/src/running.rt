@@ -72,7 +72,11 @@ fn open<R: Files<File = File> + AllocGlobal>(
         × BeginsAbove file_state node.owner opened node.first
         × IsLiving file_state node.owner (life_of settings limit opened [] node)) }
 {
-    let disk = load(rt.alloc(), open_locked(rt, file, false)?, Ending::Open(DEVICE))?;
+    let disk = load(
+        rt.alloc(),
+        open_locked(rt, file, false)?,
+        Ending::Open(DEVICE),
+    )?;
     match Node::open(rt.alloc(), disk, settings, limit) {
         Ok(node) => Ok(node),
         Err((_, fault)) => Err(Ending::Open(fault)),

@@ -16,7 +16,9 @@ use std::time::Clock;
 use swim_disk::Disk;
 use swim_node::Link;
 use swim_shared::{Name, Pass, Shared, Watch};
-use swim_shell::{ControlEnd, Doors, Gate, Inbound, Joiner, Refusal, Turn, WorkerEnd, control};
+use swim_shell::{
+    ControlEnd, Doors, Gate, Inbound, Joiner, NumberLog, Refusal, Turn, WorkerEnd, control,
+};
 
 /// How the workers ended.
 #[derive(Clone, Copy, Debug, PartialEq, Eq)]
@@ -249,7 +251,7 @@ pub fn serve<
     rt: &T,
     shared: &Shared<N, D, L, R>,
     ended: &Ended,
-    receiving: (&mut Pass<N>, &mut I, &mut A),
+    receiving: (&mut Pass<N>, &mut NumberLog, &mut I, &mut A),
     ticking: (&mut Pass<N>, &mut ChaCha20Rng, &mut B),
     sending: (&mut Pass<N>, &mut RingSender<N>, &mut M, &mut S),
     controlling: (&mut Pass<N>, &mut Watch<N>, &mut O, &mut C),
@@ -257,12 +259,12 @@ pub fn serve<
 ) -> Ends {
     let made = Start::new();
     let start = &made;
-    let (pass, inbound, gate) = receiving;
+    let (pass, numbers, inbound, gate) = receiving;
     let (ticker_pass, rng, ticker_gate) = ticking;
     let (sender_pass, ring, link, sender_gate) = sending;
     let (control_pass, watch, doors, control_gate) = controlling;
     let (joiner_pass, status, joiner) = joining;
-    let mut work = Receiving { inbound };
+    let mut work = Receiving { numbers, inbound };
     let (receiver, (ticker, (sender, control))) = beside(
         rt,
         shared,

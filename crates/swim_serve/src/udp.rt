@@ -1,6 +1,8 @@
 //! Datagrams over UDP.
 
-ghost use Rattle.std.specs.Prelude.{◌≡◌};
+ghost use Rattle.std.specs.Prelude.{◌≡◌, ◌≢◌, ◌≤◌, [], length, IfErr, IfNone, IfOk, IsOk, IsTrue, OnErr, OnOk};
+ghost use Rattle.std.specs.IoError.{error_kind};
+ghost use Rattle.std.specs.declared.io.ErrorKind.TheVariants.{Interrupted};
 
 use arrayvec::ArrayVec;
 use http_server::Log as Failures;
@@ -11,6 +13,9 @@ use swim_member::RECEIVED_MAX;
 use swim_node::{Link, LinkFault};
 use swim_shell::{Inbound, ReceiveFault};
 use swim_wire::Endpoint;
+
+/// How often a send that a signal cuts short is tried.
+const SENDS_MAX: u32 = 16;
 
 /// The socket address of an endpoint.
 pub fn address_of(endpoint: Endpoint) -> SocketAddr {
@@ -43,12 +48,16 @@ impl UdpLink {
         }
     }
 
-    /// Sends one datagram whole.
+    /// Sends one datagram whole. A send that a signal cuts short is tried again.
     fn send_whole(&self, to: Endpoint, bytes: &[u8]) -> bool {
-        match self.socket.send_to(bytes, address_of(to)) {
-            Ok(sent) => sent == bytes.len(),
-            Err(_) => false,
+        for _ in 0..SENDS_MAX {
+            match self.socket.send_to(bytes, address_of(to)) {
+                Ok(sent) => return sent == bytes.len(),
+                Err(error) if error.kind() == ErrorKind::Interrupted => {}
+                Err(_) => return false,
+            }
         }
+        false
     }
 }
 
@@ -73,17 +82,54 @@ impl Link for UdpLink {
     }
 }
 
-/// Datagrams that come in over UDP, within the waiting time of the socket. A datagram from no endpoint is a failed
-/// receive. It does not tell what it answered.
+/// Datagrams that come in over UDP, within the waiting time of the socket. A datagram from no endpoint is nothing that
+/// came. It does not tell what it answered.
 #[derive(Drop)]
 pub struct UdpInbound {
     socket: UdpSocket,
     failures: Failures<u8, u8>,
 }
 
-/// Whether a receive ended because nothing came.
-fn is_wait_over(error: &io::Error) -> bool {
-    matches!(error.kind(), ErrorKind::WouldBlock | ErrorKind::TimedOut)
+/// Whether a receive that ended so brought nothing, and did not fail: its waiting time is over, a signal cut it short, or
+/// the system told of an earlier send that it did not arrive.
+pub(crate) fn brings_nothing(kind: ErrorKind) -> bool
+    ensures { kind ≡ Interrupted → IsTrue result }
+{
+    matches!(
+        kind,
+        ErrorKind::WouldBlock
+            | ErrorKind::TimedOut
+            | ErrorKind::Interrupted
+            | ErrorKind::ConnectionRefused
+            | ErrorKind::HostUnreachable
+            | ErrorKind::NetworkUnreachable
+    )
+}
+
+/// What a receive of the system says, whose bytes are kept if they come from an endpoint. Whoever can send a datagram can
+/// send one from port 0, so that is no failed receive, and neither is one that a signal cut short.
+pub(crate) fn take(
+    received: io::Result<(usize, SocketAddr)>,
+    bytes: &[u8],
+    into: &mut ArrayVec<u8, RECEIVED_MAX>,
+) -> Result<Option<Endpoint>, ReceiveFault>
+    requires { IfOk received (λ r. r.0 ≤ length bytes.now) }
+    ensures came { OnOk received (IsOk result) }
+    ensures failed { OnErr result (IfErr received (λ e. error_kind e ≢ Interrupted)) }
+    ensures nothing { IfOk result (λ from. IfNone from (into.new.items ≡ [])) }
+{
+    into.clear();
+    match received {
+        Ok((length, from)) => match endpoint_of(from) {
+            Some(from) => {
+                let _ = into.try_extend_from_slice(&bytes[..length]);
+                Ok(Some(from))
+            }
+            None => Ok(None),
+        },
+        Err(error) if brings_nothing(error.kind()) => Ok(None),
+        Err(_) => Err(ReceiveFault),
+    }
 }
 
 impl UdpInbound {
@@ -101,16 +147,8 @@ impl UdpInbound {
         into: &mut ArrayVec<u8, RECEIVED_MAX>,
     ) -> Result<Option<Endpoint>, ReceiveFault> {
         let mut bytes = [0u8; RECEIVED_MAX];
-        into.clear();
-        match self.socket.recv_from(&mut bytes) {
-            Ok((length, from)) => {
-                let from = endpoint_of(from).ok_or(ReceiveFault)?;
-                let _ = into.try_extend_from_slice(&bytes[..length]);
-                Ok(Some(from))
-            }
-            Err(error) if is_wait_over(&error) => Ok(None),
-            Err(_) => Err(ReceiveFault),
-        }
+        let received = self.socket.recv_from(&mut bytes);
+        take(received, &bytes, into)
     }
 }
 

@@ -8,7 +8,7 @@ use std::time::Clock;
 use swim_disk::Disk;
 use swim_node::Link;
 use swim_shared::{Name, Pass, Shared};
-use swim_shell::{Gate, Inbound, WorkerEnd, receiver, ticker};
+use swim_shell::{Gate, Inbound, NumberLog, WorkerEnd, receiver, ticker};
 
 /// What a worker does until its gate stops it.
 pub(crate) trait Work {
@@ -24,11 +24,12 @@ pub(crate) trait Work {
 
 /// Hands in what an inbound gives.
 #[derive(Drop)]
-pub(crate) struct Receiving<'a, I: Inbound> {
-    pub(crate) inbound: &'a mut I,
+pub(crate) struct Receiving<'a, 'b, I: Inbound> {
+    pub(crate) numbers: &'a mut NumberLog,
+    pub(crate) inbound: &'b mut I,
 }
 
-impl<'a, I: Inbound> Work for Receiving<'a, I> {
+impl<'a, 'b, I: Inbound> Work for Receiving<'a, 'b, I> {
     fn work<N: Name, D: Disk, L: Link, R: Wait + Drop, W: Wait + Log + Clock, G: Gate>(
         &mut self,
         rt: &W,
@@ -36,7 +37,7 @@ impl<'a, I: Inbound> Work for Receiving<'a, I> {
         pass: &mut Pass<N>,
         gate: &mut G,
     ) -> WorkerEnd {
-        receiver(rt, shared, pass, self.inbound, gate)
+        receiver(rt, shared, pass, self.numbers, self.inbound, gate)
     }
 }
 

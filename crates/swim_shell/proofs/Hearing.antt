@@ -56,6 +56,9 @@ reading_more a b c text next long longer byte r t apart keep = record {
   kept = keep r.bytes r.kept;
 }
 
+pub reading_same : (a b c : Option (List ℕ)) (text : List ℕ) (long : Bool) → Reading a b text long → Consumes b c [] → Reading a c text long
+reading_same a b c text long r t = record { bytes = r.bytes; took = subst (Consumes a c) (append-nil r.bytes) (consumes_more a b c r.bytes [] r.took t); lacks = r.lacks; kept = r.kept }
+
 pub reading_whole : (a b c : Option (List ℕ)) (text : List ℕ) (long : Bool) (line : Line) → Reading a b text long → Consumes b c (10 ∷ []) → ((bytes : List ℕ) → Kept long text bytes → IsLine bytes line) → WholeLine a c line
 reading_whole a b c text long line r t kept = record { text = r.bytes; took = consumes_more a b c r.bytes (10 ∷ []) r.took t; lacks = r.lacks; kept = kept r.bytes r.kept }
 

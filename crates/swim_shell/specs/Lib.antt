@@ -5,3 +5,4 @@ pub mod Inbounds
 pub mod Ticks
 pub mod Control
 pub mod Losses
+pub mod Numbers

@@ -109,6 +109,11 @@ impl Joiner {
         }
     }
 
+    /// The member whose joiner it is.
+    pub fn me(&self) -> Endpoint {
+        self.me
+    }
+
     /// The peer of the list to join now: one that was not joined yet, or the next one while the member is alone.
     fn due_peer<C: Clock>(&self, clock: &C, status: Option<Status>) -> Option<Endpoint>
         ensures { IfSome result (IsPeer self.now) }

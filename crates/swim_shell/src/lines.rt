@@ -5,7 +5,7 @@ ghost use Rattle.std.specs.Io.KnownBytes.{IsAtEnd};
 ghost use Rattle.swim_shell.specs.Control.{ReadsByte, Kept, IsLine, ReadsLine, CutLine};
 
 use arrayvec::ArrayVec;
-use std::io::Read;
+use std::io::{self, ErrorKind, Read};
 
 /// The most bytes of a control line, its end aside.
 pub const LINE_MAX: usize = 64;
@@ -23,16 +23,16 @@ pub enum Line {
 #[derive(Clone, Copy, Debug, PartialEq, Eq)]
 pub(crate) struct ReadFault;
 
-/// The next byte; none at the end of input.
+/// The next byte; none at the end of input. After an error the same byte is next.
 #[tactic(auto, using(crate::proofs::Hearing::reads_some, crate::proofs::Hearing::keeps_consumes))]
-fn read_byte<R: Read>(reader: &mut R) -> Result<Option<u8>, ReadFault>
+fn read_byte<R: Read>(reader: &mut R) -> io::Result<Option<u8>>
     ensures { ReadsByte (R.remaining reader.old) (R.remaining reader.new) result }
 {
     let mut one = [0u8; 1];
     match reader.read(&mut one) {
         Ok(0) => Ok(None),
         Ok(_) => Ok(Some(one[0])),
-        Err(_) => Err(ReadFault),
+        Err(error) => Err(error),
     }
 }
 
@@ -55,8 +55,8 @@ fn line_of(text: ArrayVec<u8, LINE_MAX>, long: bool) -> Line
     if long { Line::Long } else { Line::Text(text) }
 }
 
-/// The next line. None where the input ends before the line does.
-#[tactic(auto, using(crate::proofs::Hearing::reading_start, crate::proofs::Hearing::reading_more, crate::proofs::Hearing::reading_whole, crate::proofs::Hearing::reading_cut, crate::proofs::Hearing::reading_here))]
+/// The next line. None where the input ends before the line does. A read that a signal interrupts is tried again.
+#[tactic(auto, using(crate::proofs::Hearing::reading_start, crate::proofs::Hearing::reading_more, crate::proofs::Hearing::reading_same, crate::proofs::Hearing::reading_whole, crate::proofs::Hearing::reading_cut, crate::proofs::Hearing::reading_here))]
 pub(crate) fn read_line<R: Read>(reader: &mut R) -> Result<Option<Line>, ReadFault>
     ensures line { IfOk result (λ line. ReadsLine (R.remaining reader.old) (R.remaining reader.new)
         line) }
@@ -69,7 +69,8 @@ pub(crate) fn read_line<R: Read>(reader: &mut R) -> Result<Option<Line>, ReadFau
             Ok(Some(b'\n')) => return Ok(Some(line_of(text, long))),
             Ok(Some(byte)) => long = keep(&mut text, long, byte),
             Ok(None) => return Ok(None),
-            Err(fault) => return Err(fault),
+            Err(error) if error.kind() == ErrorKind::Interrupted => {}
+            Err(_) => return Err(ReadFault),
         }
     }
     Err(ReadFault)

@@ -4,5 +4,6 @@
 mod fakes;
 mod lines;
 mod notes;
+mod numbers;
 mod scene;
 mod workers;

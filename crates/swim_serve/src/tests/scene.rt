@@ -20,7 +20,7 @@ use swim_disk::{Disk, MemDisk};
 use swim_member::Settings;
 use swim_node::Node;
 use swim_shared::{Name, Outbox, Parts, Sender, Shared};
-use swim_shell::{Doors, Gate, Inbound, Joiner, Paces, Turn};
+use swim_shell::{Doors, Gate, Inbound, Joiner, NumberLog, Paces, Turn};
 use swim_state::{Owner, init};
 use swim_wire::{Endpoint, Rules};
 
@@ -89,15 +89,19 @@ pub(super) fn opened<D: Disk + Drop>(
     node.ok().expect(rt, "an opening")
 }
 
+/// An endpoint that no member has.
+fn somebody(rt: &impl Abort) -> Endpoint {
+    Endpoint::new(0x7f00_0001, 1).expect(rt, "a port")
+}
+
 /// A joiner that has nobody to join.
 fn idle(rt: &impl Abort) -> Joiner {
-    let me = Endpoint::new(0x7f00_0001, 1).expect(rt, "a port");
     let paces = Paces {
         period: Duration::from_secs(1),
         rejoin: None,
     };
     let rng = ChaCha20Rng::from_seed([8; 32]);
-    Joiner::new(me, Rules::One, ArrayVec::new(), paces, rng)
+    Joiner::new(somebody(rt), Rules::One, ArrayVec::new(), paces, rng)
 }
 
 /// Serves a new member of this port until its workers have ended, and says how they did.
@@ -145,6 +149,7 @@ fn on_stage<N: Name + Send + Sync, I: Inbound + Send, O: Doors, R: Host>(
     let mut status = watches.pop().expect(rt, "two watches");
     let mut watch = watches.pop().expect(rt, "a watch");
     let mut joiner = idle(rt);
+    let mut numbers = NumberLog::new(somebody(rt), 1);
     let mut rng = ChaCha20Rng::from_seed([7; 32]);
     let mut receives = Paced { clock: rt };
     let mut ticks = Paced { clock: rt };
@@ -154,7 +159,7 @@ fn on_stage<N: Name + Send + Sync, I: Inbound + Send, O: Doors, R: Host>(
         rt,
         &shared,
         &Ended::new(),
-        (&mut first, inbound, &mut receives),
+        (&mut first, &mut numbers, inbound, &mut receives),
         (&mut second, &mut rng, &mut ticks),
         (&mut third, &mut ring, link, &mut sends),
         (&mut fourth, &mut watch, doors, &mut answers),

@@ -130,3 +130,47 @@ impl Write for Short {
         Ok(())
     }
 }
+
+/// A connection of which a signal interrupts each other read and write, the first one among them.
+#[derive(Drop)]
+pub(super) struct Signalled<T: Drop> {
+    pub(super) inner: T,
+    is_interrupted: bool,
+}
+
+impl<T: Drop> Signalled<T> {
+    /// Over this one, whose first read or write is interrupted.
+    pub(super) fn new(inner: T) -> Signalled<T> {
+        Signalled {
+            inner,
+            is_interrupted: false,
+        }
+    }
+
+    /// An error where a signal interrupts this read or write.
+    fn interrupt(&mut self) -> io::Result<()> {
+        self.is_interrupted = !self.is_interrupted;
+        if self.is_interrupted {
+            return Err(io::Error::from(ErrorKind::Interrupted));
+        }
+        Ok(())
+    }
+}
+
+impl<T: Read + Drop> Read for Signalled<T> {
+    fn read(&mut self, into: &mut [u8]) -> io::Result<usize> {
+        self.interrupt()?;
+        self.inner.read(into)
+    }
+}
+
+impl<T: Write + Drop> Write for Signalled<T> {
+    fn write(&mut self, bytes: &[u8]) -> io::Result<usize> {
+        self.interrupt()?;
+        self.inner.write(bytes)
+    }
+
+    fn flush(&mut self) -> io::Result<()> {
+        self.inner.flush()
+    }
+}

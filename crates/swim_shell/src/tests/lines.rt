@@ -1,7 +1,7 @@
 //! Control lines by their bytes.
 
-use super::fakes::{Broken, Given, Goes, Listed, MOST, Short};
-use super::scene::{Host, Play, played};
+use super::fakes::{Broken, Given, Goes, Listed, MOST, Short, Signalled};
+use super::scene::{Host, Play, numbers, played};
 use crate::{ControlEnd, control, receiver};
 use arrayvec::ArrayVec;
 use std::test::Fail;
@@ -31,6 +31,7 @@ impl Play for Talk {
             rt,
             shared,
             pass,
+            &mut numbers(rt),
             &mut Listed::new(self.before),
             &mut Goes { left: 1 },
         );
@@ -224,5 +225,50 @@ fn each_write_fails(rt: HostRuntime) -> Result<(), Fail> {
         assert_eq!(&rt; breaks.writer.taken.as_slice(), replies);
         assert_eq!(&rt; node.len(), *calls);
     }
+    Ok(())
+}
+
+/// A conversation of which a signal interrupts each other read and write.
+#[derive(Drop)]
+struct Signals {
+    reader: Signalled<&'static [u8]>,
+    writer: Signalled<ArrayVec<u8, MOST>>,
+    end: Option<ControlEnd>,
+}
+
+impl Play for Signals {
+    fn play<N: Name, R: Host>(
+        &mut self,
+        rt: &R,
+        shared: &Shared<N, MemDisk, Outbox, &R>,
+        pass: &mut Pass<N>,
+        watch: &mut Watch<N>,
+        _ring: &mut Sender,
+    ) {
+        let mut gate = Goes { left: 9 };
+        self.end = Some(control(
+            rt,
+            shared,
+            pass,
+            watch,
+            &mut self.reader,
+            &mut self.writer,
+            &mut gate,
+        ));
+    }
+}
+
+/// A read and a write that a signal interrupts are tried again: the lines are answered as ever.
+#[test]
+fn interrupted_conversation(rt: HostRuntime) -> Result<(), Fail> {
+    let mut signals = Signals {
+        reader: Signalled::new(CALLS),
+        writer: Signalled::new(ArrayVec::new()),
+        end: None,
+    };
+    let node = played(&rt, rt.alloc(), 8, 1, &mut signals)?;
+    assert_eq!(&rt; signals.end, Some(ControlEnd::Closed));
+    assert_eq!(&rt; signals.writer.inner.as_slice(), REPLIES);
+    assert_eq!(&rt; node.len(), 3);
     Ok(())
 }

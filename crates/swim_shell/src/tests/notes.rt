@@ -17,9 +17,9 @@ use swim_wire::Endpoint;
 
 /// A clock that stands, beside a log in memory.
 #[derive(Drop)]
-struct Desk {
-    second: u64,
-    lines: Memory,
+pub(super) struct Desk {
+    pub(super) second: u64,
+    pub(super) lines: Memory,
 }
 
 impl Clock for Desk {
@@ -50,12 +50,19 @@ impl Log for Desk {
 
 /// A reply with this note.
 fn noted(note: Note) -> Reply {
+    replied(Some(note), Phase::Running, 1)
+}
+
+/// A reply with this note or none, after which the member has this phase and number.
+pub(super) fn replied(note: Option<Note>, phase: Phase, number: u64) -> Reply {
     let mut notes = ArrayVec::new();
-    notes.push(note);
+    if let Some(note) = note {
+        notes.push(note);
+    }
     Reply {
         status: Status {
-            phase: Phase::Running,
-            number: 1,
+            phase,
+            number,
             alive: 0,
             suspect: 0,
             confirmed: 0,

@@ -3,6 +3,7 @@
 ghost use Rattle.std.specs.Prelude.{◌≡◌, ◌<◌, ◌≤◌, [], IfOk};
 ghost use Rattle.swim_disk.specs.MemDisk.{state_of};
 
+use crate::NumberLog;
 use arrayvec::ArrayVec;
 use log::Log;
 use std::alloc::Global;
@@ -38,6 +39,11 @@ pub(super) trait Play {
 /// The endpoint 10.0.0.1:7000.
 fn me() -> Option<Endpoint> {
     Endpoint::new(0x0a00_0001, 7000)
+}
+
+/// What the receiver of a new member, whose number is 1, logs of its number.
+pub(super) fn numbers(rt: &impl Abort) -> NumberLog {
+    NumberLog::new(me().expect(rt, "an endpoint"), 1)
 }
 
 /// The endpoint 10.0.0.2:7000.

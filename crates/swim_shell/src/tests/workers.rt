@@ -1,7 +1,7 @@
 //! The receiver, the ticker and the sender.
 
 use super::fakes::{Given, Goes, Listed};
-use super::scene::{Host, Play, peer, played};
+use super::scene::{Host, Play, numbers, peer, played};
 use crate::{Joiner, Paces, Refusal, WorkerEnd, receiver, sender, ticker};
 use arrayvec::ArrayVec;
 use rand_chacha::ChaCha20Rng;
@@ -80,7 +80,7 @@ impl<'a> Play for Receives<'a> {
     ) {
         let mut inbound = Listed::new(self.given);
         let mut gate = Goes { left: self.goes };
-        self.end = Some(receiver(rt, shared, pass, &mut inbound, &mut gate));
+        self.end = Some(receiver(rt, shared, pass, &mut numbers(rt), &mut inbound, &mut gate));
     }
 }
 
@@ -123,7 +123,7 @@ impl Play for TwoPings {
     ) {
         let mut inbound = Listed::new(&[Given::Ping(1), Given::Ping(2)]);
         let mut gate = Goes { left: 2 };
-        receiver(rt, shared, pass, &mut inbound, &mut gate);
+        receiver(rt, shared, pass, &mut numbers(rt), &mut inbound, &mut gate);
         let mut gate = Goes { left: 2 };
         self.end = Some(sender(rt, shared, pass, ring, &mut self.link, &mut gate));
     }
@@ -179,7 +179,14 @@ impl Play for Joins {
         let mut joiner = Joiner::new(me, self.rules, peers, paces, rng);
         self.ends[0] = joiner.turn(rt, shared, pass, watch);
         let mut inbound = Listed::new(&[Given::Ping(1)]);
-        receiver(rt, shared, pass, &mut inbound, &mut Goes { left: 1 });
+        receiver(
+            rt,
+            shared,
+            pass,
+            &mut numbers(rt),
+            &mut inbound,
+            &mut Goes { left: 1 },
+        );
         self.ends[1] = joiner.turn(rt, shared, pass, watch);
     }
 }
