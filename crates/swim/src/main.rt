@@ -13,7 +13,8 @@ use std::thread::Threads;
 use std::time::Clock;
 use swim_play::play;
 use swim_run::{
-    Ending, Stamped, Subcommand, ask, level, make, read_words, run, show_members, watch_members,
+    Ending, Stamped, Subcommand, ask, hold_standard, level, make, read_words, run, show_members,
+    watch_members,
 };
 use swim_script::ScriptFault;
 
@@ -130,6 +131,7 @@ fn words(rt: &HostRuntime) -> Result<Vec<String>, ExitCode> {
 }
 
 fn main(rt: HostRuntime) -> ExitCode {
+    let _held = hold_standard(&rt);
     let words = match words(&rt) {
         Ok(words) => words,
         Err(status) => return status,

@@ -6,6 +6,7 @@ mod asking;
 mod bell;
 mod command_line;
 mod connection;
+mod descriptors;
 mod ending;
 mod entrance;
 mod era;
@@ -22,6 +23,7 @@ mod watching;
 
 pub use asking::ask;
 pub use command_line::{Subcommand, read_words};
+pub use descriptors::hold_standard;
 pub use ending::Ending;
 pub use making::make;
 pub use running::run;

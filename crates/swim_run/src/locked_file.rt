@@ -8,9 +8,13 @@ use crate::ending::Ending;
 use std::alloc::Global;
 use std::fs::{File, OpenOptions};
 use std::io;
+use std::os::unix::fs::OpenOptionsExt;
 use std::path::Path;
 use std::rt::Files;
 use swim_disk::FileDisk;
+
+/// Who may read and write a new state file: its owner alone.
+const MODE: u32 = 0o600;
 
 /// Opens a file for reading and writing, and locks it for this process until it is closed. Where `make`, it is made if
 /// it is not there.
@@ -20,7 +24,8 @@ pub(crate) fn open_locked<R: Files<File = File>>(
     make: bool,
 ) -> Result<File, Ending> {
     let mut options = OpenOptions::new();
-    let opened = options.read(true).write(true).create(make).open(rt, path);
+    options.read(true).write(true).create(make).mode(MODE);
+    let opened = options.open(rt, path);
     let file = opened.map_err(|error| Ending::of(&error, Ending::File))?;
     match file.try_lock() {
         Ok(()) => Ok(file),

@@ -56,13 +56,8 @@ fn settings_at<R: Files<File = File> + AllocGlobal>(
 /// What the opening of a state file answers where a call of the disk failed.
 const DEVICE: OpenFault = OpenFault::Refused(RecoverFault::Device);
 
-/// Opens the member on its state file.
-fn open<R: Files<File = File> + AllocGlobal>(
-    rt: &R,
-    file: &str,
-    settings: Settings,
-    limit: u32,
-) -> Result<Node<FileDisk>, Ending>
+/// Opens the member on its state file, which is locked.
+fn open(alloc: Global, file: File, settings: Settings, limit: u32) -> Result<Node<FileDisk>, Ending>
     requires { AreSound settings }
     ensures entries { IfOk result (λ node. node.entries ≡ []) }
 
@@ -72,12 +67,8 @@ fn open<R: Files<File = File> + AllocGlobal>(
         × BeginsAbove file_state node.owner opened node.first
         × IsLiving file_state node.owner (life_of settings limit opened [] node)) }
 {
-    let disk = load(
-        rt.alloc(),
-        open_locked(rt, file, false)?,
-        Ending::Open(DEVICE),
-    )?;
-    match Node::open(rt.alloc(), disk, settings, limit) {
+    let disk = load(alloc, file, Ending::Open(DEVICE))?;
+    match Node::open(alloc, disk, settings, limit) {
         Ok(node) => Ok(node),
         Err((_, fault)) => Err(Ending::Open(fault)),
     }
@@ -187,8 +178,9 @@ fn eras<
     unreachable!()
 }
 
-/// Runs the member that the settings file describes until the line `stop`: opens and locks its state file, takes a number
-/// above all that it may have used, binds its sockets, and serves era after era. An error is why it ended before.
+/// Runs the member that the settings file describes until the line `stop`: locks its state file, binds its sockets, takes a
+/// number above all that it may have used, and serves era after era. A start without its sockets spends no number. An
+/// error is why it ended before.
 pub fn run<R, T>(rt: &R, logged: &T, config: &str) -> Result<(), Ending>
 where
     R: Files<File = File>
@@ -207,17 +199,19 @@ where
         join,
         rejoin,
     } = settings_at(rt, config)?;
-    let node = open(rt, file.as_str(), settings, limit)?;
+    let file = open_locked(rt, file.as_str(), false)?;
     let wait = wait_of(tick_ms);
     let bound = bind_datagrams(rt, address_of(settings.me), wait);
     let (inbound, link) = bound.map_err(|_| Ending::Socket)?;
+    let doors = bind_doors(rt, logged, control, wait)?;
+    let node = open(rt.alloc(), file, settings, limit)?;
     let (rng, draws) = generators(rt, random_key)?;
     let peers = peers_of(join.as_slice(), node.peers().as_slice());
     let paces = paces_of(settings.period, rejoin, tick_ms);
     let mut outside = Outside {
         inbound: Again::new(inbound),
         link,
-        doors: bind_doors(rt, logged, control, wait)?,
+        doors,
         rng,
         joiner: Joiner::new(settings.me, settings.rules_of(), peers, paces, draws),
         tick: Duration::from_millis(tick_ms),
