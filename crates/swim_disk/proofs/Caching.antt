@@ -1,9 +1,9 @@
 -- What one more deed leaves of what the disk may not have.
 use Rattle.std.proofs.Common.{◌≡◌, ◌⊎◌, inl, inr, ⊎_elim, zero, suc, ℕ, ◌+◌, ◌<◌, List, [], ◌∷◌, ◌++◌, length, drop, get_or, subst, sym}
 use Rattle.std.proofs.lemmas.List.{drop_more}
-use Rattle.std.specs.Prelude.{Result, Ok, Err, OnOk, OnErr, Some, slice_get}
-use Rattle.std.proofs.lemmas.Option.{slice_get_within, get_or_from_slice_get}
-use Rattle.swim_disk.specs.Cache.{Cache, Missing, Touches, Touched, taken_over, after, after_all}
+use Rattle.std.proofs.lemmas.Bool.{false≢true}
+use Rattle.std.specs.Prelude.{Result, Ok, Err, IsOk, OnOk, OnErr}
+use Rattle.swim_disk.specs.Cache.{Cache, Missing, Touches, Touched, taken_over, after, after_all, deed_of}
 use Rattle.swim_disk.specs.declared.past.Call.{Call}
 use Rattle.swim_disk.specs.declared.past.Call.TheVariants.{Sync}
 use Rattle.swim_disk.specs.declared.cached.Deed.{Deed}
@@ -48,6 +48,10 @@ pub touched_before : (calls : List Call) (call : Call) (i : ℕ) → Touched cal
 touched_before [] call i is = absurd is
 touched_before (first ∷ calls) call i is = ⊎_elim (λ here. inl here) (λ later. inr (touched_before calls call i later)) is
 
+pub touched_last : (calls : List Call) (call : Call) (i : ℕ) → Touches call i → Touched (calls ++ call ∷ []) i
+touched_last [] call i is = inl is
+touched_last (first ∷ calls) call i is = inr (touched_last calls call i is)
+
 pub touched_more : (calls : List Call) (call : Call) (i : ℕ) → Touched (calls ++ call ∷ []) i → Touched calls i ⊎ Touches call i
 touched_more [] call i is = ⊎_elim (λ here. inr here) (λ none. absurd none) is
 touched_more (first ∷ calls) call i is =
@@ -81,26 +85,21 @@ sync_all (Ok value) deeds new done found = λ i missing.
 sync_all (Err fault) deeds new done found = tt
 
 -- a write, done or failed, makes nothing missing but what it writes
-pub write_within : {T E : Type 0} (result : Result T E) (deeds new : List (Deed × Call)) (call : Call) → OnOk result (new ≡ deeds ++ (Wrote, call) ∷ []) → OnErr result (new ≡ deeds ++ (WriteFailed, call) ∷ [])
+pub write_within : {T E : Type 0} (result : Result T E) (deeds new : List (Deed × Call)) (call : Call) → new ≡ deeds ++ (deed_of result, call) ∷ []
     → (i : ℕ) → Missing (after_all taken_over new) i → Missing (after_all taken_over deeds) i ⊎ Touches call i
-write_within (Ok value) deeds new call done failed i missing =
+write_within (Ok value) deeds new call is i missing =
     ⊎_elim
-    (λ lost. inl (inl ((lost_more taken_over deeds Wrote call i (subst (λ (l : List (Deed × Call)). (after_all taken_over l).lost i) done lost)).0)))
-    (λ waiting. ⊎_elim (λ was. inl (inr was)) (λ here. inr here) (waiting_more taken_over deeds Wrote call i (subst (λ (l : List (Deed × Call)). (after_all taken_over l).waiting i) done waiting)))
+    (λ lost. inl (inl ((lost_more taken_over deeds Wrote call i (subst (λ (l : List (Deed × Call)). (after_all taken_over l).lost i) is lost)).0)))
+    (λ waiting. ⊎_elim (λ was. inl (inr was)) (λ here. inr here) (waiting_more taken_over deeds Wrote call i (subst (λ (l : List (Deed × Call)). (after_all taken_over l).waiting i) is waiting)))
     missing
-write_within (Err fault) deeds new call done failed i missing =
+write_within (Err fault) deeds new call is i missing =
     ⊎_elim
-    (λ lost. ⊎_elim (λ was. inl (inl was)) (λ here. inr here) (lost_more taken_over deeds WriteFailed call i (subst (λ (l : List (Deed × Call)). (after_all taken_over l).lost i) failed lost)))
-    (λ waiting. inl (inr (waiting_more taken_over deeds WriteFailed call i (subst (λ (l : List (Deed × Call)). (after_all taken_over l).waiting i) failed waiting))))
+    (λ lost. ⊎_elim (λ was. inl (inl was)) (λ here. inr here) (lost_more taken_over deeds WriteFailed call i (subst (λ (l : List (Deed × Call)). (after_all taken_over l).lost i) is lost)))
+    (λ waiting. inl (inr (waiting_more taken_over deeds WriteFailed call i (subst (λ (l : List (Deed × Call)). (after_all taken_over l).waiting i) is waiting))))
     missing
 
 -- one that is done loses nothing
-pub write_loses : {T E : Type 0} (result : Result T E) (deeds new : List (Deed × Call)) (call : Call) → OnOk result (new ≡ deeds ++ (Wrote, call) ∷ [])
-    → OnOk result ((i : ℕ) → (after_all taken_over new).lost i → (after_all taken_over deeds).lost i)
-write_loses (Ok value) deeds new call done = λ i lost. (lost_more taken_over deeds Wrote call i (subst (λ (l : List (Deed × Call)). (after_all taken_over l).lost i) done lost)).0
-write_loses (Err fault) deeds new call done = tt
-
--- the call that is found at n
-pub touched_found : (calls : List Call) (n i : ℕ) (call : Call) → slice_get calls n ≡ Some call → Touches call i → Touched calls i
-touched_found calls n i call found here =
-    touched_call calls n i call (slice_get_within calls n call found) (sym (get_or_from_slice_get calls n call call found)) here
+pub write_loses : {T E : Type 0} (result : Result T E) (deeds new : List (Deed × Call)) (call : Call) → new ≡ deeds ++ (deed_of result, call) ∷ [] → IsOk result
+    → (i : ℕ) → (after_all taken_over new).lost i → (after_all taken_over deeds).lost i
+write_loses (Ok value) deeds new call is ok i lost = (lost_more taken_over deeds Wrote call i (subst (λ (l : List (Deed × Call)). (after_all taken_over l).lost i) is lost)).0
+write_loses (Err fault) deeds new call is ok i lost = absurd (false≢true ok)

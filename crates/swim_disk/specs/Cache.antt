@@ -1,5 +1,7 @@
 -- What the system may hold of a file in memory that the disk does not have.
-use Rattle.std.specs.Prelude.{◌⊎◌, ℕ, ◌+◌, ◌<◌, ◌≤◌, List, [], ◌∷◌, length}
+use Rattle.std.specs.Prelude.{◌≡◌, ◌⊎◌, ℕ, ◌+◌, ◌<◌, ◌≤◌, List, [], ◌∷◌, length}
+use Rattle.std.specs.Prelude.{Result, Ok, Err}
+use Rattle.swim_disk.specs.declared.mem.TheConstants.{MOST_BYTES}
 use Rattle.swim_disk.specs.declared.past.Call.{Call}
 use Rattle.swim_disk.specs.declared.past.Call.TheVariants.{Write, Sync}
 use Rattle.swim_disk.specs.declared.cached.CachedFile.{CachedFile}
@@ -21,6 +23,16 @@ Touched (call ∷ calls) i = Touches call i ⊎ Touched calls i
 abbrev pub InRanges : List (ℕ × ℕ) → ℕ → Type 0
 InRanges [] i = ⊥
 InRanges (range ∷ ranges) i = ((range.0 ≤ i) × (i < range.0 + range.1)) ⊎ InRanges ranges i
+
+-- what an opening found: a write of at most so many bytes from the first on
+abbrev pub IsLoaded : Call → Type 0
+IsLoaded (Write at bytes) = (at ≡ 0) × (length bytes.items ≤ MOST_BYTES)
+IsLoaded Sync = ⊥
+
+-- a write, by what the system answered
+abbrev pub deed_of : {T E : Type 0} → Result T E → Deed
+deed_of (Ok done) = Wrote
+deed_of (Err fault) = WriteFailed
 
 -- the bytes of a file, by their offsets, that the disk may not have
 pub record Cache : Type 1 where

@@ -4,8 +4,7 @@
 //! next one answers Ok, and reads still give them. So a [`CachedFile`] notes what was done to its file, and contracts see
 //! which bytes the disk may be missing.
 
-ghost use Rattle.std.specs.Prelude.{◌≡◌, ◌++◌, ◌∷◌, [], ◌≤◌, false, length, OnOk, OnErr, IfOk};
-ghost use Rattle.swim_disk.specs.declared.mem.TheConstants.{MOST_BYTES};
+ghost use Rattle.std.specs.Prelude.{◌≡◌, ◌++◌, ◌∷◌, [], false, OnOk, OnErr, IfOk};
 
 use crate::past::Call;
 use crate::{DiskFault, MOST_BYTES};
@@ -45,15 +44,17 @@ pub(crate) struct CachedFile {
 }
 
 impl CachedFile {
-    ghost use Rattle.std.specs.Prelude.{ℕ};
-    ghost use Rattle.swim_disk.specs.Cache.{cache_of, Missing, Touched};
-    ghost use Rattle.swim_disk.specs.declared.cached.Deed.TheVariants.{Wrote, WriteFailed, Synced, SyncFailed, Dropped, Loaded};
+    ghost use Rattle.std.specs.Prelude.{ℕ, List};
+    ghost use Rattle.swim_disk.specs.Cache.{cache_of, deed_of, IsLoaded, Missing, Touched};
+    ghost use Rattle.swim_disk.specs.declared.cached.Deed.TheVariants.{Synced, SyncFailed, Dropped, Loaded};
     ghost use Rattle.swim_disk.specs.declared.past.Call.TheVariants.{Sync};
 
     /// Takes the file over, and reads it, at most [`MOST_BYTES`] bytes, as the disk has it: it syncs, drops what the
-    /// system holds in memory, and reads. The file's number comes with the bytes.
-    pub(crate) fn load(alloc: Global, file: File) -> io::Result<(CachedFile, Vec<u8>, u64)>
-        ensures size { IfOk result (λ made. length made.1.items ≤ MOST_BYTES) }
+    /// system holds in memory, and reads. What it found is a write of all of it; the file's number comes with it.
+    pub(crate) fn load(alloc: Global, file: File) -> io::Result<(CachedFile, Call, u64)>
+        ensures size { IfOk result (λ made. IsLoaded made.1) }
+        ensures found { IfOk result (λ made. (deeds : List _)
+            × (made.0.deeds.items ≡ deeds ++ (Loaded, made.1) ∷ [])) }
         ensures has_all { IfOk result (λ made. (i : ℕ) → Missing (cache_of made.0) i → ⊥) }
     {
         let mut cached = CachedFile {
@@ -62,8 +63,8 @@ impl CachedFile {
         };
         cached.sync()?;
         cached.drop_held()?;
-        let (bytes, number) = cached.read(alloc)?;
-        Ok((cached, bytes, number))
+        let (found, number) = cached.read(alloc)?;
+        Ok((cached, found, number))
     }
 
     fn note(&mut self, deed: Deed, call: &Call)
@@ -100,10 +101,7 @@ impl CachedFile {
 
     /// Makes this write, or makes it again.
     pub(crate) fn write(&mut self, call: &Call) -> io::Result<()>
-        ensures done { OnOk result
-            (self.new.deeds.items ≡ self.old.deeds.items ++ (Wrote, call.now) ∷ []) }
-        ensures failed { OnErr result
-            (self.new.deeds.items ≡ self.old.deeds.items ++ (WriteFailed, call.now) ∷ []) }
+        ensures { self.new.deeds.items ≡ self.old.deeds.items ++ (deed_of result, call.now) ∷ [] }
     {
         let written = self.pass_on(call);
         let deed = match written {
@@ -142,31 +140,19 @@ impl CachedFile {
         Ok(())
     }
 
-    /// The first [`MOST_BYTES`] bytes, or all if there are fewer, and the file's number.
-    fn read(&mut self, alloc: Global) -> io::Result<(Vec<u8>, u64)>
-        ensures size { IfOk result (λ read. length read.0.items ≤ MOST_BYTES) }
-        ensures done { OnOk result
-            (self.new.deeds.items ≡ self.old.deeds.items ++ (Loaded, Sync) ∷ []) }
+    /// The first [`MOST_BYTES`] bytes, or all if there are fewer, as a write of them, and the file's number.
+    fn read(&mut self, alloc: Global) -> io::Result<(Call, u64)>
+        ensures size { IfOk result (λ read. IsLoaded read.0) }
+        ensures done { IfOk result (λ read.
+            self.new.deeds.items ≡ self.old.deeds.items ++ (Loaded, read.0) ∷ []) }
     {
         let found = self.file.metadata()?;
         let mut bytes = Vec::new(alloc);
         bytes.resize(found.len().min(MOST_BYTES) as usize, 0)?;
         self.file.read_exact_at(&mut bytes, 0)?;
-        self.note(Deed::Loaded, &Call::Sync);
-        Ok((bytes, found.ino()))
-    }
-
-    /// Makes the last one of these writes.
-    pub(crate) fn write_last(&mut self, calls: &[Call]) -> io::Result<()>
-        requires within { (i : ℕ) → Missing (cache_of self.old) i → Touched calls.now i }
-        ensures within { (i : ℕ) → Missing (cache_of self.new) i → Touched calls.now i }
-        ensures no_more { OnOk result
-            ((i : ℕ) → (cache_of self.new).lost i → (cache_of self.old).lost i) }
-    {
-        match calls.last() {
-            Some(call) => self.write(call),
-            None => Ok(()),
-        }
+        let read = Call::Write { at: 0, bytes };
+        self.note(Deed::Loaded, &read);
+        Ok((read, found.ino()))
     }
 
     /// Makes all of these writes again, in their order. It stops at the first that fails.

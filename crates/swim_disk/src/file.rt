@@ -1,6 +1,6 @@
 //! A file of the operating system, as a disk.
 
-ghost use Rattle.std.specs.Prelude.{◌≡◌, ◌+◌, ◌≤◌, ◌++◌, ◌∷◌, [], ℕ, length, map, IfOk, OnOk, OnErr};
+ghost use Rattle.std.specs.Prelude.{◌≡◌, ◌+◌, ◌≤◌, ◌++◌, ◌∷◌, [], ℕ, List, length, map, IfOk, OnOk, OnErr};
 ghost use Rattle.swim_disk.specs.declared.mem.TheConstants.{MOST_BYTES};
 ghost use Rattle.swim_disk.specs.declared.past.Call.TheVariants.{Write, Sync};
 
@@ -59,16 +59,20 @@ impl Model for FileDisk {
 impl FileDisk {
     ghost use Rattle.std.specs.Prelude.{IsErr};
     ghost use Rattle.swim_disk.specs.Disk.{IsSettled, overlaid};
+    ghost use Rattle.swim_disk.specs.Cache.{deed_of, IsLoaded};
+    ghost use Rattle.swim_disk.specs.declared.cached.Deed.TheVariants.{Loaded};
+    ghost use Rattle.swim_disk.specs.declared.past.Call.{Call as Calls};
     ghost use Rattle.swim_disk.specs.File.{HasAll, file_state};
 
     /// A disk over this file, which is open for reading and writing. It syncs the file and reads it as the disk below has
     /// it, so that a crash from now on leaves what it read. An error is the system's, or there was no memory.
     pub fn load(alloc: Global, file: File) -> io::Result<FileDisk>
         ensures settled { IfOk result (λ disk. IsSettled (file_state disk)) }
+        ensures found { IfOk result (λ disk. (found : Calls) × (deeds : List _) × (IsLoaded found)
+            × (disk.calls ≡ found ∷ Sync ∷ []) × (disk.deeds ≡ deeds ++ (Loaded, found) ∷ [])) }
         ensures has_all { IfOk result HasAll }
     {
-        let (file, bytes, number) = CachedFile::load(alloc, file)?;
-        let found = Call::Write { at: 0, bytes };
+        let (file, found, number) = CachedFile::load(alloc, file)?;
         let calls = Log::new().and(&found, &()).and(&Call::Sync, &());
         let Call::Write { at: _, bytes } = found else {
             unreachable!()
@@ -111,34 +115,27 @@ impl FileDisk {
         FileDisk::load(alloc, file)
     }
 
-    /// Puts a write into memory, and among those that no sync has kept. Err: there was no memory, and all is as it was.
-    fn take_in(&mut self, at: u64, bytes: &[u8]) -> Result<(), AllocError>
+    /// Makes a write, in the file, in memory, and among those that no sync has kept. It gives what the system answered: what
+    /// it refused is written again before the next sync. Err: there was no memory, and nothing was done.
+    fn put(&mut self, at: u64, bytes: &[u8]) -> Result<io::Result<()>, AllocError>
         requires { at + length bytes.now ≤ MOST_BYTES }
-        ensures calls { OnOk result ((kept : _) × (kept.items ≡ bytes.now)
-            × (self.new ≡ record self.old { calls = self.old.calls ++ Write at kept ∷ [] })) }
+        ensures given { IfOk result (λ written. (kept : _) × (kept.items ≡ bytes.now)
+            × (self.new ≡ record self.old {
+              calls = self.old.calls ++ Write at kept ∷ [];
+              deeds = self.old.deeds ++ (deed_of written, Write at kept) ∷ [];
+            })) }
         ensures same { OnErr result (self.new ≡ self.old) }
     {
         let next = overlay(self.alloc, &self.content, at, bytes)?;
-        let call = Call::Write {
-            at,
-            bytes: bytes.to_vec(self.alloc)?,
-        };
+        let bytes = bytes.to_vec(self.alloc)?;
+        let call = Call::Write { at, bytes };
         self.unsynced.reserve(1)?;
+        let written = self.file.write(&call);
+        self.is_stale |= written.is_err();
         self.calls = self.calls.and(&call, &());
         self.unsynced.push_reserved(call);
         self.content = next;
-        Ok(())
-    }
-
-    /// Writes to the file what was taken in last.
-    fn pass_on(&mut self) -> io::Result<()>
-        ensures { self.new ≡ record self.old { deeds = self.new.deeds } }
-    {
-        let written = self.file.write_last(&self.unsynced);
-        if written.is_err() {
-            self.is_stale = true;
-        }
-        written
+        Ok(written)
     }
 
     /// Syncs the file, after it has written again what it may have lost.
@@ -166,7 +163,7 @@ impl FileDisk {
 impl Disk for FileDisk {
     ghost use Rattle.std.specs.Prelude.{◌<◌, take, drop, IfErr, IsOk};
     ghost use Rattle.swim_disk.specs.Disk.{Counts, Rests, Syncs, Writes};
-    ghost use Rattle.swim_disk.specs.File.{file_state, HasAll, IsInDoubt};
+    ghost use Rattle.swim_disk.specs.File.{file_state, Gives, HasAll, IsInDoubt};
 
     ghost state = { λ f. file_state f };
 
@@ -193,19 +190,19 @@ impl Disk for FileDisk {
         ensures asked { (file_state self.new).calls ≡ (file_state self.old).calls + 1 }
         ensures writes { Writes at bytes.now result (file_state self.old) (file_state self.new) }
 
-        // What the disk below may be missing is what was written since the last sync that said Ok.
+        // It is one write of the file, with the same answer, or there was no room or no memory, and nothing was done. What
+        // the disk below may be missing is what was written since the last sync that said Ok.
+        ensures given { Gives at bytes.now result self.old self.new }
         ensures in_doubt { IsInDoubt self.new }
     {
         self.asked.add();
         if at > MOST_BYTES || bytes.len() as u64 > MOST_BYTES - at {
             return Err(self.failures.fail(DiskFault::NoRoom));
         }
-        let Ok(()) = self.take_in(at, bytes) else {
-            return Err(self.failures.fail(DiskFault::NoMemory));
-        };
-        match self.pass_on() {
-            Ok(()) => Ok(()),
-            Err(_) => Err(self.failures.fail(DiskFault::System)),
+        match self.put(at, bytes) {
+            Ok(Ok(())) => Ok(()),
+            Ok(Err(_)) => Err(self.failures.fail(DiskFault::System)),
+            Err(_) => Err(self.failures.fail(DiskFault::NoMemory)),
         }
     }
 

@@ -1,6 +1,8 @@
-use Rattle.std.proofs.Common.{Ok, Err, ap, ◌∙◌, [], ◌++◌, ◌∷◌}
+use Rattle.std.proofs.Common.{inl, ap, Ok, Err, ◌∙◌, ◌++◌, ◌∷◌, []}
+use Rattle.swim_disk.specs.Cache.{deed_of}
 use Rattle.swim_disk.specs.Count.{count_of}
 use Rattle.swim_disk.specs.File.{FileView}
+use Rattle.swim_disk.specs.declared.cached.Deed.{Deed}
 use Rattle.swim_disk.specs.declared.past.Call.TheVariants.{Write}
 use Rattle.swim_disk.proofs.Filing.{told_by, view_write, view_refuse}
 use Rattle.swim_disk.proofs.file.FileDiskDisk.write_at.Goals as goal
@@ -10,19 +12,45 @@ returns-then-at-gt-MOST_BYTES-clause-writes c =
     view_refuse c.fail.result c.args.self.now.calls _ c.args.at (told_by c.args.self.now) (record { name = c.self.inside.number; failures = count_of c.fail.new.self; calls = count_of c.add.new.self }) c.args.bytes.now
     (ap (λ (v : FileView). v.calls) c.self.view_is)
 
-pub returns-in_default-clause-writes : goal.returns-in_default-clause-writes
-returns-in_default-clause-writes c =
-    view_refuse c.fail-in_default.result c.args.self.now.calls _ c.args.at (told_by c.args.self.now) (record { name = c.self-2.inside.number; failures = count_of c.fail-in_default.new.self; calls = count_of c.self-2.inside.asked }) c.args.bytes.now
-    (ap (λ (v : FileView). v.calls) (c.self-2.view_is ∙ c.in_default.ensures.same) ∙ ap (λ (v : FileView). v.calls) c.self.view_is)
+pub returns-in-Ok-Ok-clause-writes : goal.returns-in-Ok-Ok-clause-writes
+returns-in-Ok-Ok-clause-writes c =
+    let kept = c.in-Ok-Ok.ensures.given in
+    view_write (Ok (tt {0})) c.args.self.now.calls _ c.args.at (told_by c.args.self.now) (told_by c.put.new.self) kept.0 c.args.bytes.now kept.1
+    (ap (λ (v : FileView). v.calls) kept.2 ∙ ap (λ (v : FileView). v.calls ++ Write c.args.at kept.0 ∷ []) c.self.view_is)
 
-pub returns-in-Ok-pass_on-clause-writes : goal.returns-in-Ok-pass_on-clause-writes
-returns-in-Ok-pass_on-clause-writes c =
-    let kept = c.in-Ok.ensures.calls in
-    view_write (Ok (tt {0})) c.args.self.now.calls _ c.args.at (told_by c.args.self.now) (told_by c.pass_on.new.self) kept.0 c.args.bytes.now kept.1
-    (ap (λ (v : FileView). v.calls) c.pass_on.ensures ∙ ap (λ (v : FileView). v.calls) kept.2 ∙ ap (λ (v : FileView). v.calls ++ Write c.args.at kept.0 ∷ []) c.self.view_is)
+pub returns-in-Ok-Ok-clause-given : goal.returns-in-Ok-Ok-clause-given
+returns-in-Ok-Ok-clause-given c =
+    let kept = c.in-Ok-Ok.ensures.given in
+    let call = Write c.args.at kept.0 in
+    inl (
+      kept.0,
+      kept.1,
+      ap (λ (v : FileView). v.calls) kept.2 ∙ ap (λ (v : FileView). v.calls ++ call ∷ []) c.self.view_is,
+      ap (λ (v : FileView). v.deeds) kept.2
+          ∙ ap (λ (v : FileView). v.deeds ++ (deed_of c.in-Ok-Ok.field-0, call) ∷ []) c.self.view_is
+          ∙ ap (λ (d : Deed). c.args.self.now.deeds ++ (d, call) ∷ []) (ap (λ r. deed_of r) c.in-Ok-Ok.field-0-is),
+    )
+
+pub returns-in-Ok-Err-clause-writes : goal.returns-in-Ok-Err-clause-writes
+returns-in-Ok-Err-clause-writes c =
+    let kept = c.in-Ok-Err.ensures.given in
+    view_write (Err c.fail-in-Ok-Err.result) c.args.self.now.calls _ c.args.at (told_by c.args.self.now) (record { name = c.self-2.inside.number; failures = count_of c.fail-in-Ok-Err.new.self; calls = count_of c.self-2.inside.asked }) kept.0 c.args.bytes.now kept.1
+    (ap (λ (v : FileView). v.calls) c.self-2.view_is ∙ ap (λ (v : FileView). v.calls) kept.2 ∙ ap (λ (v : FileView). v.calls ++ Write c.args.at kept.0 ∷ []) c.self.view_is)
+
+pub returns-in-Ok-Err-clause-given : goal.returns-in-Ok-Err-clause-given
+returns-in-Ok-Err-clause-given c =
+    let kept = c.in-Ok-Err.ensures.given in
+    let call = Write c.args.at kept.0 in
+    inl (
+      kept.0,
+      kept.1,
+      ap (λ (v : FileView). v.calls) c.self-2.view_is ∙ ap (λ (v : FileView). v.calls) kept.2 ∙ ap (λ (v : FileView). v.calls ++ call ∷ []) c.self.view_is,
+      ap (λ (v : FileView). v.deeds) c.self-2.view_is ∙ ap (λ (v : FileView). v.deeds) kept.2
+          ∙ ap (λ (v : FileView). v.deeds ++ (deed_of c.in-Ok-Err.field-0, call) ∷ []) c.self.view_is
+          ∙ ap (λ (d : Deed). c.args.self.now.deeds ++ (d, call) ∷ []) (ap (λ r. deed_of r) c.in-Ok-Err.field-0-is),
+    )
 
 pub returns-in-Err-clause-writes : goal.returns-in-Err-clause-writes
 returns-in-Err-clause-writes c =
-    let kept = c.in-Ok.ensures.calls in
-    view_write (Err c.fail-in-Err.result) c.args.self.now.calls _ c.args.at (told_by c.args.self.now) (record { name = c.self-3.inside.number; failures = count_of c.fail-in-Err.new.self; calls = count_of c.self-3.inside.asked }) kept.0 c.args.bytes.now kept.1
-    (ap (λ (v : FileView). v.calls) (c.self-3.view_is ∙ c.pass_on.ensures) ∙ ap (λ (v : FileView). v.calls) kept.2 ∙ ap (λ (v : FileView). v.calls ++ Write c.args.at kept.0 ∷ []) c.self.view_is)
+    view_refuse c.fail-in-Err.result c.args.self.now.calls _ c.args.at (told_by c.args.self.now) (record { name = c.self-2.inside.number; failures = count_of c.fail-in-Err.new.self; calls = count_of c.self-2.inside.asked }) c.args.bytes.now
+    (ap (λ (v : FileView). v.calls) (c.self-2.view_is ∙ c.in-Err.ensures.same) ∙ ap (λ (v : FileView). v.calls) c.self.view_is)
