@@ -1,8 +1,7 @@
 -- How a disk over a file keeps itself through one more call.
-use Rattle.std.proofs.Common.{◌≡◌, true, false, refl, inl, inr, ⊎_elim, ℕ, ◌≤◌, List, [], ◌∷◌, ◌++◌, Bool, Vec, length, map, ap, sym, ◌∙◌, subst}
+use Rattle.std.proofs.Common.{◌≡◌, true, false, refl, inl, inr, ⊎_elim, ℕ, ◌≤◌, List, [], ◌∷◌, ◌++◌, Bool, Vec, length, ap, sym, ◌∙◌, subst}
 use Rattle.std.proofs.lemmas.Bool.{false≢true}
 use Rattle.std.specs.Prelude.{Result, Ok, Err, IsOk, is_err, ◌||◌}
-use Rattle.std.proofs.lemmas.List.{map_push}
 use Rattle.std.specs.declared.alloc.Global.{Global}
 use Rattle.swim_disk.specs.Cache.{Cache, Missing, Touched, InRanges, taken_over, after_all, deed_of}
 use Rattle.swim_disk.specs.declared.cached.Deed.{Deed}
@@ -54,11 +53,6 @@ file_settles content unsynced none calls stale now cache new was empty has_all =
       within = λ i missing. absurd (has_all i missing);
       good = λ _ i lost. has_all i (inl lost);
     }
-
--- what was noted, with one call more
-pub noted_more : (noted more : List (Call × Unit {0})) (call : Call) → more ≡ noted ++ (call, tt) ∷ []
-    → map (λ (n : Call × Unit {0}). n.0) more ≡ map (λ (n : Call × Unit {0}). n.0) noted ++ call ∷ []
-noted_more noted more call is = ap (λ (l : List (Call × Unit {0})). map (λ (n : Call × Unit {0}). n.0) l) is ∙ map_push (λ (n : Call × Unit {0}). n.0) noted (call, tt)
 
 -- what a disk over a file tells beside its calls
 abbrev pub told_by : FileView → Told

@@ -8,12 +8,12 @@ ghost use Rattle.std.specs.Prelude.{◌≡◌, ◌++◌, ◌∷◌, [], false, O
 
 use crate::past::Call;
 use crate::{DiskFault, MOST_BYTES};
-use http_server::Log;
 use std::alloc::Global;
 use std::fs::File;
 use std::io;
 use std::os::fd::AsRawFd;
 use std::os::unix::fs::{FileExt, MetadataExt};
+use swim_trace::Pairs;
 
 /// How many zero bytes are written at once.
 const BLOCK: u64 = 4096;
@@ -40,7 +40,7 @@ pub(crate) enum Deed {
 #[derive(Drop)]
 pub(crate) struct CachedFile {
     file: File,
-    pub(crate) deeds: Log<Deed, Call>,
+    pub(crate) deeds: Pairs<Deed, Call>,
 }
 
 impl CachedFile {
@@ -59,7 +59,7 @@ impl CachedFile {
     {
         let mut cached = CachedFile {
             file,
-            deeds: Log::new(),
+            deeds: Pairs::new(),
         };
         cached.sync()?;
         cached.drop_held()?;

@@ -3,12 +3,12 @@
 ghost use Rattle.std.specs.Prelude.{◌≡◌, ◌+◌};
 
 use crate::DiskFault;
-use http_server::Log;
+use swim_trace::Trace;
 
 /// A count without a bound, which takes no bytes: only contracts see it.
 #[derive(Drop)]
 pub(crate) struct Count {
-    times: Log<u8, u8>,
+    times: Trace<()>,
 }
 
 impl Count {
@@ -18,14 +18,16 @@ impl Count {
     pub(crate) fn new() -> Count
         ensures { count_of result ≡ 0 }
     {
-        Count { times: Log::new() }
+        Count {
+            times: Trace::new(),
+        }
     }
 
     /// Once more.
     pub(crate) fn add(&mut self)
         ensures { count_of self.new ≡ count_of self.old + 1 }
     {
-        self.times = self.times.and(&0, &0);
+        self.times = self.times.and(&());
     }
 
     /// One failure more, for this reason.

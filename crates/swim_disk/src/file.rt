@@ -9,12 +9,12 @@ use crate::count::Count;
 use crate::mem::overlay;
 use crate::past::Call;
 use crate::{Disk, DiskFault, MOST_BYTES};
-use http_server::Log;
 use std::alloc::{AllocError, Global};
 use std::fs::{File, Files, OpenOptions};
 use std::io;
 use std::marker::Model;
 use std::path::AsPath;
+use swim_trace::Trace;
 
 /// A file of the operating system, of which the first [`MOST_BYTES`] bytes are the disk. It is read once, when it is
 /// opened, and then its bytes are kept in memory, so that a read gives what was found and written, whatever the system
@@ -29,7 +29,7 @@ pub struct FileDisk {
     number: u64,
     file: CachedFile,
     content: Vec<u8>,
-    calls: Log<Call, ()>,
+    calls: Trace<Call>,
     unsynced: Vec<Call>,
     is_stale: bool,
     failures: Count,
@@ -37,7 +37,6 @@ pub struct FileDisk {
 }
 
 impl Model for FileDisk {
-    ghost use Rattle.std.specs.Prelude.{map};
     ghost use Rattle.swim_disk.specs.Cache.{cache_of};
     ghost use Rattle.swim_disk.specs.Count.{count_of};
     ghost use Rattle.swim_disk.specs.File.{FileView, IsFile};
@@ -46,14 +45,14 @@ impl Model for FileDisk {
 
     ghost view = { λ f. record {
       name = f.number;
-      calls = map (λ noted. noted.0) f.calls.items;
+      calls = f.calls;
       failures = count_of f.failures;
       asked = count_of f.asked;
       deeds = f.file.deeds.items;
     } };
 
     ghost invariant = { λ f. IsFile f.content.items f.unsynced.items
-        (map (λ noted. noted.0) f.calls.items) f.is_stale (cache_of f.file) };
+        f.calls f.is_stale (cache_of f.file) };
 }
 
 impl FileDisk {
@@ -73,7 +72,7 @@ impl FileDisk {
         ensures has_all { IfOk result HasAll }
     {
         let (file, found, number) = CachedFile::load(alloc, file)?;
-        let calls = Log::new().and(&found, &()).and(&Call::Sync, &());
+        let calls = Trace::new().and(&found).and(&Call::Sync);
         let Call::Write { at: _, bytes } = found else {
             unreachable!()
         };
@@ -132,7 +131,7 @@ impl FileDisk {
         self.unsynced.reserve(1)?;
         let written = self.file.write(&call);
         self.is_stale |= written.is_err();
-        self.calls = self.calls.and(&call, &());
+        self.calls = self.calls.and(&call);
         self.unsynced.push_reserved(call);
         self.content = next;
         Ok(written)
@@ -150,7 +149,7 @@ impl FileDisk {
         let settled = self.file.settle(&self.unsynced, self.is_stale);
         match &settled {
             Ok(()) => {
-                self.calls = self.calls.and(&Call::Sync, &());
+                self.calls = self.calls.and(&Call::Sync);
                 self.unsynced.clear();
                 self.is_stale = false;
             }

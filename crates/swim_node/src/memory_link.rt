@@ -4,8 +4,8 @@ ghost use Rattle.std.specs.Prelude.{◌≡◌, ◌+◌, ◌++◌, ◌∷◌, [],
 ghost use Rattle.swim_node.specs.Link.{is_due, plan_after};
 
 use crate::{Link, LinkFault};
-use http_server::Log;
 use std::alloc::Global;
+use swim_trace::Trace;
 use swim_wire::Endpoint;
 
 /// A datagram that a link took.
@@ -23,7 +23,7 @@ pub struct MemoryLink {
     number: u64,
     taken: Vec<Taken>,
     loses: Option<u64>,
-    failures: Log<u8, u8>,
+    failures: Trace<()>,
 }
 
 impl MemoryLink {
@@ -32,7 +32,7 @@ impl MemoryLink {
     /// A link that took nothing yet and loses nothing. The number is its name.
     pub fn new(alloc: Global, number: u64) -> MemoryLink
         ensures taken { result.taken.items ≡ [] }
-        ensures failures { result.failures.items ≡ [] }
+        ensures failures { result.failures ≡ [] }
         ensures number { result.number ≡ number }
         ensures plan { result.loses ≡ None }
     {
@@ -40,7 +40,7 @@ impl MemoryLink {
             number,
             taken: Vec::new(alloc),
             loses: None,
-            failures: Log::new(),
+            failures: Trace::new(),
         }
     }
 
@@ -84,12 +84,12 @@ impl MemoryLink {
 
     /// Counts a failure.
     fn failed(&mut self) -> LinkFault
-        ensures failures { length self.new.failures.items ≡ length self.old.failures.items + 1 }
+        ensures failures { length self.new.failures ≡ length self.old.failures + 1 }
         ensures rest { (self.new.taken ≡ self.old.taken)
             × (self.new.loses ≡ self.old.loses)
             × (self.new.number ≡ self.old.number) }
     {
-        self.failures = self.failures.and(&0, &0);
+        self.failures = self.failures.and(&());
         LinkFault
     }
 }
@@ -104,13 +104,13 @@ impl Link for MemoryLink {
 
     ghost took = { λ l. took_by l.taken.items };
 
-    ghost failures = { λ l. length l.failures.items };
+    ghost failures = { λ l. length l.failures };
 
     fn send(&mut self, to: Endpoint, bytes: &[u8]) -> Result<(), LinkFault>
         ensures name { self.new.number ≡ self.old.number }
         ensures failures { MatchResult result
-            (λ _. length self.new.failures.items ≡ length self.old.failures.items)
-            (λ _. length self.new.failures.items ≡ length self.old.failures.items + 1) }
+            (λ _. length self.new.failures ≡ length self.old.failures)
+            (λ _. length self.new.failures ≡ length self.old.failures + 1) }
         ensures took { MatchResult result
             (λ _. took_by self.new.taken.items
             ≡ took_by self.old.taken.items ++ (to, bytes.now) ∷ [])

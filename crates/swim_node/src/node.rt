@@ -1,6 +1,6 @@
 //! The node.
 
-ghost use Rattle.std.specs.Prelude.{◌≡◌, ◌≢◌, ◌+◌, ◌<◌, ◌≤◌, ◌++◌, ◌∷◌, [], List, length, IfErr, IfOk, IsErrOf, OnOk, OnErr, All, false, true};
+ghost use Rattle.std.specs.Prelude.{◌≡◌, ◌≢◌, ◌↔◌, ◌+◌, ◌<◌, ◌≤◌, ◌++◌, ◌∷◌, [], List, length, IfErr, IfOk, IsErrOf, IsTrue, OnOk, OnErr, All, false, true};
 ghost use Rattle.swim_disk.specs.Disk.{Rests};
 ghost use Rattle.swim_state.specs.Held.{Held, HeldSince, HasPeers, Through, Covers};
 ghost use Rattle.swim_node.specs.declared.opening.TheConstants.{LIMIT_MAX};
@@ -190,6 +190,14 @@ impl<D: Disk> Node<D> {
             → HasPeers (D.state self.now.disk) result }
     {
         self.store.peers()
+    }
+
+    /// Whether the member knows other peers now than those that stand in the state file.
+    pub fn has_other_peers(&self) -> bool
+        ensures { IsTrue result ↔ (self.now.peers
+            ≢ known_peers (state_after self.now.base self.now.entries)) }
+    {
+        self.store.peers() != known_peers(&self.member)
     }
 
     /// Saves the peers that the member knows now, the first eight that are Alive or Suspect, at the begin of an era.

@@ -20,16 +20,10 @@ fn endpoint(rt: &impl Abort, last: u32) -> Endpoint {
 /// The settings of 10.0.0.1:7000 in this group.
 fn settings(rt: &impl Abort, group: u64) -> Settings {
     Settings {
-        group,
-        me: endpoint(rt, 1),
         lambda: 2,
-        period: 10,
-        direct: 3,
         suspect: 20,
         forget: 40,
-        helpers: 3,
-        block: 1,
-        rules: 1,
+        ..Settings::usual(group, endpoint(rt, 1))
     }
 }
 

@@ -1,4 +1,4 @@
-use Rattle.std.proofs.Common.{rules, ◌≡◌, ◌||◌, ◌∷◌, ◌++◌, [], ℕ, List, subst, sym, ap, ◌∙◌, map}
+use Rattle.std.proofs.Common.{rules, ◌≡◌, ◌||◌, ◌∷◌, ◌++◌, [], ℕ, List, subst, sym, ap, ◌∙◌}
 use Rattle.swim_disk.specs.Cache.{cache_of, deed_of}
 use Rattle.swim_disk.specs.Count.{count_of}
 use Rattle.swim_disk.specs.Disk.{overlaid}
@@ -6,15 +6,12 @@ use Rattle.swim_disk.specs.File.{IsFile, FileView}
 use Rattle.swim_disk.specs.declared.cached.Deed.{Deed}
 use Rattle.swim_disk.specs.declared.past.Call.{Call}
 use Rattle.swim_disk.specs.declared.past.Call.TheVariants.{Write}
-use Rattle.swim_disk.proofs.Filing.{file_puts, fresh_by, noted_more}
+use Rattle.swim_disk.proofs.Filing.{file_puts, fresh_by}
 use Rattle.swim_disk.proofs.file.FileDisk.put.Goals as goal
 
 module _ (c : goal.After-drop-self-inside) where
   same : c.in_ok-bytes.bytes.items ≡ c.args.bytes.now
   same = search rules
-
-  noted : map (λ (n : Call × Unit {0}). n.0) c.and-self-inside.result.items ≡ map (λ (n : Call × Unit {0}). n.0) c.self.inside.calls.items ++ Write c.args.at c.in_ok-bytes.bytes ∷ []
-  noted = noted_more _ _ _ c.and-self-inside.ensures
 
 pub invariant_of-self-2 : goal.invariant_of-self-2
 invariant_of-self-2 c =
@@ -24,8 +21,8 @@ invariant_of-self-2 c =
     let cache = cache_of c.write-written.new.self in
     let pushed : c.push_reserved.new.self.items ≡ self.unsynced.items ++ call ∷ [] = search rules in
     let next : c.in_ok-next.next.items ≡ overlaid self.content.items c.args.at c.in_ok-bytes.bytes.items = c.in_ok-next.ensures.bytes ∙ ap (λ (l : List ℕ). overlaid l c.args.at c.args.bytes.now) c.deref.ensures.value ∙ ap (λ (b : List ℕ). overlaid self.content.items c.args.at b) (sym (same c)) in
-    subst (λ (l : List Call). IsFile c.in_ok-next.next.items l (map (λ (n : Call × Unit {0}). n.0) c.and-self-inside.result.items) stale cache) (sym pushed)
-    (subst (λ (l : List Call). IsFile c.in_ok-next.next.items (self.unsynced.items ++ call ∷ []) l stale cache) (sym (noted c))
+    subst (λ (l : List Call). IsFile c.in_ok-next.next.items l c.and-self-inside.result stale cache) (sym pushed)
+    (subst (λ (l : List Call). IsFile c.in_ok-next.next.items (self.unsynced.items ++ call ∷ []) l stale cache) (sym c.and-self-inside.ensures)
     (file_puts c.write-written.result self.content.items c.in_ok-next.next.items self.unsynced.items _ self.is_stale stale self.file.deeds.items _ c.args.at c.in_ok-bytes.bytes c.self.invariant c.in_ok-next.ensures.size next c.write-written.ensures
     (fresh_by c.write-written.result self.is_stale c.is_err.result c.is_err.ensures.value)))
 
@@ -33,7 +30,7 @@ pub returns-clause-given : goal.returns-clause-given
 returns-clause-given c = (
   c.in_ok-bytes.bytes,
   same c,
-  ap (λ (l : List Call). record { name = c.self.inside.number; calls = l; failures = count_of c.self.inside.failures; asked = count_of c.self.inside.asked; deeds = c.write-written.new.self.deeds.items }) (noted c)
-      ∙ ap (λ (l : List (Deed × Call)). record { name = c.self.inside.number; calls = map (λ (n : Call × Unit {0}). n.0) c.self.inside.calls.items ++ Write c.args.at c.in_ok-bytes.bytes ∷ []; failures = count_of c.self.inside.failures; asked = count_of c.self.inside.asked; deeds = l }) c.write-written.ensures
+  ap (λ (l : List Call). record { name = c.self.inside.number; calls = l; failures = count_of c.self.inside.failures; asked = count_of c.self.inside.asked; deeds = c.write-written.new.self.deeds.items }) c.and-self-inside.ensures
+      ∙ ap (λ (l : List (Deed × Call)). record { name = c.self.inside.number; calls = c.self.inside.calls ++ Write c.args.at c.in_ok-bytes.bytes ∷ []; failures = count_of c.self.inside.failures; asked = count_of c.self.inside.asked; deeds = l }) c.write-written.ensures
       ∙ ap (λ (v : FileView). record v { calls = v.calls ++ Write c.args.at c.in_ok-bytes.bytes ∷ []; deeds = v.deeds ++ (deed_of c.write-written.result, Write c.args.at c.in_ok-bytes.bytes) ∷ [] }) c.self.view_is,
 )
