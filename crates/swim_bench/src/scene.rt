@@ -53,16 +53,11 @@ pub(crate) fn settings_of(period: u64) -> Option<Settings>
     ensures { IfSome result (λ s. AreSound s) }
 {
     let settings = Settings {
-        group: GROUP,
-        me: endpoint(ME),
-        lambda: 3,
         period,
         direct: period.saturating_sub(1),
         suspect: 100_000,
         forget: 1_000_000,
-        helpers: 3,
-        block: 1,
-        rules: 1,
+        ..Settings::usual(GROUP, endpoint(ME))
     };
     settings.check().ok()?;
     Some(settings)

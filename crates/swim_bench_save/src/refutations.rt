@@ -45,16 +45,8 @@ pub(crate) fn open<D: Disk + Drop>(
     block: u64,
 ) -> Option<Node<D>> {
     let settings = Settings {
-        group: owner.group,
-        me: owner.me,
-        lambda: 3,
-        period: 10,
-        direct: 3,
-        suspect: 50,
-        forget: 6000,
-        helpers: 3,
         block,
-        rules: 1,
+        ..Settings::usual(owner.group, owner.me)
     };
     settings.check().ok()?;
     Node::open(alloc, disk, settings, LIMIT).ok()

@@ -4,6 +4,7 @@ use Rattle.std.specs.Prelude.{◌≡◌, ℕ, ◌+◌, ◌<◌, ◌≤◌, ◌==
 use Rattle.std.specs.Prelude.{slice_index_or, slice_set, zero, suc}
 use Rattle.swim_wire.specs.Filler.{filler}
 use Rattle.swim_gossip.specs.declared.buffer.Waiting.{Waiting}
+use Rattle.swim_gossip.specs.declared.buffer.TheConstants.{BUCKETS_MAX, WAITING_MAX}
 use Rattle.swim_gossip.specs.Queue.{AreApart}
 
 -- what stands at a place of the queue
@@ -30,21 +31,21 @@ abbrev pub below : ℕ → List Waiting → ℕ
 below limit [] = 0
 below limit (w ∷ queue) = cond (nat_lt w.count limit) (suc (below limit queue)) (below limit queue)
 
--- these places are linked one to the next from the head on, and the last one to 257
+-- these places are linked one to the next from the head on, and the last one to none
 abbrev pub IsChain : List ℕ → ℕ → List ℕ → Type 0
-IsChain links head [] = head ≡ 257
-IsChain links head (x ∷ xs) = (head ≡ x) × IsChain links (slice_index_or links x 257) xs
+IsChain links head [] = head ≡ WAITING_MAX
+IsChain links head (x ∷ xs) = (head ≡ x) × IsChain links (slice_index_or links x WAITING_MAX) xs
 
 -- the places of each bucket below limit are linked from its head on
 abbrev pub AreChains : ℕ → List Waiting → List ℕ → List ℕ → Type 0
 AreChains limit queue heads links =
-    (c : ℕ) → c < limit → IsChain links (slice_index_or heads c 257) (spots c 0 queue)
+    (c : ℕ) → c < limit → IsChain links (slice_index_or heads c WAITING_MAX) (spots c 0 queue)
 
 -- what holds of a buffer at all times
 pub record AreKept (queue : List Waiting) (most : ℕ) : Type 0 where
   pub apart : AreApart queue
   pub within : AreWithin most queue
-  pub last : most ≤ 144
+  pub last : most ≤ BUCKETS_MAX
 
 -- one more send
 abbrev pub bump : Waiting → Waiting

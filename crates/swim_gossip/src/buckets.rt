@@ -5,6 +5,8 @@
 ghost use Rattle.std.specs.Prelude.{◌≡◌, ℕ, ◌+◌, ◌<◌, ◌≤◌, false, List, [], ◌++◌, length, map, take, slice_index_or, All};
 ghost use Rattle.swim_gossip.specs.Queue.{picked_updates, raise_all, AreApart};
 ghost use Rattle.swim_gossip.specs.Buckets.{at, below, spots, runs, raised_at, AreChains, IsChain, AreWithin};
+ghost use Rattle.swim_gossip.specs.declared.buffer.TheConstants.{BUCKETS_MAX, WAITING_MAX};
+ghost use Rattle.swim_wire.specs.declared.datagram.TheConstants.{UPDATES_MAX};
 
 use crate::buffer::{BUCKETS_MAX, WAITING_MAX, Waiting};
 use crate::visits::Visits;
@@ -23,12 +25,12 @@ fn link_all(
     links: &mut [u16],
     visits: &mut Visits,
 ) -> usize
-    requires few { length queue.now ≤ 257 }
-    requires limit { limit ≤ 144 }
-    requires heads { length heads.old ≡ 145 }
-    requires links { length links.old ≡ 257 }
-    requires none { (c : ℕ) → slice_index_or heads.old c 257 ≡ 257 }
-    requires begun { visits.old ≤ 257 }
+    requires few { length queue.now ≤ WAITING_MAX }
+    requires limit { limit ≤ BUCKETS_MAX }
+    requires heads { length heads.old ≡ BUCKETS_MAX + 1 }
+    requires links { length links.old ≡ WAITING_MAX }
+    requires none { (c : ℕ) → slice_index_or heads.old c WAITING_MAX ≡ WAITING_MAX }
+    requires begun { visits.old ≤ WAITING_MAX }
     ensures count { result ≡ below limit queue.now }
     ensures chains { AreChains limit queue.now heads.new links.new }
     ensures visits { visits.new ≤ visits.old + 514 }
@@ -48,23 +50,29 @@ fn link_all(
     linked
 }
 
+/// The buckets as they are linked: the first place of each, and the place after each place.
+#[derive(Clone, Copy)]
+struct Chains<'a> {
+    heads: &'a [u16],
+    links: &'a [u16],
+}
+
 /// Takes the places of a bucket, as long as there is room.
 fn take_bucket(
     queue: &[Waiting],
-    heads: &[u16],
-    links: &[u16],
+    chains: Chains<'_>,
     count: u32,
     room: usize,
     places: &mut ArrayVec<u16, UPDATES_MAX>,
     visits: &mut Visits,
 )
-    requires few { length queue.now ≤ 257 }
-    requires heads { length heads.now ≡ 145 }
-    requires links { length links.now ≡ 257 }
-    requires chain { IsChain links.now (slice_index_or heads.now count 257)
-        (spots count 0 queue.now) }
-    requires count { count ≤ 144 }
-    requires room { room ≤ 30 }
+    requires few { length queue.now ≤ WAITING_MAX }
+    requires heads { length chains.heads.now ≡ BUCKETS_MAX + 1 }
+    requires links { length chains.links.now ≡ WAITING_MAX }
+    requires chain { IsChain chains.links.now
+        (slice_index_or chains.heads.now count WAITING_MAX) (spots count 0 queue.now) }
+    requires count { count ≤ BUCKETS_MAX }
+    requires room { room ≤ UPDATES_MAX }
     requires before { length places.old.items ≤ room }
     requires begun { visits.old ≤ 1000 }
     ensures places { places.new.items ≡ take room (places.old.items ++ spots count 0 queue.now) }
@@ -73,11 +81,11 @@ fn take_bucket(
         ≤ visits.old + 1 + length places.new.items }
 {
     visits.look();
-    let mut place = heads[count as usize];
+    let mut place = chains.heads[count as usize];
     while (place as usize) < queue.len() && places.len() < room {
         visits.look();
         places.push(place);
-        place = links[place as usize];
+        place = chains.links[place as usize];
     }
 }
 
@@ -90,21 +98,22 @@ fn take_buckets(
     room: usize,
     visits: &mut Visits,
 ) -> ArrayVec<u16, UPDATES_MAX>
-    requires few { length queue.now ≤ 257 }
-    requires heads { length heads.now ≡ 145 }
-    requires links { length links.now ≡ 257 }
+    requires few { length queue.now ≤ WAITING_MAX }
+    requires heads { length heads.now ≡ BUCKETS_MAX + 1 }
+    requires links { length links.now ≡ WAITING_MAX }
     requires chains { AreChains limit queue.now heads.now links.now }
-    requires limit { limit ≤ 144 }
-    requires room { room ≤ 30 }
+    requires limit { limit ≤ BUCKETS_MAX }
+    requires room { room ≤ UPDATES_MAX }
     requires begun { visits.old ≤ 800 }
     ensures places { result.items ≡ take room (runs limit queue.now) }
     ensures room { length result.items ≤ room }
     ensures visits { visits.new ≤ visits.old + 174 }
 {
+    let chains = Chains { heads, links };
     let mut places = ArrayVec::new();
     let mut count = 0;
     while count < limit && places.len() < room {
-        take_bucket(queue, heads, links, count, room, &mut places, visits);
+        take_bucket(queue, chains, count, room, &mut places, visits);
         count += 1;
     }
     places
@@ -118,13 +127,13 @@ fn send_at(
     visits: &mut Visits,
 )
     requires places { All (λ x. x < length queue.old) places.now }
-    requires counts { AreWithin 144 queue.old }
-    requires few { length places.now ≤ 30 }
+    requires counts { AreWithin BUCKETS_MAX queue.old }
+    requires few { length places.now ≤ UPDATES_MAX }
     requires empty { updates.old.items ≡ [] }
     requires begun { visits.old ≤ 1000 }
     ensures updates { updates.new.items ≡ map (λ x. (at queue.old x).update) places.now }
     ensures queue { queue.new ≡ raised_at places.now queue.old }
-    ensures visits { visits.new ≤ visits.old + 30 }
+    ensures visits { visits.new ≤ visits.old + UPDATES_MAX }
 {
     visits.look_at(places.len());
     for place in places {
@@ -135,10 +144,10 @@ fn send_at(
 
 /// Whether one of them was sent fewer than `limit` times.
 fn is_any_below(queue: &[Waiting], limit: u32, visits: &mut Visits) -> bool
-    requires few { length queue.now ≤ 257 }
+    requires few { length queue.now ≤ WAITING_MAX }
     requires begun { visits.old ≡ 0 }
     ensures none { result ≡ false → below limit queue.now ≡ 0 }
-    ensures visits { visits.new ≤ 257 }
+    ensures visits { visits.new ≤ WAITING_MAX }
 {
     visits.look_at(queue.len());
     // The least of all, and not the first below the limit: that loop looks at several at a time.
@@ -158,10 +167,10 @@ fn next_places(
     links: &mut [u16],
     visits: &mut Visits,
 ) -> ArrayVec<u16, UPDATES_MAX>
-    requires links { length links.old ≡ 257 }
-    requires few { length queue.now ≤ 257 }
-    requires limit { limit ≤ 144 }
-    requires room { room ≤ 30 }
+    requires links { length links.old ≡ WAITING_MAX }
+    requires few { length queue.now ≤ WAITING_MAX }
+    requires limit { limit ≤ BUCKETS_MAX }
+    requires room { room ≤ UPDATES_MAX }
     requires begun { visits.old ≡ 0 }
     ensures places { result.items ≡ take room (runs limit queue.now) }
     ensures room { length result.items ≤ room }
@@ -184,12 +193,12 @@ pub(crate) fn pick_from(
     updates: &mut ArrayVec<Update, UPDATES_MAX>,
     visits: &mut Visits,
 )
-    requires room { room ≤ 30 }
-    requires links { length links.old ≡ 257 }
+    requires room { room ≤ UPDATES_MAX }
+    requires links { length links.old ≡ WAITING_MAX }
     requires apart { AreApart queue.old }
-    requires few { length queue.old ≤ 257 }
-    requires counts { AreWithin 144 queue.old }
-    requires limit { limit ≤ 144 }
+    requires few { length queue.old ≤ WAITING_MAX }
+    requires counts { AreWithin BUCKETS_MAX queue.old }
+    requires limit { limit ≤ BUCKETS_MAX }
     requires empty { updates.old.items ≡ [] }
     requires begun { visits.old ≡ 0 }
     ensures picked { updates.new.items ≡ picked_updates limit room queue.old }

@@ -4,15 +4,16 @@ ghost use Rattle.std.specs.Prelude.{◌≡◌, ℕ, ◌+◌, ◌<◌, ◌≤◌,
 ghost use Rattle.swim_wire.specs.Filler.{filler};
 ghost use Rattle.swim_gossip.specs.Queue.{without, offered_queue, queue_place, picked_updates, raise_all, AreApart};
 ghost use Rattle.swim_gossip.specs.Buckets.{AreWithin};
+ghost use Rattle.swim_wire.specs.declared.datagram.TheConstants.{UPDATES_MAX};
 
 use crate::buckets::pick_from;
 use crate::visits::Visits;
 use arrayvec::ArrayVec;
 use std::marker::Model;
-use swim_wire::{Endpoint, UPDATES_MAX, Update};
+use swim_wire::{Endpoint, MEMBERS_MAX, UPDATES_MAX, Update};
 
-/// The most updates that wait: one about each of 256 members, and the own one.
-pub const WAITING_MAX: usize = 257;
+/// The most updates that wait: one about each member.
+pub const WAITING_MAX: usize = MEMBERS_MAX;
 
 /// An update and how many datagrams have carried it since it began to wait.
 #[derive(Clone, Copy, Debug, PartialEq, Eq)]
@@ -62,7 +63,7 @@ impl Model for Buffer {
 /// is told anew began to wait mostly long ago or just now.
 fn place_of(queue: &[Waiting], who: Endpoint, visits: &mut Visits) -> usize
     requires apart { AreApart queue.now }
-    requires few { length queue.now ≤ 257 }
+    requires few { length queue.now ≤ WAITING_MAX }
     requires begun { visits.old ≡ 0 }
     ensures place { result ≡ queue_place who queue.now }
     ensures visits { visits.new ≤ 258 }
@@ -100,7 +101,7 @@ fn remove_about(queue: &mut ArrayVec<Waiting, WAITING_MAX>, who: Endpoint, visit
 /// Puts an update at the end, in the place of the one about the same member.
 fn offer_in(queue: &mut ArrayVec<Waiting, WAITING_MAX>, update: Update, visits: &mut Visits)
     requires apart { AreApart queue.old.items }
-    requires room { length (without update.who queue.old.items) < 257 }
+    requires room { length (without update.who queue.old.items) < WAITING_MAX }
     requires begun { visits.old ≡ 0 }
     ensures queue { queue.new.items ≡ offered_queue queue.old.items update }
     ensures visits { visits.new ≤ 516 }
@@ -119,11 +120,11 @@ fn pick_in(
     updates: &mut ArrayVec<Update, UPDATES_MAX>,
     visits: &mut Visits,
 )
-    requires room { room ≤ 30 }
-    requires links { length links.old ≡ 257 }
+    requires room { room ≤ UPDATES_MAX }
+    requires links { length links.old ≡ WAITING_MAX }
     requires apart { AreApart queue.old.items }
-    requires counts { AreWithin 144 queue.old.items }
-    requires limit { limit ≤ 144 }
+    requires counts { AreWithin BUCKETS_MAX queue.old.items }
+    requires limit { limit ≤ BUCKETS_MAX }
     requires empty { updates.old.items ≡ [] }
     requires begun { visits.old ≡ 0 }
     ensures picked { updates.new.items ≡ picked_updates limit room queue.old.items }
@@ -137,7 +138,7 @@ fn pick_in(
 impl Buffer {
     /// A buffer in which nothing waits, with the buckets 0 to `most`.
     pub fn new(most: u32) -> Buffer
-        requires { most ≤ 144 }
+        requires { most ≤ BUCKETS_MAX }
         ensures { result ≡ record { queue = []; most = most } }
     {
         Buffer {
@@ -150,7 +151,7 @@ impl Buffer {
     /// How many updates stand in the buffer.
     pub fn len(&self) -> usize
         ensures len { result ≡ length self.now.queue }
-        ensures bound { result ≤ 257 }
+        ensures bound { result ≤ WAITING_MAX }
         ensures kept { AreApart self.now.queue }
     {
         self.queue.len()
@@ -166,7 +167,7 @@ impl Buffer {
     /// Lets an update begin to wait, in the place of the one about the same member, for which there
     /// is always room; about another member there must be room for one more.
     pub fn offer(&mut self, update: Update, visits: &mut Visits)
-        requires room { length (without update.who self.old.queue) < 257 }
+        requires room { length (without update.who self.old.queue) < WAITING_MAX }
         requires begun { visits.old ≡ 0 }
         ensures queue { self.new ≡ record self.old { queue = offered_queue self.old.queue update } }
         ensures kept { AreApart self.new.queue }
@@ -195,7 +196,7 @@ impl Buffer {
         room: usize,
         visits: &mut Visits,
     ) -> ArrayVec<Update, UPDATES_MAX>
-        requires room { room ≤ 30 }
+        requires room { room ≤ UPDATES_MAX }
         requires limit { limit ≤ self.old.most }
         requires begun { visits.old ≡ 0 }
         ensures picked { result.items ≡ picked_updates limit room self.old.queue }

@@ -1,4 +1,4 @@
--- The numbers, names and texts of notes and of faults of settings.
+-- The words for phases, and the numbers, names and texts of notes and of faults of settings.
 use Rattle.std.specs.Prelude.{ℕ, List, [], ◌++◌, codes}
 use Rattle.std.specs.Fmt.{decimal}
 use Rattle.swim_wire.specs.Codes.{fault_text, number_and_name}
@@ -6,6 +6,14 @@ use Rattle.swim_member.specs.declared.note.Note.{Note}
 use Rattle.swim_member.specs.declared.note.Note.TheVariants as note
 use Rattle.swim_member.specs.declared.settings.SettingsFault.{SettingsFault}
 use Rattle.swim_member.specs.declared.settings.SettingsFault.TheVariants as setting
+use Rattle.swim_member.specs.declared.state.Phase.{Phase}
+use Rattle.swim_member.specs.declared.state.Phase.TheVariants.{Running, Left, Expelled}
+
+-- the word for a phase
+abbrev pub phase_word : Phase → List ℕ
+phase_word Running = codes "running"
+phase_word Left = codes "left"
+phase_word Expelled = codes "expelled"
 
 -- the number and the name of each fault of the settings, and its text
 abbrev pub setting_number : SettingsFault → ℕ

@@ -1,7 +1,7 @@
 //! The settings of a member.
 
 ghost use Rattle.std.specs.Prelude.{◌≡◌, ◌≤◌, Some, OnOk, IfErr};
-ghost use Rattle.swim_member.specs.Checks.{AreSound, fault_of, rules_of};
+ghost use Rattle.swim_member.specs.Checks.{AreSound, usual_settings, fault_of, rules_of};
 ghost use Rattle.swim_member.specs.declared.settings.TheConstants.{BLOCK_MAX};
 
 use crate::member::Member;
@@ -113,6 +113,25 @@ pub struct Settings {
 }
 
 impl Settings {
+    /// The settings of a member that is told none but its group and its endpoint: the defaults of a settings file.
+    pub fn usual(group: u64, me: Endpoint) -> Settings
+        ensures value { result ≡ usual_settings group me }
+        ensures sound { AreSound result }
+    {
+        Settings {
+            group,
+            me,
+            lambda: 3,
+            period: 10,
+            direct: 3,
+            suspect: 50,
+            forget: 6000,
+            helpers: 3,
+            block: 1,
+            rules: 1,
+        }
+    }
+
     /// Judges the settings in the order of the faults, and gives the first that is there.
     pub fn check(&self) -> Result<(), SettingsFault>
         ensures ok { OnOk result (AreSound self.now) }

@@ -1,6 +1,7 @@
 //! Parts of a member's state.
 
 ghost use Rattle.std.specs.Prelude.{◌≡◌};
+ghost use Rattle.swim_member.specs.Texts.{phase_word};
 
 use swim_wire::{Cursor, Endpoint};
 
@@ -13,6 +14,19 @@ pub enum Phase {
     Left,
     /// It heard that the group holds it for failed.
     Expelled,
+}
+
+impl Phase {
+    /// The word for it, as transcripts and control answers write it: `running`, `left` or `expelled`.
+    pub fn name(self) -> &'static str
+        ensures { result.now ≡ phase_word self }
+    {
+        match self {
+            Phase::Running => "running",
+            Phase::Left => "left",
+            Phase::Expelled => "expelled",
+        }
+    }
 }
 
 /// How many rows of each kind a member has.

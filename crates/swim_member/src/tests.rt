@@ -80,16 +80,13 @@ fn settings() -> Settings
     ensures { AreSound result }
 {
     Settings {
-        group: 7,
-        me: endpoint(ME),
         lambda: 2,
         period: 4,
         direct: 2,
         suspect: 8,
         forget: 40,
         helpers: 2,
-        block: 1,
-        rules: 1,
+        ..Settings::usual(7, endpoint(ME))
     }
 }
 

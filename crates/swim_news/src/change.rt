@@ -2,7 +2,6 @@
 
 use std::fmt;
 use swim_wire::{Endpoint, Update};
-use swim_words::kind_name;
 
 /// What became of a member's row from one list of rows to a later one. It prints as
 /// `member 10.0.0.2:7000 alive 3, was suspect 2`, with `unknown` where there is no row.
@@ -69,7 +68,7 @@ impl fmt::Display for Said {
     fn fmt<W: fmt::Write>(&self, f: &mut fmt::Formatter<W>) -> fmt::Result {
         match self.0 {
             Some(row) => {
-                let kind = kind_name(row.kind);
+                let kind = row.kind.name();
                 let number = row.number;
                 write!(f, "{kind} {number}")
             }

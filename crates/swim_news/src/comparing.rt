@@ -5,12 +5,12 @@ ghost use Rattle.swim_news.specs.News.{AreFrom, AreNews};
 ghost use Rattle.swim_news.specs.Machinery.Merging.{Takes};
 
 use crate::change::Change;
-use crate::rows::{ROWS_MAX, Rows};
+use crate::rows::Rows;
 use arrayvec::ArrayVec;
-use swim_wire::Update;
+use swim_wire::{MEMBERS_MAX, Update};
 
 /// The most changes: each row is gone, and each is new.
-pub const CHANGES_MAX: usize = 2 * ROWS_MAX;
+pub const CHANGES_MAX: usize = 2 * MEMBERS_MAX;
 
 /// Changes, in the order of their members.
 pub type Changes = ArrayVec<Change, CHANGES_MAX>;

@@ -3,7 +3,6 @@
 use crate::change::Change;
 use std::fmt;
 use swim_wire::Update;
-use swim_words::kind_name;
 
 /// What a row says of its member, as a JSON object has it: `"kind":"alive","number":3`.
 #[derive(Clone, Copy)]
@@ -11,7 +10,7 @@ struct Saying(Update);
 
 impl fmt::Display for Saying {
     fn fmt<W: fmt::Write>(&self, f: &mut fmt::Formatter<W>) -> fmt::Result {
-        let kind = kind_name(self.0.kind);
+        let kind = self.0.kind.name();
         let number = self.0.number;
         write!(f, "\"kind\":\"{kind}\",\"number\":{number}")
     }

@@ -12,4 +12,4 @@ mod tests;
 pub use change::Change;
 pub use comparing::{CHANGES_MAX, Changes, compare};
 pub use json::{ChangeJson, RowJson};
-pub use rows::{ROWS_MAX, Rows};
+pub use rows::{PAGES_MAX, Rows};

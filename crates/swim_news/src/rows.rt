@@ -5,10 +5,10 @@ ghost use Rattle.swim_news.specs.News.{AreFrom};
 
 use arrayvec::ArrayVec;
 use std::marker::Model;
-use swim_wire::{Endpoint, Update};
+use swim_wire::{Endpoint, MEMBERS_MAX, UPDATES_MAX, Update};
 
-/// The most rows: those of 256 others, and the member's own.
-pub const ROWS_MAX: usize = 257;
+/// The most pages of all rows, the last of which is not full.
+pub const PAGES_MAX: usize = MEMBERS_MAX / UPDATES_MAX + 1;
 
 /// Whether the row's member comes after those of the rows.
 #[tactic(auto, using(crate::proofs::Order::after_none, crate::proofs::Order::after_last))]
@@ -25,7 +25,7 @@ fn comes_after(rows: &[Update], row: &Update) -> bool
 /// What a member knows of all members, itself among them: a row each, in the order of their endpoints.
 #[derive(Drop)]
 pub struct Rows {
-    items: ArrayVec<Update, ROWS_MAX>,
+    items: ArrayVec<Update, MEMBERS_MAX>,
 }
 
 impl Model for Rows {
@@ -54,7 +54,7 @@ impl Rows {
     pub fn as_slice(&self) -> &[Update]
         ensures rows { result.now ≡ self.now }
         ensures order { AreFrom 0 result.now }
-        ensures most { length result.now ≤ ROWS_MAX }
+        ensures most { length result.now ≤ MEMBERS_MAX }
     {
         self.items.as_slice()
     }
@@ -68,7 +68,7 @@ impl Rows {
     }
 
     /// Adds a row after all others, and says so. It is refused if its member does not come after theirs, or if there are
-    /// `ROWS_MAX` rows.
+    /// `MEMBERS_MAX` rows.
     pub fn add(&mut self, row: Update) -> bool
         ensures added { IsTrue result → self.new ≡ self.old ++ row ∷ [] }
         ensures refused { IsFalse result → self.new ≡ self.old }

@@ -8,7 +8,7 @@ use Rattle.swim_node.specs.declared.entry.Outcome.TheVariants.{Taken, Lost}
 use Rattle.swim_node.specs.declared.entry.Save.{Save}
 use Rattle.swim_node.specs.declared.entry.Save.TheVariants.{Kept, Done, Failed}
 use Rattle.swim_node.specs.declared.entry.Status.{Status}
-use Rattle.swim_words.specs.Names.{phase_word}
+use Rattle.swim_member.specs.Texts.{phase_word}
 use Rattle.swim_play.specs.declared.session.Refusal.{Refusal}
 use Rattle.swim_play.specs.declared.session.Refusal.TheVariants.{Settings, Open}
 

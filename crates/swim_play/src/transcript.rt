@@ -13,7 +13,6 @@ use swim_member::{Note, Out};
 use swim_node::{Entry, Outcome, Save, Status};
 use swim_state::{Peers, Reading, slots_in};
 use swim_wire::{Update, encode};
-use swim_words::{kind_name, phase_name};
 
 /// The name of what became of the ceiling.
 fn save_name(save: Save) -> &'static str
@@ -53,7 +52,7 @@ impl fmt::Display for EventLine {
         let length = self.status.length;
         let number = self.status.number;
         let save = save_name(self.save);
-        let phase = phase_name(self.status.phase);
+        let phase = self.status.phase.name();
         write!(
             f,
             "event {length} save {save} number {number} phase {phase}"
@@ -71,7 +70,7 @@ fn write_note(text: &mut String, note: Note) -> Result<(), AllocError> {
 }
 
 fn write_row(text: &mut String, update: &Update) -> Result<(), AllocError> {
-    let kind = kind_name(update.kind);
+    let kind = update.kind.name();
     let who = update.who;
     let number = update.number;
     writeln!(text, "row {kind} {who} {number}")

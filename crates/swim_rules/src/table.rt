@@ -11,10 +11,10 @@ ghost use Rattle.swim_rules.specs.Machinery.Places.{IsRowAt, IsGapAt, row_place,
 use crate::overriding::overrides;
 use arrayvec::ArrayVec;
 use std::marker::Model;
-use swim_wire::{Cursor, Endpoint, Rules, Update, UpdateKind};
+use swim_wire::{Cursor, Endpoint, MEMBERS_MAX, Rules, Update, UpdateKind};
 
-/// The most rows of a table.
-pub const ROWS_MAX: usize = 256;
+/// The most rows of a table: one of each other member.
+pub const ROWS_MAX: usize = MEMBERS_MAX - 1;
 
 /// A row of the table: the update that was accepted last, and when.
 #[derive(Clone, Copy, Debug, PartialEq, Eq)]

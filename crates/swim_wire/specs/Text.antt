@@ -1,6 +1,8 @@
--- The text of an endpoint.
-use Rattle.std.specs.Prelude.{ℕ, ◌/◌, ◌%◌, List, ◌∷◌, ◌++◌}
+-- The text of an endpoint, and the word for what an update says.
+use Rattle.std.specs.Prelude.{ℕ, ◌/◌, ◌%◌, List, ◌∷◌, ◌++◌, codes}
 use Rattle.std.specs.Fmt.{decimal}
+use Rattle.swim_wire.specs.declared.update.UpdateKind.{UpdateKind}
+use Rattle.swim_wire.specs.declared.update.UpdateKind.TheVariants.{Alive, Suspect, Confirm}
 
 -- a text with this byte between two parts
 abbrev pub split_by : ℕ → List ℕ → List ℕ → List ℕ
@@ -19,3 +21,9 @@ abbrev pub endpoint_text : ℕ → List ℕ
 endpoint_text e =
     dotted (e / 65536 / 16777216) (e / 65536 / 65536 % 256) (e / 65536 / 256 % 256)
     (e / 65536 % 256) (e % 65536)
+
+-- the word for what an update says
+abbrev pub kind_word : UpdateKind → List ℕ
+kind_word Alive = codes "alive"
+kind_word Suspect = codes "suspect"
+kind_word Confirm = codes "confirm"

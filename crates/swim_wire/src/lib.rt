@@ -28,7 +28,7 @@ pub use laws::{
 };
 pub use reading::decode;
 pub use rules::Rules;
-pub use update::{LEAP, NUMBER_MAX, Update, UpdateKind};
+pub use update::{LEAP, MEMBERS_MAX, NUMBER_MAX, Update, UpdateKind};
 pub use writing::encode;
 
 #[cfg(test)]

@@ -11,11 +11,15 @@
 
 ghost use Rattle.std.specs.Prelude.{◌≡◌, ◌≢◌, ◌≤◌, ◌↔◌, length, Some, None, IsTrue, IfSome, IfNone};
 ghost use Rattle.swim_wire.specs.Filler.{filler};
+ghost use Rattle.swim_wire.specs.Text.{kind_word};
 ghost use Rattle.swim_wire.specs.Updates.{update_code, HasReservedUpdate, HasNoMember, HasUnknownCode, HasGreatNumber};
 ghost use Rattle.swim_wire.specs.declared.update.UpdateKind.{UpdateKind as UpdateKinds};
 
 use crate::endpoint::{Endpoint, PORT_AT};
 use byteorder::{BigEndian, ByteOrder};
+
+/// The most members that one member knows, itself among them.
+pub const MEMBERS_MAX: usize = 257;
 
 /// The greatest incarnation number, 2^62.
 pub const NUMBER_MAX: u64 = 1 << 62;
@@ -57,6 +61,17 @@ impl UpdateKind {
             2 => Some(UpdateKind::Suspect),
             3 => Some(UpdateKind::Confirm),
             _ => None,
+        }
+    }
+
+    /// The word for it, as transcripts and control answers write it: `alive`, `suspect` or `confirm`.
+    pub fn name(self) -> &'static str
+        ensures { result.now ≡ kind_word self }
+    {
+        match self {
+            UpdateKind::Alive => "alive",
+            UpdateKind::Suspect => "suspect",
+            UpdateKind::Confirm => "confirm",
         }
     }
 
