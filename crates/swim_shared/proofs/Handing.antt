@@ -1,7 +1,8 @@
 -- Datagrams that are handed on one by one.
 use Rattle.std.proofs.Common.{◌≡◌, ℕ, ◌+◌, Bool, true, false, List, [], ◌∷◌, ◌++◌, length, refl, ap, sym, ◌∙◌, arith, append_assoc, length-append, if◌then◌else◌}
 use Rattle.std.proofs.lemmas.List.{append-nil}
-use Rattle.swim_shared.specs.Outboxes.{Fate, all_of, kept_of, lost_of, Handed, HandedOne}
+use Rattle.swim_node.specs.Link.{Fate, all_of, kept_of, lost_of}
+use Rattle.swim_shared.specs.Outboxes.{Handed, HandedOne}
 
 all_of-append : (xs ys : List Fate) → all_of (xs ++ ys) ≡ all_of xs ++ all_of ys
 all_of-append [] ys = refl

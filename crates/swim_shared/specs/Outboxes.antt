@@ -4,7 +4,7 @@ use Rattle.std.specs.Prelude.{List, [], ◌∷◌, ◌++◌, map}
 use Rattle.rtrb.specs.Ring.{sent, received, known_items}
 use Rattle.rtrb.specs.declared.producer.Producer.{Producer}
 use Rattle.rtrb.specs.declared.consumer.Consumer.{Consumer}
-use Rattle.swim_node.specs.Link.{LinkId}
+use Rattle.swim_node.specs.Link.{LinkId, Fate, all_of, kept_of, lost_of}
 use Rattle.swim_shared.specs.declared.packet.Packet.{Packet}
 
 module _ {T A P : Type 0} where
@@ -44,26 +44,6 @@ module _ {A P : Type 0} where
   -- destination and text of all that was taken out of the ring, in order
   abbrev pub got : Consumer Packet A P → List (ℕ × List ℕ)
   got c = map destination_and_bytes (received c)
-
--- a datagram that a link was handed, and whether it took it
-pub record Fate : Type 0 where
-  pub datagram : ℕ × List ℕ
-  pub taken : Bool
-
--- the datagrams, whatever became of them
-abbrev pub all_of : List Fate → List (ℕ × List ℕ)
-all_of [] = []
-all_of (f ∷ fs) = f.datagram ∷ all_of fs
-
--- the datagrams that the link took
-abbrev pub kept_of : List Fate → List (ℕ × List ℕ)
-kept_of [] = []
-kept_of (f ∷ fs) = if f.taken then f.datagram ∷ kept_of fs else kept_of fs
-
--- how many the link refused
-abbrev pub lost_of : List Fate → ℕ
-lost_of [] = 0
-lost_of (f ∷ fs) = (if f.taken then 0 else 1) + lost_of fs
 
 -- a link tells what it took and how many it refused
 module _ {L : Type 0} (tells : Type 0) (took : L → List (ℕ × List ℕ)) (failures : L → ℕ) where

@@ -1,7 +1,7 @@
 //! A node under one lock, and what its callers know of its history without it.
 //!
 //! Any number of threads call one node, each with a pass of its own, and all answered calls are one
-//! history. Watches read the status without the lock. A caller (`swim_two_callers` is the program):
+//! history. Watches read the status without the lock. A caller (`swim_under_lock` is the program):
 //!
 //! ```text
 //! fn ticks<N: Name, D: Disk + Drop, L: Link + Drop, R: Wait>(

@@ -6,11 +6,11 @@ ghost use Rattle.swim_shared.specs.Outboxes.{ring_of, put};
 use crate::packet::Packet;
 use crate::sender::Sender;
 use arrayvec::ArrayVec;
-use http_server::Log;
 use rtrb::{Producer, RingBuffer};
 use std::alloc::{AllocError, Global};
 use std::marker::Model;
 use swim_node::{Link, LinkFault};
+use swim_trace::Trace;
 use swim_wire::Endpoint;
 
 /// A link that puts datagrams into a ring, from which a sender takes them in order. A full ring
@@ -19,7 +19,7 @@ use swim_wire::Endpoint;
 pub struct Outbox {
     producer: Producer<Packet>,
     /// How many it refused, without a bound.
-    failures: Log<u8, u8>,
+    failures: Trace<()>,
 }
 
 impl Model for Outbox {
@@ -31,7 +31,7 @@ impl Model for Outbox {
     ghost view = { λ o. record {
       ring = ring_of o.producer;
       put = put o.producer;
-      failures = length o.failures.items;
+      failures = length o.failures;
     } };
 }
 
@@ -47,7 +47,7 @@ impl Outbox {
         let (producer, consumer) = RingBuffer::new(alloc, places)?;
         let outbox = Outbox {
             producer,
-            failures: Log::new(),
+            failures: Trace::new(),
         };
         Ok((outbox, Sender { consumer, owed: 0 }))
     }
@@ -69,7 +69,7 @@ impl Outbox {
         ensures failures { self.new.failures ≡ self.old.failures + 1 }
         ensures rest { (self.new.ring ≡ self.old.ring) × (self.new.put ≡ self.old.put) }
     {
-        self.failures = self.failures.and(&0, &0);
+        self.failures = self.failures.and(&());
         LinkFault
     }
 }

@@ -3,5 +3,5 @@
 
 mod calls;
 mod reads;
-mod scene;
 mod sends;
+mod thirds;

@@ -3,7 +3,7 @@
 ghost use Rattle.std.specs.Prelude.{◌≡◌, ◌+◌, [], length};
 ghost use Rattle.swim_node.specs.Link.{link_number};
 
-use super::scene::{Thirds, every_third, opened, ping, suspected};
+use super::thirds::{Thirds, every_third};
 use crate::{CallFault, Closed, Name, Parts, Pass, Shared};
 use std::alloc::Global;
 use std::marker::Brand;
@@ -14,11 +14,12 @@ use std::thread::{Threads, join};
 use swim_disk::Disk;
 use swim_member::Event;
 use swim_node::Node;
+use swim_scenes::{opened_by_plan, ping, suspicion};
 
 /// After the first answered call a watch is shown it, and reads a status of length 1.
 #[test]
 fn first_call(rt: HostRuntime) -> Result<(), Fail> {
-    let (node, _) = opened(&rt, rt.alloc(), 4);
+    let (node, _) = opened_by_plan(rt.alloc(), 4).ok_or("a node")?;
     let parts = Parts::new(node, every_third(), 1, 1);
     first::<Brand, _, _>(&rt, rt.alloc(), parts)
 }
@@ -40,7 +41,8 @@ fn first<N: Name, D: Disk + Drop, R: Wait + Abort>(
     let mut pass = passes.pop().ok_or("a pass")?;
     let mut watch = watches.pop().ok_or("a watch")?;
     assert_eq!(rt; watch.read().ok_or("a status")?.length, 0);
-    let reply = shared.call(rt, &mut pass, ping(rt, 1, &[]));
+    let event = ping(1, &[]).ok_or("a ping")?;
+    let reply = shared.call(rt, &mut pass, event);
     let status = reply.ok().ok_or("a reply")?.status;
     assert!(rt; shared.show(rt, &mut pass, &mut watch));
     let read = watch.read().ok_or("a status")?;
@@ -53,7 +55,7 @@ fn first<N: Name, D: Disk + Drop, R: Wait + Abort>(
 #[test]
 fn three_eras(rt: HostRuntime) -> Result<(), Fail> {
     let alloc = rt.alloc();
-    let (node, _) = opened(&rt, alloc, 2);
+    let (node, _) = opened_by_plan(alloc, 2).ok_or("a node")?;
     let parts = Parts::new(node, every_third(), 1, 0);
     let closed = one_era::<Brand, _, _>(&rt, alloc, parts, 1)?;
     let mut node = closed.node;
@@ -85,7 +87,8 @@ fn one_era<N: Name, D: Disk + Drop, R: Wait + Abort>(
     let made = Shared::<N, D, Thirds, &R>::new(alloc, rt, parts);
     let (shared, mut passes, watches) = made.ok().ok_or("memory")?;
     let mut pass = passes.pop().ok_or("a pass")?;
-    let reply = shared.call(rt, &mut pass, suspected(rt, number));
+    let event = suspicion(number).ok_or("a ping")?;
+    let reply = shared.call(rt, &mut pass, event);
     let status = reply.ok().ok_or("a reply")?.status;
     assert_eq!(rt; (status.length, status.number), (1, number.wrapping_add(1)));
     assert!(rt; shared.call(rt, &mut pass, Event::ReceiveFailed).is_ok());
@@ -104,7 +107,7 @@ fn one_era<N: Name, D: Disk + Drop, R: Wait + Abort>(
 /// node on one thread.
 #[test]
 fn two_callers(rt: HostRuntime) -> Result<(), Fail> {
-    let (node, _) = opened(&rt, rt.alloc(), 100);
+    let (node, _) = opened_by_plan(rt.alloc(), 100).ok_or("a node")?;
     let parts = Parts::new(node, every_third(), 2, 1);
     let closed = fill::<Brand, _, _>(&rt, rt.alloc(), parts)?;
     replays(&rt, rt.alloc(), &closed.node);
@@ -177,13 +180,13 @@ fn at_turn(rt: &impl Abort, turn: u32) -> Event {
     if turn % 5 == 0 {
         Event::ReceiveFailed
     } else {
-        ping(rt, turn, &[])
+        ping(turn, &[]).expect(rt, "a ping")
     }
 }
 
 /// The turns of each caller count from 1 to 50, and the replies are those of a node on one thread.
 fn replays<D: Disk>(rt: &impl Abort, alloc: Global, node: &Node<D>) {
-    let (mut alone, _) = opened(rt, alloc, 100);
+    let (mut alone, _) = opened_by_plan(alloc, 100).expect(rt, "a node");
     let mut link = every_third();
     let mut turns = [0u32; 2];
     for entry in node.journal() {

@@ -3,7 +3,7 @@
 ghost use Rattle.std.specs.Prelude.{◌≡◌, ◌+◌};
 ghost use Rattle.swim_node.specs.Link.{link_number};
 
-use super::scene::{Thirds, every_third, opened, suspected};
+use super::thirds::{Thirds, every_third};
 use crate::{Name, Parts, Pass, Shared, Watch};
 use std::alloc::Global;
 use std::marker::Brand;
@@ -14,12 +14,13 @@ use std::thread::{self, Threads, join};
 use swim_disk::{Disk, Plan};
 use swim_member::Event;
 use swim_node::Status;
+use swim_scenes::{opened_by_plan, suspicion};
 
 /// A save is held inside the disk's sync until a status was read beside it, which is the one before
 /// the call. Under one lock for both the reader would run out of turns.
 #[test]
 fn held_save(rt: HostRuntime) -> Result<(), Fail> {
-    let (node, plan) = opened(&rt, rt.alloc(), 4);
+    let (node, plan) = opened_by_plan(rt.alloc(), 4).ok_or("a node")?;
     let parts = Parts::new(node, every_third(), 1, 1);
     read_beside::<Brand, _, _>(&rt, rt.alloc(), parts, plan)
 }
@@ -44,7 +45,7 @@ fn read_beside<N: Name + Send + Sync, D: Disk + Drop + Send, R: Threads + Wait +
     let before = watch.read().ok_or("a status")?;
     assert_eq!(rt; (before.length, before.number), (0, 1));
     plan.hold_sync();
-    let event = suspected(rt, 1);
+    let event = suspicion(1).ok_or("a ping")?;
     let ((mut pass, answered), (mut watch, read, held)) = beside(
         rt, &shared, pass, event, watch, plan,
     );

@@ -2,7 +2,6 @@
 
 ghost use Rattle.std.specs.Prelude.{◌≡◌, ◌+◌, []};
 
-use super::scene::{alive, endpoint, opened, ping};
 use crate::{Name, Outbox, Parts, Pass, Sender, Shared};
 use std::alloc::Global;
 use std::marker::Brand;
@@ -14,12 +13,13 @@ use std::thread::{self, Threads, join};
 use swim_disk::Disk;
 use swim_member::{Event, Note};
 use swim_node::{Link, LinkFault, MemoryLink};
-use swim_wire::{Endpoint, Kind, decode};
+use swim_scenes::{endpoint, opened_by_plan, ping, update};
+use swim_wire::{Endpoint, Kind, UpdateKind, decode};
 
 /// A ring with one place takes the ack of a ping, and then none of the two datagrams of a leave.
 #[test]
 fn one_place(rt: HostRuntime) -> Result<(), Fail> {
-    let (node, _) = opened(&rt, rt.alloc(), 4);
+    let (node, _) = opened_by_plan(rt.alloc(), 4).ok_or("a node")?;
     let (outbox, sender) = Outbox::new(rt.alloc(), 1)?;
     let parts = Parts::new(node, outbox, 1, 0);
     narrow::<Brand, _, _>(&rt, rt.alloc(), parts, sender)
@@ -43,8 +43,12 @@ fn narrow<N: Name, D: Disk + Drop, R: Wait + Abort>(
     let made = Shared::<N, D, Outbox, &R>::new(alloc, rt, parts);
     let (shared, mut passes, watches) = made.ok().ok_or("memory")?;
     let mut pass = passes.pop().ok_or("a pass")?;
-    let two = [alive(rt, 2), alive(rt, 3)];
-    for (event, want) in [(ping(rt, 1, &two), (1, 0)), (Event::Leave, (0, 2))] {
+    let two = [
+        update(UpdateKind::Alive, 2, 1).ok_or("an update")?,
+        update(UpdateKind::Alive, 3, 1).ok_or("an update")?,
+    ];
+    let event = ping(1, &two).ok_or("a ping")?;
+    for (event, want) in [(event, (1, 0)), (Event::Leave, (0, 2))] {
         let reply = shared.call(rt, &mut pass, event).ok().ok_or("a reply")?;
         assert_eq!(rt; (reply.sent, reply.lost), want);
     }
@@ -62,11 +66,11 @@ fn narrow<N: Name, D: Disk + Drop, R: Wait + Abort>(
 /// The first datagram that the link took is the ack of this ping.
 fn is_ack<R: Abort>(rt: &R, link: &MemoryLink, seq: u32) -> Result<(), Fail> {
     let taken = link.taken().first().ok_or("a datagram")?;
-    assert_eq!(rt; taken.to, endpoint(rt, 2));
+    assert_eq!(rt; Some(taken.to), endpoint(2));
     let ack = decode(&taken.bytes).ok().ok_or("a text")?;
     assert_eq!(rt;
-        (ack.kind, ack.seq, ack.sender),
-        (Kind::Ack, seq, endpoint(rt, 1))
+        (ack.kind, ack.seq, Some(ack.sender)),
+        (Kind::Ack, seq, endpoint(1))
     );
     Ok(())
 }
@@ -75,7 +79,7 @@ fn is_ack<R: Abort>(rt: &R, link: &MemoryLink, seq: u32) -> Result<(), Fail> {
 /// settled; what is left in the ring at the end is handed on.
 #[test]
 fn second_send_fails(rt: HostRuntime) -> Result<(), Fail> {
-    let (node, _) = opened(&rt, rt.alloc(), 8);
+    let (node, _) = opened_by_plan(rt.alloc(), 8).ok_or("a node")?;
     let (outbox, sender) = Outbox::new(rt.alloc(), 256)?;
     let parts = Parts::new(node, outbox, 1, 0);
     told::<Brand, _, _>(&rt, rt.alloc(), parts, sender)
@@ -99,8 +103,10 @@ fn told<N: Name, D: Disk + Drop, R: Wait + Abort>(
     let made = Shared::<N, D, Outbox, &R>::new(alloc, rt, parts);
     let (shared, mut passes, watches) = made.ok().ok_or("memory")?;
     let mut pass = passes.pop().ok_or("a pass")?;
-    assert!(rt; shared.call(rt, &mut pass, ping(rt, 1, &[])).is_ok());
-    assert!(rt; shared.call(rt, &mut pass, ping(rt, 2, &[])).is_ok());
+    for seq in 1..3 {
+        let event = ping(seq, &[]).ok_or("a ping")?;
+        assert!(rt; shared.call(rt, &mut pass, event).is_ok());
+    }
     let mut link = MemoryLink::new(alloc, 1);
     link.lose(2);
     let sent = sender.turn(&mut link);
@@ -111,7 +117,8 @@ fn told<N: Name, D: Disk + Drop, R: Wait + Abort>(
     assert_eq!(rt; notes.as_slice(), [Note::SendFailed(1)].as_slice());
     sender.settle();
     assert_eq!(rt; sender.owed(), 0);
-    assert!(rt; shared.call(rt, &mut pass, ping(rt, 3, &[])).is_ok());
+    let event = ping(3, &[]).ok_or("a ping")?;
+    assert!(rt; shared.call(rt, &mut pass, event).is_ok());
     passes.push(pass)?;
     assert!(rt; passes.len() < 17 && watches.len() < 17);
     let closed = shared.close_sent(passes, watches, sender, &mut link);
@@ -164,7 +171,7 @@ fn is_up_in_time(flag: &AtomicBool) -> bool {
 /// lock the send would run out of turns.
 #[test]
 fn held_send(rt: HostRuntime) -> Result<(), Fail> {
-    let (node, _) = opened(&rt, rt.alloc(), 4);
+    let (node, _) = opened_by_plan(rt.alloc(), 4).ok_or("a node")?;
     let (outbox, sender) = Outbox::new(rt.alloc(), 4)?;
     let parts = Parts::new(node, outbox, 1, 0);
     call_beside::<Brand, _, _>(&rt, rt.alloc(), parts, sender)
@@ -187,7 +194,8 @@ fn call_beside<N: Name + Send + Sync, D: Disk + Drop + Send, R: Threads + Wait +
     let made = Shared::<N, D, Outbox, &R>::new(alloc, rt, parts);
     let (shared, mut passes, watches) = made.ok().ok_or("memory")?;
     let mut pass = passes.pop().ok_or("a pass")?;
-    assert!(rt; shared.call(rt, &mut pass, ping(rt, 1, &[])).is_ok());
+    let event = ping(1, &[]).ok_or("a ping")?;
+    assert!(rt; shared.call(rt, &mut pass, event).is_ok());
     let inside = AtomicBool::new(false);
     let answered = AtomicBool::new(false);
     let link = Held {
@@ -195,7 +203,7 @@ fn call_beside<N: Name + Send + Sync, D: Disk + Drop + Send, R: Threads + Wait +
         answered: &answered,
         ran_out: false,
     };
-    let event = ping(rt, 2, &[]);
+    let event = ping(2, &[]).ok_or("a ping")?;
     let (sent, (pass, is_answered)) = sending(rt, &shared, pass, event, sender, link);
     assert_eq!(rt; sent, (1, 0, false));
     assert!(rt; is_answered);

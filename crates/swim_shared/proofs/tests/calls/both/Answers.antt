@@ -1,11 +1,11 @@
 use denote.Param.Send.{IsSend, sendable}
-use Rattle.http_server.proofs.log.Log.TheSendSync as log
-use Rattle.swim_shared.specs.contracts.tests.scene.Thirds as Thirds
+use Rattle.swim_trace.proofs.Crosses.{Trace-send}
+use Rattle.swim_shared.specs.contracts.tests.thirds.Thirds as Thirds
 use Rattle.swim_shared.proofs.Crosses.{Shared-sync, Pass-send}
 use Rattle.swim_shared.proofs.tests.calls.both.Goals as goal
 
 thirds : IsSend Thirds.the_row
-thirds = search (sendable, log.the_send) depth 20
+thirds = search (sendable, Trace-send) depth 20
 
 pub join-requires-send-F : goal.join-requires-send-F
 join-requires-send-F g c κs within = search (sendable, Shared-sync, Pass-send, thirds) depth 30

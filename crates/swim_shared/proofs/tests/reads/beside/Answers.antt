@@ -1,13 +1,13 @@
 use Rattle.std.proofs.Crossing.{crosses}
 use denote.Param.Send.{IsSend, sendable}
-use Rattle.http_server.proofs.log.Log.TheSendSync as log
+use Rattle.swim_trace.proofs.Crosses.{Trace-send}
 use Rattle.swim_member.specs.contracts.event.Event as Event
-use Rattle.swim_shared.specs.contracts.tests.scene.Thirds as Thirds
+use Rattle.swim_shared.specs.contracts.tests.thirds.Thirds as Thirds
 use Rattle.swim_shared.proofs.Crosses.{Shared-sync, Pass-send}
 use Rattle.swim_shared.proofs.tests.reads.beside.Goals as goal
 
 thirds : IsSend Thirds.the_row
-thirds = search (sendable, log.the_send) depth 20
+thirds = search (sendable, Trace-send) depth 20
 
 events : IsSend Event.the_row
 events = search (sendable, crosses) depth 60 fits 20000
