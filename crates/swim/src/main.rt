@@ -11,11 +11,11 @@ use std::process::ExitCode;
 use std::sync::Wait;
 use std::thread::Threads;
 use std::time::Clock;
-use swim_play::play;
-use swim_run::{
+use swim_cli::{
     Ending, Stamped, Subcommand, ask, hold_standard, level, make, read_words, run, show_members,
     watch_members,
 };
+use swim_play::play;
 use swim_script::ScriptFault;
 
 /// The exit status where the words are refused.
@@ -58,7 +58,7 @@ fn ask_member(rt: &HostRuntime, to: &str, line: &str) -> Result<ExitCode, Ending
 }
 
 /// Does what was asked. A member that runs has its threads and its log by the other handle.
-fn answer<T: Threads + Wait + Log + Clock + Sync>(
+fn answer<T: Threads + Wait + Log + Clock + Send + Sync + Copy + Drop>(
     rt: &HostRuntime,
     logged: &T,
     asked: Subcommand<'_>,

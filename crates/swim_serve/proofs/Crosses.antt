@@ -1,13 +1,33 @@
 -- What may go to another thread.
 use denote.RattleType.{RattleType}
-use denote.Param.Send.{IsSend, sendable, view_send, recorded_send, struct_send}
+use denote.Ref.{NamedLft}
+use denote.Param.Send.{IsSend, IsSync, sendable, view_send, recorded_send, struct_send}
 use denote.Struct.Declared.{shape}
 use Rattle.std.proofs.Crossing.{crosses}
 use Rattle.swim_shared.specs.declared.name.Name as Name
-use Rattle.swim_shared.proofs.Crosses.{Sender-send}
-use Rattle.swim_serve.specs.contracts.ring_sender.RingSender as RingSender
-use Rattle.swim_serve.specs.contracts.ring_sender.RingSender.TheInside as RingSenderInside
+use Rattle.swim_disk.specs.declared.disk.Disk as Disk
+use Rattle.swim_node.specs.declared.link.Link as Link
+use Rattle.swim_shared.proofs.Crosses.{Sender-send, Shared-sync, Pass-send}
+use Rattle.swim_trace.specs.contracts.Trace as Trace
+use Rattle.swim_trace.proofs.Crosses.{Trace-send}
+use Rattle.swim_member.specs.contracts.event.Event as Event
+use Rattle.swim_serve.specs.contracts.handle.Handle as Handle
+use Rattle.swim_serve.specs.contracts.note_log.NoteLog as NoteLog
+use Rattle.swim_serve.specs.contracts.outgoing.RingSender as RingSender
+use Rattle.swim_serve.specs.contracts.outgoing.RingSender.TheInside as RingSenderInside
 
 module _ (N : RattleType) (n : Name.Ghosts N.Denot) (ns : IsSend N) where
   pub RingSender-send : IsSend (RingSender.the_row N n)
   RingSender-send = view_send (RingSenderInside.the_row N n) _ _ _ _ (recorded_send (RingSenderInside.the_field N n).row _ _ (RingSenderInside.the_type N n).to_one (struct_send (shape (RingSenderInside.the_type N n)) (search (sendable, Sender-send), (search (sendable, crosses) depth 20, tt))))
+
+pub NoteLog-field-send : IsSend NoteLog.the_field.row
+NoteLog-field-send = search (sendable, crosses) depth 60 fits 20000
+
+-- the events that a caller was to enter
+pub asked-send : IsSend (Trace.the_row Event.the_row)
+asked-send = Trace-send Event.the_row (search (sendable, crosses) depth 60 fits 20000)
+
+-- a caller of a shared member
+module _ (x : NamedLft) (N D L R W : RattleType) (n : Name.Ghosts N.Denot) (d : Disk.Ghosts D.Denot) (l : Link.Ghosts L.Denot) (ns : IsSend N) (ds : IsSend D) (ls : IsSend L) (rs : IsSend R) (ws : IsSync W) where
+  pub Handle-send : IsSend (Handle.the_row x N D L R W n d l)
+  Handle-send = search (sendable, crosses, Shared-sync, Pass-send, NoteLog-field-send, asked-send) depth 60 fits 20000

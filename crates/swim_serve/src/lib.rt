@@ -1,23 +1,38 @@
-//! The workers of a member in threads of their own, and what they stand on outside: UDP for datagrams, TCP for control
-//! connections, a clock for their pace.
-//! Nothing is claimed of what a socket gives; what each worker makes of what it is given is proved in `swim_shell`.
+//! Where the workers of a member meet its lock and its threads.
 #![tactic(auto)]
 
-mod beside;
-mod doors;
-mod ended;
-mod ring_sender;
+mod attending;
+mod beat;
+mod bell;
+mod crew;
+mod desk;
+mod ending;
+mod era;
+mod gates;
+mod handle;
+mod job;
+mod logs;
+mod minding;
+mod note_log;
+mod number_log;
+mod outgoing;
 mod serving;
-mod start;
-mod udp;
-mod until;
-mod work;
 
-pub use doors::{InTime, TcpDoors};
-pub use ended::Ended;
-pub use ring_sender::RingSender;
-pub use serving::{Ends, serve};
-pub use udp::{UdpInbound, UdpLink, address_of, bind_datagrams};
+pub use attending::{Attended, Callers, Workers, attend};
+pub use beat::Beat;
+pub use crew::{Crew, Ends, Work, serve};
+pub use desk::Desk;
+pub use ending::Ending;
+pub use era::{EraEnd, EraEnds, Outside, run_era};
+pub use gates::{Pace, Pacing, Resting, Ringing};
+pub use handle::{Handle, Observing};
+pub use job::{Job, Left};
+pub use logs::Logs;
+pub use minding::Minding;
+pub use note_log::{LOGGED_MAX, NoteLog};
+pub use number_log::NumberLog;
+pub use outgoing::{RingLink, RingSender};
+pub use serving::{Fault, run_member};
 
 #[cfg(test)]
 mod tests;

@@ -1,311 +1,167 @@
-//! All workers at once.
+//! A member from one era to the next.
 
-ghost use denote.Param.Send.{IsSend, IsSync};
+ghost use Rattle.std.specs.Prelude.{◌≡◌, [], IfOk, IfSome};
+ghost use Rattle.swim_node.specs.Lives.{IsRaised};
+ghost use Rattle.swim_node.specs.Node.{next_base};
+ghost use Rattle.swim_shell.specs.Ticks.{answers};
+ghost use Rattle.swim_serve.specs.Desks.{Tended, desk_of};
+ghost use Rattle.swim_serve.specs.Eras.{EraOf, SendsAll, Serves};
+ghost use Rattle.swim_serve.specs.Views.{new_caller};
+ghost use Rattle.swim_serve.specs.Works.{Received, Ticked, receiver_of};
 
-use crate::beside::beside;
-use crate::ended::Ended;
-use crate::ring_sender::RingSender;
-use crate::start::Start;
-use crate::until::Until;
-use crate::work::{Receiving, Sending, Ticking};
-use log::Log;
-use rand_chacha::ChaCha20Rng;
+use crate::era::{CALLERS, EraEnd, EraEnds, Outside, WATCHES, run_era};
+use log::{Log, warn};
+use std::alloc::Global;
+use std::marker::Brand;
 use std::sync::{Wait, WaitMethods};
 use std::thread::Threads;
 use std::time::Clock;
 use swim_disk::Disk;
-use swim_node::Link;
-use swim_shared::{Name, Pass, Shared, Watch};
-use swim_shell::{
-    ControlEnd, Doors, Gate, Inbound, Joiner, NumberLog, Refusal, Turn, WorkerEnd, control,
-};
+use swim_node::{Link, Node};
+use swim_shared::{Outbox, Parts};
+use swim_shell::{Alarmed, ControlEnd, Doors, Refusal, WorkerEnd};
 
-/// How the workers ended.
+/// How many datagrams wait at most until the sender takes them.
+const OUTBOX_PLACES: usize = 256;
+
+/// Why a member ends that was not told to.
 #[derive(Clone, Copy, Debug, PartialEq, Eq)]
-pub struct Ends {
-    /// The worker that hands datagrams in.
-    pub receiver: WorkerEnd,
-    /// The worker that counts the ticks.
-    pub ticker: WorkerEnd,
-    /// The worker that sends what the outbox took.
-    pub sender: WorkerEnd,
-    /// The worker that answers control lines, and the joiner.
-    pub control: ControlEnd,
+pub enum Fault {
+    /// There was no memory for an era, or no thread for a worker.
+    Memory,
+    /// A worker ended so.
+    Worker(WorkerEnd),
 }
 
-/// How control ends where a call of the joiner was refused so.
-fn end_by(refusal: Refusal) -> ControlEnd {
-    match refusal {
-        Refusal::EraFull => ControlEnd::EraFull,
-        Refusal::Memory => ControlEnd::Memory,
-        Refusal::Unread => ControlEnd::Unread,
+/// What a refusal of an era's beginning comes to.
+fn fault_by(why: Refusal) -> Fault {
+    match why {
+        Refusal::Memory => Fault::Memory,
+        why => Fault::Worker(WorkerEnd::Refused(why)),
     }
 }
 
-/// Serves one control connection after the other, and gives the joiner a turn before each. The end of a connection, or a
-/// failure of it, ends it alone.
-fn doorkeeper<N: Name, D: Disk, L: Link, R: Wait + Drop, W: Wait + Log + Clock, O: Doors, G: Gate>(
-    rt: &W,
-    shared: &Shared<N, D, L, R>,
-    pass: &mut Pass<N>,
-    watch: &mut Watch<N>,
-    doors: &mut O,
-    gate: &mut G,
-    joiner_pass: &mut Pass<N>,
-    status: &mut Watch<N>,
-    joiner: &mut Joiner,
-) -> ControlEnd {
+/// The end of the desk, as that of a worker: none where it was told to stop, or its gate stopped it.
+fn end_of(end: Option<ControlEnd>) -> Option<WorkerEnd> {
+    match end {
+        Some(ControlEnd::Refused(why)) => Some(WorkerEnd::Refused(why)),
+        _ => None,
+    }
+}
+
+/// The end of a worker, if it ends the member: each does but a full era.
+fn fault_of(ends: &EraEnds) -> Option<Fault> {
+    let all = [
+        ends.receiver,
+        ends.ticker.map(WorkerEnd::Refused),
+        ends.sender.map(WorkerEnd::Refused),
+        end_of(ends.control),
+    ];
+    let full = WorkerEnd::Refused(Refusal::EraFull);
+    let found = all.into_iter().flatten().find(|end| *end != full);
+    found.map(Fault::Worker)
+}
+
+/// Ends an era of a node, and keeps the peers that the member knows then, if they are others than those that stand in the
+/// state file. A fault there is logged only: the member goes on, and its next save keeps the peers that it knows by then.
+fn end_era<D: Disk, T: Log>(rt: &T, node: &mut Node<D>)
+    ensures entries { node.new.entries ≡ [] }
+    ensures base { IsRaised (next_base node.old.base node.old.entries) node.new.base }
+    ensures owner { node.new.owner ≡ node.old.owner }
+    ensures first { node.new.first ≡ node.old.first }
+{
+    node.rebase();
+    if !node.has_other_peers() {
+        return;
+    }
+    if let Err(fault) = node.keep_peers() {
+        warn!(rt; "keep refused {fault}");
+    }
+}
+
+/// What is left of an era, at the beginning of the next.
+type Left<D, I, M, R, O> = (Node<D>, Outside<I, M, R, O>);
+
+/// One era of a node, and what the next one begins with; none where the line `stop` ended it. A tick that found the era full
+/// is due again.
+fn one_era<
+    D: Disk + Send + Drop,
+    R: Threads + Wait + Log + Clock + Send + Sync + Copy + Drop,
+    I: Alarmed<Alarm: Sync> + Send + Drop,
+    M: Link + Send + Drop,
+    O: Doors + Drop,
+>(
+    rt: &R,
+    alloc: Global,
+    node: Node<D>,
+    outside: Outside<I, M, R, O>,
+    alarms: &[I::Alarm],
+) -> Result<Option<Left<D, I, M, R, O>>, Fault>
+    requires { node.entries ≡ [] }
+    ensures entries { IfOk result (λ next. IfSome next (λ left. left.0.entries ≡ [])) }
+    ensures owner { IfOk result (λ next. IfSome next (λ left. left.0.owner ≡ node.owner)) }
+    ensures first { IfOk result (λ next. IfSome next (λ left. left.0.first ≡ node.first)) }
+    ensures era { IfOk result (λ next. IfSome next (λ left. EraOf node.base left.0.base
+        (Serves (Received I.tells node.base.limit)
+        (receiver_of I.came I.failures outside.receiver) (new_caller 0)
+        (receiver_of I.came I.failures left.1.receiver))
+        (Serves (Ticked node.base.limit) (answers outside.ticker.rng) (new_caller 1)
+        (answers left.1.ticker.rng))
+        (SendsAll M.tells M.took M.failures node.base.limit outside.owed left.1.owed
+        outside.link left.1.link)
+        (Serves (Tended O.Reader.remaining O.Writer.contents node.base.limit)
+        (desk_of outside.desk.joiner outside.desk.conversation) (new_caller 3)
+        (desk_of left.1.desk.joiner left.1.desk.conversation)))) }
+{
+    let made = Outbox::new(alloc, OUTBOX_PLACES);
+    let (outbox, ring) = made.ok().ok_or(Fault::Memory)?;
+    let parts = Parts::new(node, outbox, CALLERS, WATCHES);
+    let ended = run_era::<Brand, _, _, _, _, _>(rt, alloc, parts, ring, outside, alarms);
+    let EraEnd {
+        mut node,
+        mut outside,
+        ends,
+        odd: _,
+    } = match ended {
+        Ok(end) => end,
+        Err(why) => return Err(fault_by(why)),
+    };
+    if let Some(fault) = fault_of(&ends) {
+        return Err(fault);
+    }
+    end_era(rt, &mut node);
+    if ends.control == Some(ControlEnd::Asked) {
+        return Ok(None);
+    }
+    outside
+        .beat
+        .repeat_if(ends.ticker == Some(Refusal::EraFull));
+    Ok(Some((node, outside)))
+}
+
+/// Runs a member era after era, until the line `stop` is answered or a worker ends otherwise than by a full era. The alarms
+/// end the waits of its sockets.
+pub fn run_member<
+    D: Disk + Send + Drop,
+    R: Threads + Wait + Log + Clock + Send + Sync + Copy + Drop,
+    I: Alarmed<Alarm: Sync> + Send + Drop,
+    M: Link + Send + Drop,
+    O: Doors + Drop,
+>(
+    rt: &R,
+    alloc: Global,
+    node: Node<D>,
+    outside: Outside<I, M, R, O>,
+    alarms: &[I::Alarm],
+) -> Result<(), Fault>
+    requires { node.entries ≡ [] }
+{
+    let mut left = (node, outside);
     for _ in rt.forever() {
-        if gate.turn() == Turn::Stop {
-            return ControlEnd::Stop;
-        }
-        if let Err(refusal) = joiner.turn(rt, shared, joiner_pass, status) {
-            return end_by(refusal);
-        }
-        if let Some((mut reader, mut writer)) = doors.next() {
-            match control(rt, shared, pass, watch, &mut reader, &mut writer, gate) {
-                ControlEnd::Closed | ControlEnd::ReadFault | ControlEnd::WriteFault => {}
-                end => return end,
-            }
+        match one_era(rt, alloc, left.0, left.1, alarms)? {
+            Some(next) => left = next,
+            None => return Ok(()),
         }
     }
     unreachable!()
-}
-
-/// The control worker, whose end ends all. It waits until the worker beside it has begun.
-fn run_control<N: Name, D: Disk, L: Link, R: Wait + Drop, W: Wait + Log + Clock, O: Doors, G: Gate>(
-    rt: &W,
-    shared: &Shared<N, D, L, R>,
-    pass: &mut Pass<N>,
-    watch: &mut Watch<N>,
-    doors: &mut O,
-    gate: &mut G,
-    joiner_pass: &mut Pass<N>,
-    status: &mut Watch<N>,
-    joiner: &mut Joiner,
-    start: &Start,
-    ended: &Ended,
-) -> ControlEnd {
-    let mut closing = Until { gate, start, ended };
-    if !start.wait(rt) {
-        ended.end();
-    }
-    let end = doorkeeper(
-        rt,
-        shared,
-        pass,
-        watch,
-        doors,
-        &mut closing,
-        joiner_pass,
-        status,
-        joiner,
-    );
-    ended.end();
-    end
-}
-
-/// The sender in a thread of its own, and control in this one.
-fn send_and_control<
-    N: Name + Send + Sync,
-    D: Disk + Send,
-    L: Link + Send,
-    R: Wait + Drop + Send + Sync,
-    T: Threads + Wait + Log + Clock + Sync,
-    M: Link + Send,
-    O: Doors,
-    S: Gate + Send,
-    C: Gate,
->(
-    rt: &T,
-    shared: &Shared<N, D, L, R>,
-    sender_pass: &mut Pass<N>,
-    ring: &mut RingSender<N>,
-    link: &mut M,
-    sender_gate: &mut S,
-    control_pass: &mut Pass<N>,
-    watch: &mut Watch<N>,
-    doors: &mut O,
-    control_gate: &mut C,
-    joiner_pass: &mut Pass<N>,
-    status: &mut Watch<N>,
-    joiner: &mut Joiner,
-    ended: &Ended,
-) -> (WorkerEnd, ControlEnd) {
-    let made = Start::new();
-    let start = &made;
-    let mut work = Sending { ring, link };
-    beside(
-        rt,
-        shared,
-        sender_pass,
-        &mut work,
-        sender_gate,
-        start,
-        ended,
-        || {
-            run_control(
-                rt,
-                shared,
-                control_pass,
-                watch,
-                doors,
-                control_gate,
-                joiner_pass,
-                status,
-                joiner,
-                start,
-                ended,
-            )
-        },
-    )
-}
-
-/// The ticker in a thread of its own, and sender and control beside it.
-fn tick_and_send<
-    N: Name + Send + Sync,
-    D: Disk + Send,
-    L: Link + Send,
-    R: Wait + Drop + Send + Sync,
-    T: Threads + Wait + Log + Clock + Sync,
-    M: Link + Send,
-    O: Doors,
-    B: Gate + Send,
-    S: Gate + Send,
-    C: Gate,
->(
-    rt: &T,
-    shared: &Shared<N, D, L, R>,
-    ticker_pass: &mut Pass<N>,
-    rng: &mut ChaCha20Rng,
-    ticker_gate: &mut B,
-    sender_pass: &mut Pass<N>,
-    ring: &mut RingSender<N>,
-    link: &mut M,
-    sender_gate: &mut S,
-    control_pass: &mut Pass<N>,
-    watch: &mut Watch<N>,
-    doors: &mut O,
-    control_gate: &mut C,
-    joiner_pass: &mut Pass<N>,
-    status: &mut Watch<N>,
-    joiner: &mut Joiner,
-    ended: &Ended,
-) -> (WorkerEnd, (WorkerEnd, ControlEnd)) {
-    let made = Start::new();
-    let start = &made;
-    let mut work = Ticking { rng };
-    beside(
-        rt,
-        shared,
-        ticker_pass,
-        &mut work,
-        ticker_gate,
-        start,
-        ended,
-        ||
-            requires shared { IsSend N.row × IsSync N.row × IsSend D.row × IsSend L.row }
-            requires handles { IsSend R.row × IsSync R.row × IsSync T.row }
-            requires workers { IsSend M.row × IsSend S.row }
-        {
-            if !start.wait(rt) {
-                ended.end();
-            }
-            send_and_control(
-                rt,
-                shared,
-                sender_pass,
-                ring,
-                link,
-                sender_gate,
-                control_pass,
-                watch,
-                doors,
-                control_gate,
-                joiner_pass,
-                status,
-                joiner,
-                ended,
-            )
-        },
-    )
-}
-
-/// Runs receiver, ticker and sender in threads of their own, and control and the joiner by turns in this one, until one of them has ended and
-/// the others have stopped. A gate that waits long may rest on `ended`, which no other workers had before. A worker for
-/// which the system has no thread ends with Memory, and all with it.
-pub fn serve<
-    N: Name + Send + Sync,
-    D: Disk + Send,
-    L: Link + Send,
-    R: Wait + Drop + Send + Sync,
-    T: Threads + Wait + Log + Clock + Sync,
-    I: Inbound + Send,
-    M: Link + Send,
-    O: Doors,
-    A: Gate + Send,
-    B: Gate + Send,
-    S: Gate + Send,
-    C: Gate,
->(
-    rt: &T,
-    shared: &Shared<N, D, L, R>,
-    ended: &Ended,
-    receiving: (&mut Pass<N>, &mut NumberLog, &mut I, &mut A),
-    ticking: (&mut Pass<N>, &mut ChaCha20Rng, &mut B),
-    sending: (&mut Pass<N>, &mut RingSender<N>, &mut M, &mut S),
-    controlling: (&mut Pass<N>, &mut Watch<N>, &mut O, &mut C),
-    joining: (&mut Pass<N>, &mut Watch<N>, &mut Joiner),
-) -> Ends {
-    let made = Start::new();
-    let start = &made;
-    let (pass, numbers, inbound, gate) = receiving;
-    let (ticker_pass, rng, ticker_gate) = ticking;
-    let (sender_pass, ring, link, sender_gate) = sending;
-    let (control_pass, watch, doors, control_gate) = controlling;
-    let (joiner_pass, status, joiner) = joining;
-    let mut work = Receiving { numbers, inbound };
-    let (receiver, (ticker, (sender, control))) = beside(
-        rt,
-        shared,
-        pass,
-        &mut work,
-        gate,
-        start,
-        ended,
-        ||
-            requires shared { IsSend N.row × IsSync N.row × IsSend D.row × IsSend L.row }
-            requires handles { IsSend R.row × IsSync R.row × IsSync T.row }
-            requires workers { IsSend M.row × IsSend B.row × IsSend S.row }
-        {
-            if !start.wait(rt) {
-                ended.end();
-            }
-            tick_and_send(
-                rt,
-                shared,
-                ticker_pass,
-                rng,
-                ticker_gate,
-                sender_pass,
-                ring,
-                link,
-                sender_gate,
-                control_pass,
-                watch,
-                doors,
-                control_gate,
-                joiner_pass,
-                status,
-                joiner,
-                ended,
-            )
-        },
-    );
-    Ends {
-        receiver,
-        ticker,
-        sender,
-        control,
-    }
 }

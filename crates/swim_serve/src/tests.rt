@@ -1,7 +1,6 @@
-//! All workers at once, over sockets of this machine.
+//! Callers and workers in threads, and what is logged.
 
-mod held;
-mod receives;
-mod saving;
-mod scene;
-mod sockets;
+mod fakes;
+mod notes;
+mod numbers;
+mod wakes;

@@ -1,15 +1,15 @@
 -- What a joiner asked, put together.
-use Rattle.std.proofs.Common.{◌≡◌, ◌≢◌, ◌⊎◌, inl, inr, ℕ, ◌+◌, List, [], ◌∷◌, ◌++◌, length, refl, ap, sym, subst, ◌∙◌, slice_index_or, zero, suc, ◌<◌, Bool, true, false, IsTrue, IsFalse, take, arith, Result, Ok, Err, IfOk, IfErr}
+use Rattle.std.proofs.Common.{◌≡◌, ◌≢◌, ◌⊎◌, inl, inr, ℕ, ◌+◌, List, [], ◌∷◌, ◌++◌, length, refl, ap, sym, subst, ◌∙◌, slice_index_or, zero, suc, ◌<◌, Bool, true, false, IsTrue, IsFalse, take, arith}
 use Rattle.std.proofs.lemmas.List.{append-nil}
 use Rattle.swim_wire.specs.declared.update.Update.{Update}
 use Rattle.swim_wire.specs.declared.update.UpdateKind.TheVariants.{Confirm}
 use Rattle.swim_member.specs.declared.event.Event.TheVariants.{Join, Members}
 use Rattle.swim_node.specs.declared.entry.Entry.{Entry}
 use Rattle.swim_node.specs.declared.entry.Reply.{Reply}
-use Rattle.swim_shared.specs.Passes.{PassView}
-use Rattle.swim_shell.specs.Calls.{events_of, Gains, NewCalls, NewCall}
-use Rattle.swim_shell.specs.Joins.{IsPeer, IsEligibleIn, IsAsked, AreAsked, Asks, pages_of, AreLooks, Looks}
-use Rattle.swim_shell.proofs.News.{assoc, no_gain, more_gains, gains_none}
+use Rattle.swim_shell.specs.declared.caller.Refusal.{Refusal}
+use Rattle.swim_shell.specs.Calls.{CallerView, events_of, NewCall, Refuses}
+use Rattle.swim_shell.specs.Joins.{JoinerView, IsNext, IsPeer, IsEligibleIn, IsDrawnFrom, IsAsked, AreAsked, Asks, AsksInVain, pages_of, AreLooks, Looks, LooksInVain}
+use Rattle.swim_shell.proofs.News.{assoc, events_of-append, no_gain, more_gains}
 
 -- Rows.
 
@@ -39,63 +39,63 @@ eligible_added old rows new page i row false so_far more same next x is = elim (
 
 -- Calls.
 
-asked_append : (peers : List ℕ) (rows : List Update) (es fs : List Entry) → AreAsked peers rows es → AreAsked peers (rows ++ pages_of es) fs → AreAsked peers rows (es ++ fs)
-asked_append peers rows [] fs a b = subst (λ w. AreAsked peers w fs) (append-nil rows) b
-asked_append peers rows (e ∷ es) fs a b = (a.0, asked_append peers (rows ++ e.reply.page.items) es fs a.1 (subst (λ w. AreAsked peers w fs) (sym (assoc rows e.reply.page.items (pages_of es))) b))
+asked_append : (j : JoinerView) (rows : List Update) (es fs : List Entry) → AreAsked j rows es → AreAsked j (rows ++ pages_of es) fs → AreAsked j rows (es ++ fs)
+asked_append j rows [] fs a b = subst (λ w. AreAsked j w fs) (append-nil rows) b
+asked_append j rows (e ∷ es) fs a b = (a.0, asked_append j (rows ++ e.reply.page.items) es fs a.1 (subst (λ w. AreAsked j w fs) (sym (assoc rows e.reply.page.items (pages_of es))) b))
 
-looks_asked : (peers : List ℕ) (rows : List Update) (es : List Entry) → AreLooks es → AreAsked peers rows es
-looks_asked peers rows [] l = tt
-looks_asked peers rows (e ∷ es) l = (subst (λ w. IsAsked peers rows w) (sym l.0.1) tt, looks_asked peers (rows ++ e.reply.page.items) es l.1)
+looks_asked : (j : JoinerView) (rows : List Update) (es : List Entry) → AreLooks es → AreAsked j rows es
+looks_asked j rows [] l = tt
+looks_asked j rows (e ∷ es) l = (subst (λ w. IsAsked j rows w) (sym l.0.1) tt, looks_asked j (rows ++ e.reply.page.items) es l.1)
 
-one_asked : (peers : List ℕ) (rows : List Update) (x : ℕ) (es : List Entry) → events_of es ≡ Join x ∷ [] → IsPeer peers x ⊎ IsEligibleIn rows x → AreAsked peers rows es
-one_asked peers rows x [] is known = absurd cc
-one_asked peers rows x (e ∷ []) is known =
-    let event : e.event ≡ Join x = cc in
-    (subst (λ w. IsAsked peers rows w) (sym event) known, tt)
-one_asked peers rows x (e ∷ f ∷ es) is known = absurd cc
+pub asks_nothing : (j : JoinerView) (p : CallerView) → Asks j p p
+asks_nothing j p = record { entries = []; gains = no_gain p; asked = sym (append-nil p.asked); are_asked = tt }
 
-pub asks_nothing : (peers : List ℕ) (p q : PassView) → NewCalls p q [] → Asks peers p q
-asks_nothing peers p q n = record { entries = []; gains = gains_none p q n; asked = tt }
-
-pub asks_peer : (peers : List ℕ) (p q : PassView) (x : ℕ) → IsPeer peers x → NewCalls p q (Join x ∷ []) → Asks peers p q
-asks_peer peers p q x known n = record { entries = n.entries; gains = n.gains; asked = one_asked peers [] x n.entries n.events_are (inl known) }
-
-pub asks_looks : (peers : List ℕ) (p q : PassView) (rows : List Update) → Looks p q rows → Asks peers p q
-asks_looks peers p q rows l = record { entries = l.entries; gains = l.gains; asked = looks_asked peers [] l.entries l.looks }
-
-pub asks_drawn : (peers : List ℕ) (p q r : PassView) (rows : List Update) (x : ℕ) → Looks p q rows → IsPeer peers x ⊎ IsEligibleIn rows x → NewCalls q r (Join x ∷ []) → Asks peers p r
-asks_drawn peers p q r rows x l known n =
-    let read : IsPeer peers x ⊎ IsEligibleIn (pages_of l.entries) x = elim known [ inl a ↦ inl a | inr b ↦ inr (l.read x b) ] in
-    record {
-      entries = l.entries ++ n.entries;
-      gains = more_gains p q r l.entries n.entries l.gains n.gains;
-      asked = asked_append peers [] l.entries n.entries (looks_asked peers [] l.entries l.looks) (one_asked peers (pages_of l.entries) x n.entries n.events_are read);
-    }
-
-pub asks_none_drawn : (peers : List ℕ) (p q r : PassView) (rows : List Update) → Looks p q rows → NewCalls q r [] → Asks peers p r
-asks_none_drawn peers p q r rows l n = record {
-  entries = l.entries ++ [];
-  gains = more_gains p q r l.entries [] l.gains (gains_none q r n);
-  asked = asked_append peers [] l.entries [] (looks_asked peers [] l.entries l.looks) tt;
+asks_one : (j : JoinerView) (p q : CallerView) (x : ℕ) (reply : Reply) → IsPeer j.peers.list x ⊎ IsDrawnFrom j.me [] x → NewCall p q (Join x) reply → Asks j p q
+asks_one j p q x reply known n = record {
+  entries = n.entry ∷ [];
+  gains = n.gains;
+  asked = n.asked ∙ ap (λ e. p.asked ++ e ∷ []) (sym n.event_is);
+  are_asked = (subst (λ w. IsAsked j [] w) (sym n.event_is) known, tt);
 }
 
+-- the peer that comes next
+pub asks_next : (j : JoinerView) (p q : CallerView) (x : ℕ) (reply : Reply) → IsNext j.peers x → NewCall p q (Join x) reply → Asks j p q
+asks_next j p q x reply is n = asks_one j p q x reply (inl (j.peers.next, is)) n
+
+pub asks_next_in_vain : (limit : ℕ) (why : Refusal) (j : JoinerView) (p q : CallerView) (x : ℕ) → IsNext j.peers x → Refuses limit why p q (Join x) → AsksInVain limit why j p q
+asks_next_in_vain limit why j p q x is refused = record { between = p; asks = asks_nothing j p; last = Join x; is_asked = inl (j.peers.next, is); refused = refused }
+
+pub asks_looks : (j : JoinerView) (p q : CallerView) (rows : List Update) → Looks p q rows → Asks j p q
+asks_looks j p q rows l = record { entries = l.entries; gains = l.gains; asked = l.asked; are_asked = looks_asked j [] l.entries l.looks }
+
+pub looks_in_vain : (limit : ℕ) (why : Refusal) (j : JoinerView) (p q : CallerView) → LooksInVain limit why p q → AsksInVain limit why j p q
+looks_in_vain limit why j p q l = record { between = l.between; asks = asks_looks j p l.between l.rows l.looks; last = Members l.after; is_asked = tt; refused = l.refused }
+
+-- a peer of the list, or another member that a page showed
+shown : {A B : Type 0} (j : JoinerView) (p q : CallerView) (rows : List Update) (x : ℕ) → (l : Looks p q rows) → (IsNext j.peers x × A) ⊎ (IsDrawnFrom j.me rows x × B) → IsPeer j.peers.list x ⊎ IsDrawnFrom j.me (pages_of l.entries) x
+shown j p q rows x l (inl a) = inl (j.peers.next, a.0)
+shown j p q rows x l (inr b) = inr (l.read x b.0.0, b.0.1)
+
 -- a look, and a join that was answered or refused
-pub asks_joined : {V E : Type 0} (result : Result V E) (peers : List ℕ) (p q r : PassView) (rows : List Update) (x : ℕ) → Looks p q rows → IsPeer peers x ⊎ IsEligibleIn rows x → IfOk result (λ _. NewCalls q r (Join x ∷ [])) → IfErr result (λ _. NewCalls q r []) → Asks peers p r
-asks_joined (Ok v) peers p q r rows x l known ok err = asks_drawn peers p q r rows x l known ok
-asks_joined (Err e) peers p q r rows x l known ok err = asks_none_drawn peers p q r rows l err
+pub asks_drawn : {A B : Type 0} (j : JoinerView) (p q r : CallerView) (rows : List Update) (x : ℕ) (reply : Reply) → Looks p q rows → (IsNext j.peers x × A) ⊎ (IsDrawnFrom j.me rows x × B) → NewCall q r (Join x) reply → Asks j p r
+asks_drawn j p q r rows x reply l known n = record {
+  entries = l.entries ++ n.entry ∷ [];
+  gains = more_gains p q r l.entries (n.entry ∷ []) l.gains n.gains;
+  asked = n.asked ∙ (ap (λ w. w ++ Join x ∷ []) l.asked ∙ (assoc p.asked (events_of l.entries) (Join x ∷ []) ∙ ap (λ w. p.asked ++ w) (ap (λ e. events_of l.entries ++ e ∷ []) (sym n.event_is) ∙ sym (events_of-append l.entries (n.entry ∷ [])))));
+  are_asked = asked_append j [] l.entries (n.entry ∷ []) (looks_asked j [] l.entries l.looks) (subst (λ w. IsAsked j (pages_of l.entries) w) (sym n.event_is) (shown j p q rows x l known), tt);
+}
+
+pub drawn_in_vain : {A B : Type 0} (limit : ℕ) (why : Refusal) (j : JoinerView) (p q r : CallerView) (rows : List Update) (x : ℕ) → Looks p q rows → (IsNext j.peers x × A) ⊎ (IsDrawnFrom j.me rows x × B) → Refuses limit why q r (Join x) → AsksInVain limit why j p r
+unfolding asks_looks
+drawn_in_vain limit why j p q r rows x l known refused = record { between = q; asks = asks_looks j p q rows l; last = Join x; is_asked = shown j p q rows x l known; refused = refused }
 
 -- Looks.
 
-pub looks_none : (p : PassView) → Looks p p []
-looks_none p = record { entries = []; gains = no_gain p; looks = tt; read = λ x is. absurd is }
+pub looks_none : (p : CallerView) → Looks p p []
+looks_none p = record { entries = []; gains = no_gain p; asked = sym (append-nil p.asked); looks = tt; read = λ x is. absurd is }
 
-pub looks_refused : (p q r : PassView) (rows : List Update) → Looks p q rows → NewCalls q r [] → Looks p r rows
-looks_refused p q r rows l n = record {
-  entries = l.entries;
-  gains = subst (λ es. Gains p r es) (append-nil l.entries) (more_gains p q r l.entries [] l.gains (gains_none q r n));
-  looks = l.looks;
-  read = l.read;
-}
+pub looks_refused : (limit : ℕ) (why : Refusal) (p q r : CallerView) (rows : List Update) (after : ℕ) → Looks p q rows → Refuses limit why q r (Members after) → LooksInVain limit why p r
+looks_refused limit why p q r rows after l refused = record { between = q; rows = rows; looks = l; after = after; refused = refused }
 
 looks_append : (es : List Entry) (e : Entry) (after : ℕ) → AreLooks es → e.event ≡ Members after → AreLooks (es ++ e ∷ [])
 looks_append [] e after l is = ((after, is), tt)
@@ -105,10 +105,11 @@ pages_append : (es : List Entry) (e : Entry) → pages_of (es ++ e ∷ []) ≡ p
 pages_append [] e = append-nil e.reply.page.items
 pages_append (f ∷ es) e = ap (λ w. f.reply.page.items ++ w) (pages_append es e) ∙ sym (assoc f.reply.page.items (pages_of es) e.reply.page.items)
 
-pub looks_more : (p q r : PassView) (rows more : List Update) (after : ℕ) (reply : Reply) → Looks p q rows → NewCall q r (Members after) reply → ((x : ℕ) → IsEligibleIn more x → IsEligibleIn rows x ⊎ IsEligibleIn reply.page.items x) → Looks p r more
+pub looks_more : (p q r : CallerView) (rows more : List Update) (after : ℕ) (reply : Reply) → Looks p q rows → NewCall q r (Members after) reply → ((x : ℕ) → IsEligibleIn more x → IsEligibleIn rows x ⊎ IsEligibleIn reply.page.items x) → Looks p r more
 looks_more p q r rows more after reply l n add = record {
   entries = l.entries ++ n.entry ∷ [];
   gains = more_gains p q r l.entries (n.entry ∷ []) l.gains n.gains;
+  asked = n.asked ∙ (ap (λ w. w ++ Members after ∷ []) l.asked ∙ (assoc p.asked (events_of l.entries) (Members after ∷ []) ∙ ap (λ w. p.asked ++ w) (ap (λ e. events_of l.entries ++ e ∷ []) (sym n.event_is) ∙ sym (events_of-append l.entries (n.entry ∷ [])))));
   looks = looks_append l.entries n.entry after l.looks n.event_is;
   read = λ x is. subst (λ w. IsEligibleIn w x) (sym (pages_append l.entries n.entry)) (elim (add x is) [ inl a ↦ eligible-left (pages_of l.entries) n.entry.reply.page.items x (l.read x a) | inr b ↦ eligible-right (pages_of l.entries) n.entry.reply.page.items x (subst (λ w. IsEligibleIn w.page.items x) (sym n.reply_is) b) ]);
 }

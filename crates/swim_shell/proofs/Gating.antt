@@ -1,8 +1,8 @@
 -- Turns that a gate allowed, put together.
 use Rattle.std.proofs.Common.{◌≡◌, ℕ, zero, suc, ◌+◌, List, [], ◌∷◌, ◌++◌, length, refl, ap, sym, subst, ◌∙◌, arith, length-append}
 use Rattle.std.proofs.lemmas.List.{append-nil}
-use Rattle.swim_shell.specs.declared.worker.Turn.{Turn}
-use Rattle.swim_shell.specs.declared.worker.Turn.TheVariants.{Go, Stop}
+use Rattle.swim_shell.specs.declared.gate.Turn.{Turn}
+use Rattle.swim_shell.specs.declared.gate.Turn.TheVariants.{Go, Stop}
 use Rattle.swim_shell.specs.Gates.{turns_of_go, Went, Halted}
 use Rattle.swim_shell.proofs.News.{assoc}
 

@@ -1,8 +1,13 @@
 pub mod News
-pub mod Asking
 pub mod Gating
-pub mod Turns
+pub mod Running
+pub mod Reading
+pub mod Writing
 pub mod Hearing
+pub mod Talking
+pub mod Scripted
+pub mod Receiving
+pub mod Ticking
 pub mod Losing
-mod Dealing
-mod Notes
+pub mod Dealing
+pub mod Asking

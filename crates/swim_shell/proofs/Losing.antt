@@ -1,15 +1,13 @@
 -- Losses that are told, put together.
-use Rattle.std.proofs.Common.{◌≡◌, ◌≢◌, ℕ, zero, suc, ◌+◌, ◌-◌, ◌^◌, ◌<◌, min, List, [], ◌∷◌, ◌++◌, refl, ap, sym, ◌∙◌, arith, subst}
+use Rattle.std.proofs.Common.{◌≡◌, inl, inr, ℕ, ◌+◌, ◌-◌, ◌^◌, ◌<◌, min, List, [], ◌∷◌, ◌++◌, refl, ap, sym, ◌∙◌, arith, subst, if◌then◌else◌, Bool, true, false}
 use Rattle.std.proofs.lemmas.List.{append-nil}
 use Rattle.swim_member.specs.declared.event.Event.TheVariants.{SendFailed}
-use Rattle.swim_shared.specs.Passes.{PassView}
-use Rattle.swim_shell.specs.declared.worker.WorkerEnd.TheVariants as ends
-use Rattle.swim_shell.specs.declared.worker.Turn.{Turn}
-use Rattle.swim_shell.specs.declared.worker.Turn.TheVariants.{Go, Stop}
-use Rattle.swim_shell.specs.Calls.{NewCalls}
-use Rattle.swim_shell.specs.Losses.{losses_of, told_of, told_in, AreLow, Balances, Telling, Tells}
-use Rattle.swim_shell.proofs.News.{no_calls, more_calls}
-use Rattle.swim_shell.proofs.Gating.{went_none, went_more, halts}
+use Rattle.swim_node.specs.declared.entry.Reply.{Reply}
+use Rattle.swim_node.specs.Link.{Fate, all_of, kept_of, lost_of}
+use Rattle.swim_shell.specs.declared.caller.Refusal.{Refusal}
+use Rattle.swim_shell.specs.Calls.{CallerView, NewCall, NewCalls, Refuses}
+use Rattle.swim_shell.specs.Losses.{OutgoingView, Handed, HandsOn, with_owed, losses_of, told_in, AreLow, Sending, owed_after, TellsInVain}
+use Rattle.swim_shell.proofs.News.{assoc, no_calls, more_calls, one_call}
 
 losses_of-append : (xs ys : List ℕ) → losses_of (xs ++ ys) ≡ losses_of xs ++ losses_of ys
 losses_of-append [] ys = refl
@@ -23,83 +21,64 @@ low_parts : (xs ys : List ℕ) → AreLow (xs ++ ys) → AreLow xs × AreLow ys
 low_parts [] ys h = (tt, h)
 low_parts (x ∷ xs) ys h = let p = low_parts xs ys h.1 in ((h.0, p.0), p.1)
 
-told_in-of : (n : ℕ) → told_in (told_of n) ≡ n
-told_in-of zero = refl
-told_in-of (suc n) = omega arith
+all_of-append : (xs ys : List Fate) → all_of (xs ++ ys) ≡ all_of xs ++ all_of ys
+all_of-append [] ys = refl
+all_of-append (x ∷ xs) ys = ap (λ w. x.datagram ∷ w) (all_of-append xs ys)
 
-low_of : (n : ℕ) → AreLow (told_of n) → n < 2 ^ 32 - 1
-low_of zero h = omega arith
-low_of (suc n) h = h.0
+kept_one : (taken : Bool) (d : ℕ × List ℕ) (xs ys zs : List (ℕ × List ℕ)) → zs ≡ xs ++ ys → (if taken then d ∷ zs else zs) ≡ (if taken then d ∷ xs else xs) ++ ys
+kept_one true d xs ys zs e = ap (λ w. d ∷ w) e
+kept_one false d xs ys zs e = e
 
-min_low : (x k : ℕ) → min x k < k → min x k ≡ x
-min_low x k h = omega arith
+kept_of-append : (xs ys : List Fate) → kept_of (xs ++ ys) ≡ kept_of xs ++ kept_of ys
+kept_of-append [] ys = refl
+kept_of-append (x ∷ xs) ys = kept_one x.taken x.datagram (kept_of xs) (kept_of ys) (kept_of (xs ++ ys)) (kept_of-append xs ys)
 
-pub tells_nothing : (owed : ℕ) (p : PassView) → owed ≡ 0 → NewCalls p p (losses_of (told_of owed))
-tells_nothing owed p z = subst (λ n. NewCalls p p (losses_of (told_of n))) (sym z) (no_calls p)
+lost_of-append : (xs ys : List Fate) → lost_of (xs ++ ys) ≡ lost_of xs + lost_of ys
+lost_of-append [] ys = omega arith
+lost_of-append (x ∷ xs) ys = omega (arith, lost_of-append xs ys)
 
-pub tells_count : (owed : ℕ) (p q : PassView) → owed ≢ 0 → NewCalls p q (SendFailed owed ∷ []) → NewCalls p q (losses_of (told_of owed))
-tells_count zero p q h n = absurd (h refl)
-tells_count (suc m) p q h n = n
+handed_none : (tells : Type 0) (a : OutgoingView) → Handed tells a a []
+handed_none tells a = record { out = sym (append-nil a.out); took = λ _. sym (append-nil a.took); lost = omega arith }
 
-pub telling_start : (owed f : ℕ) (p : PassView) (s : Type 0) (t : List Turn) → Telling owed owed f f p p s t t
-telling_start owed f p s t = record { counts = []; turns = 0; went = went_none s t; calls = no_calls p; balance = λ a b. omega arith }
-
--- what a turn adds to what is owed, where that can be counted
-added : (a b lost : ℕ) → b ≡ min (a + lost) (2 ^ 32 - 1) → b < 2 ^ 32 - 1 → b ≡ a + lost
-added a b lost m less = m ∙ min_low (a + lost) (2 ^ 32 - 1) (subst (λ n. n < 2 ^ 32 - 1) m less)
-
-balance_turn : (owed a b lost f g h : ℕ) (counts : List ℕ) → Balances owed a f g counts → b ≡ min (a + lost) (2 ^ 32 - 1) → h ≡ g + lost → AreLow counts → b < 2 ^ 32 - 1 → told_in counts + b + f ≡ owed + h
-balance_turn owed a b lost f g h counts s m e low less =
-    let is = added a b lost m less in
-    let before = s low (omega arith) in
-    omega arith
-
--- a turn with so many losses, all of which were told
-pub telling_more : (owed a b c lost f g h : ℕ) (p q r : PassView) (s : Type 0) (t u v : List Turn) → Telling owed a f g p q s t u → (s → v ≡ u ++ Go ∷ []) → b ≡ min (a + lost) (2 ^ 32 - 1) → h ≡ g + lost → c ≡ 0 → NewCalls q r (losses_of (told_of b)) → Telling owed c f h p r s t v
-telling_more owed a b c lost f g h p q r s t u v w go m e z n = record {
-  counts = w.counts ++ told_of b;
-  turns = w.turns + 1;
-  went = went_more s t u v w.turns w.went go;
-  calls = subst (NewCalls p r) (sym (losses_of-append w.counts (told_of b))) (more_calls p q r (losses_of w.counts) (losses_of (told_of b)) w.calls n);
-  balance = λ low less.
-      let parts = low_parts w.counts (told_of b) low in
-      let all = balance_turn owed a b lost f g h w.counts w.balance m e parts.0 (low_of b parts.1) in
-      omega (arith, told_in-append w.counts (told_of b), told_in-of b);
+handed_more : (tells : Type 0) (a m b : OutgoingView) (xs ys : List Fate) → Handed tells a m xs → Handed tells m b ys → Handed tells a b (xs ++ ys)
+handed_more tells a m b xs ys h k = record {
+  out = k.out ∙ (ap (λ w. w ++ all_of ys) h.out ∙ (assoc a.out (all_of xs) (all_of ys) ∙ ap (λ w. a.out ++ w) (sym (all_of-append xs ys))));
+  took = λ i. k.took i ∙ (ap (λ w. w ++ kept_of ys) (h.took i) ∙ (assoc a.took (kept_of xs) (kept_of ys) ∙ ap (λ w. a.took ++ w) (sym (kept_of-append xs ys))));
+  lost = omega (arith, h.lost, k.lost, lost_of-append xs ys);
 }
 
-pub tells_stop : (owed a f g : ℕ) (p q : PassView) (s : Type 0) (t u v : List Turn) → Telling owed a f g p q s t u → (s → v ≡ u ++ Stop ∷ []) → Tells owed a f g p q s t v ends.Stopped
-tells_stop owed a f g p q s t u v w stop = record { counts = w.counts; turns = w.turns; went = halts s t u v w.turns w.went stop; calls = w.calls; balance = λ _. w.balance }
+pub sending_start : (tells : Type 0) (a : OutgoingView) (p : CallerView) → Sending tells a p a p 0
+sending_start tells a p = record { fates = []; counts = []; handed = handed_none tells a; each = omega arith; calls = no_calls p; told = λ low. omega arith; settled = inr (refl, refl) }
 
-no_more : (p q r : PassView) (counts : List ℕ) → NewCalls p q (losses_of counts) → NewCalls q r [] → NewCalls p r (losses_of counts)
-no_more p q r counts n none = subst (NewCalls p r) (append-nil (losses_of counts)) (more_calls p q r (losses_of counts) [] n none)
+-- what is owed is low where it can be counted
+owes_all : (a b lost : ℕ) → b ≡ min (a + lost) (2 ^ 32 - 1) → b < 2 ^ 32 - 1 → b ≡ a + lost
+owes_all a b lost m less = omega (arith, m, less)
 
--- a turn whose call was refused
-refused_turn : (owed a b c lost f g h : ℕ) (counts : List ℕ) → Balances owed a f g counts → b ≡ min (a + lost) (2 ^ 32 - 1) → h ≡ g + lost → c ≡ b → Balances owed c f h counts
-refused_turn owed a b c lost f g h counts s m e z low less = let all = balance_turn owed a b lost f g h counts s m e low (omega arith) in omega arith
-
-pub tells_erafull : (owed a b c lost f g h : ℕ) (p q r : PassView) (s : Type 0) (t u v : List Turn) → Telling owed a f g p q s t u → (s → v ≡ u ++ Go ∷ []) → b ≡ min (a + lost) (2 ^ 32 - 1) → h ≡ g + lost → c ≡ b → NewCalls q r [] → Tells owed c f h p r s t v ends.EraFull
-tells_erafull owed a b c lost f g h p q r s t u v w go m e z n = record {
+pub sending_nothing : (tells : Type 0) (a m b : OutgoingView) (p q : CallerView) (n : ℕ) → Sending tells a p m q n → HandsOn tells m b → b.owed ≡ 0 → Sending tells a p b q (n + 1)
+sending_nothing tells a m b p q n w on none = record {
+  fates = w.fates ++ on.fates;
   counts = w.counts;
-  turns = w.turns + 1;
-  went = went_more s t u v w.turns w.went go;
-  calls = no_more p q r w.counts w.calls n;
-  balance = λ _. refused_turn owed a b c lost f g h w.counts w.balance m e z;
+  handed = handed_more tells a m b w.fates on.fates w.handed on.handed;
+  each = omega (arith, w.each, on.turns);
+  calls = w.calls;
+  told = λ low. let now = owes_all m.owed b.owed (lost_of on.fates) on.owes (omega (arith, none)) in omega (arith, w.told low, now, lost_of-append w.fates on.fates);
+  settled = inl none;
 }
 
-pub tells_memory : (owed a b c lost f g h : ℕ) (p q r : PassView) (s : Type 0) (t u v : List Turn) → Telling owed a f g p q s t u → (s → v ≡ u ++ Go ∷ []) → b ≡ min (a + lost) (2 ^ 32 - 1) → h ≡ g + lost → c ≡ b → NewCalls q r [] → Tells owed c f h p r s t v ends.Memory
-tells_memory owed a b c lost f g h p q r s t u v w go m e z n = record {
-  counts = w.counts;
-  turns = w.turns + 1;
-  went = went_more s t u v w.turns w.went go;
-  calls = no_more p q r w.counts w.calls n;
-  balance = λ _. refused_turn owed a b c lost f g h w.counts w.balance m e z;
-}
+-- what was lost is told
+pub sending_more : (tells : Type 0) (a m b c : OutgoingView) (p q r : CallerView) (n count : ℕ) (reply : Reply) → Sending tells a p m q n → HandsOn tells m b → count ≡ b.owed → c ≡ with_owed 0 b → NewCall q r (SendFailed count) reply → Sending tells a p c r (n + 1)
+sending_more tells a m b c p q r n count reply w on is same call = subst (λ x. Sending tells a p x r (n + 1)) (sym same) (record {
+  fates = w.fates ++ on.fates;
+  counts = w.counts ++ count ∷ [];
+  handed = let all = handed_more tells a m b w.fates on.fates w.handed on.handed in record { out = all.out; took = all.took; lost = all.lost };
+  each = omega (arith, w.each, on.turns);
+  calls = subst (NewCalls p r) (sym (losses_of-append w.counts (count ∷ []))) (more_calls p q r (losses_of w.counts) (SendFailed count ∷ []) w.calls (one_call q r (SendFailed count) reply call));
+  told = λ low.
+      let parts = low_parts w.counts (count ∷ []) low in
+      let now = owes_all m.owed b.owed (lost_of on.fates) on.owes (omega (arith, is, parts.1.0)) in
+      omega (arith, w.told parts.0, now, is, told_in-append w.counts (count ∷ []), lost_of-append w.fates on.fates);
+  settled = inl refl;
+})
 
-pub tells_unread : (owed a c f g h : ℕ) (p q r : PassView) (s : Type 0) (t u v : List Turn) → Telling owed a f g p q s t u → (s → v ≡ u ++ Go ∷ []) → NewCalls q r [] → Tells owed c f h p r s t v ends.Unread
-tells_unread owed a c f g h p q r s t u v w go n = record {
-  counts = w.counts;
-  turns = w.turns + 1;
-  went = went_more s t u v w.turns w.went go;
-  calls = no_more p q r w.counts w.calls n;
-  balance = λ apart. absurd (apart refl);
-}
+pub tells_in_vain : (tells : Type 0) (limit : ℕ) (why : Refusal) (m b c : OutgoingView) (q r : CallerView) (count : ℕ) → HandsOn tells m b → count ≡ b.owed → c ≡ with_owed (owed_after why b.owed) b → Refuses limit why q r (SendFailed count) → TellsInVain tells limit why m q c r
+tells_in_vain tells limit why m b c q r count on is left refused = record { then = b; hands_on = on; refused = subst (λ k. Refuses limit why q r (SendFailed k)) is refused; left = left }

@@ -1,360 +1,151 @@
--- What control lines name.
-use Rattle.std.specs.Prelude.{◌≡◌, ◌≢◌, ◌⊎◌, ℕ, ◌+◌, ◌<◌, ◌≤◌, nat_lt, Bool, true, false}
-use Rattle.std.specs.Prelude.{if◌then◌else◌, List, [], ◌∷◌, ◌++◌, length, codes}
-use Rattle.std.specs.Prelude.{Option, Some, None, Result, Ok, Err}
-use Rattle.std.specs.List.{list_any}
-use Rattle.std.specs.Io.KnownBytes.{Consumes, Appends, IsAtEnd}
-use Rattle.swim_wire.specs.Numbers.{IsEndpoint}
-use Rattle.swim_words.specs.Words.{No, Lacks, spaced, endpoint_text, SaysEndpoint}
-use Rattle.swim_member.specs.declared.event.Event.{Event}
-use Rattle.swim_member.specs.declared.event.Event.TheVariants as event
-use Rattle.swim_member.specs.declared.note.Note.{Note}
-use Rattle.swim_member.specs.declared.note.Note.TheVariants as note
-use Rattle.swim_node.specs.declared.entry.Entry.{Entry}
-use Rattle.swim_node.specs.declared.entry.Reply.{Reply}
-use Rattle.swim_shared.specs.Passes.{PassView}
-use Rattle.swim_shell.specs.declared.lines.TheConstants.{LINE_MAX}
-use Rattle.swim_shell.specs.declared.worker.Turn.{Turn}
-use Rattle.swim_shell.specs.declared.calling.Refusal.{Refusal}
-use Rattle.swim_shell.specs.declared.calling.Refusal.TheVariants as refusal
+-- What a conversation hears, and what comes of it.
+use Rattle.std.specs.Prelude.{◌≡◌, ◌≢◌, ◌⊎◌, ℕ, ◌≤◌, true, Option, Some, None}
+use Rattle.std.specs.Prelude.{List, [], ◌∷◌, ◌++◌, length}
+use Rattle.std.specs.Io.KnownBytes.{IsAtEnd}
+use Rattle.swim_words.specs.Words.{Lacks}
+use Rattle.swim_shell.specs.declared.caller.Refusal.{Refusal}
 use Rattle.swim_shell.specs.declared.request.Request.{Request}
-use Rattle.swim_shell.specs.declared.request.Request.TheVariants as asked
-use Rattle.swim_shell.specs.declared.lines.Line.{Line}
-use Rattle.swim_shell.specs.declared.lines.Line.TheVariants.{Text, Long}
-use Rattle.swim_shell.specs.declared.worker.ControlEnd.{ControlEnd}
-use Rattle.swim_shell.specs.declared.worker.ControlEnd.TheVariants as ends
-use Rattle.swim_shell.specs.Calls.{Gains}
-use Rattle.swim_shell.specs.Gates.{Went, Halted}
+use Rattle.swim_shell.specs.declared.conversation.LineEnd.{LineEnd}
+use Rattle.swim_shell.specs.declared.conversation.LineEnd.TheVariants as line_end
+use Rattle.swim_shell.specs.declared.conversation.ControlEnd.{ControlEnd}
+use Rattle.swim_shell.specs.declared.conversation.ControlEnd.TheVariants as ends
+use Rattle.swim_shell.specs.declared.lines.NoLine.{NoLine}
+use Rattle.swim_shell.specs.Calls.{CallerView}
+use Rattle.swim_shell.specs.Lines.{Takes, TakesNoLine}
+use Rattle.swim_shell.specs.Requests.{Names}
+use Rattle.swim_shell.specs.Answers.{Answers, Gives, end_of}
+use Rattle.swim_shell.specs.Views.{ConversationView}
 
--- how the bytes before an end of line are kept
-abbrev pub IsLine : List ℕ → Line → Type 0
-IsLine text (Text v) = (length text ≤ LINE_MAX) × (v.items ≡ text)
-IsLine text Long = LINE_MAX < length text
-
--- the text is none of the lines
-pub record IsUnknown (text : List ℕ) : Type 0 where
-  pub status : text ≢ codes "status"
-  pub members : text ≢ codes "members"
-  pub leave : text ≢ codes "leave"
-  pub stop : text ≢ codes "stop"
-  pub members_after : (word : List ℕ) → text ≢ spaced (codes "members") word
-  pub join : (word : List ℕ) → text ≢ spaced (codes "join") word
-
--- the word after `join` or `members` isn't an endpoint
-pub record IsNoAddress (text : List ℕ) : Type 0 where
-  pub word : List ℕ
-  pub says : (text ≡ spaced (codes "members") word) ⊎ (text ≡ spaced (codes "join") word)
-  pub none : No (SaysEndpoint word)
-
--- what a line that is not too long asks for
-abbrev pub NamesShort : List ℕ → Request → Type 0
-NamesShort text asked.Status = text ≡ codes "status"
-NamesShort text (asked.Members after) =
-    ((text ≡ codes "members") × (after ≡ 0))
-    ⊎ ((text ≡ spaced (codes "members") (endpoint_text after)) × IsEndpoint after)
-NamesShort text (asked.Join peer) =
-    (text ≡ spaced (codes "join") (endpoint_text peer)) × IsEndpoint peer
-NamesShort text asked.Leave = text ≡ codes "leave"
-NamesShort text asked.Stop = text ≡ codes "stop"
-NamesShort text asked.Address = IsNoAddress text
-NamesShort text asked.Unknown = IsUnknown text
-NamesShort text asked.TooLong = ⊥
-
--- the line names this
-abbrev pub Names : List ℕ → Request → Type 0
-Names text asked.TooLong = LINE_MAX < length text
-Names text a = (length text ≤ LINE_MAX) × NamesShort text a
-
--- what a read of one byte tells
-abbrev pub ReadsByte : {E : Type 0} → Option (List ℕ) → Option (List ℕ) → Result (Option ℕ) E
-    → Type 0
-ReadsByte old new (Ok (Some byte)) = Consumes old new (byte ∷ [])
-ReadsByte old new (Ok None) = Consumes old new [] × IsAtEnd new
-ReadsByte old new (Err _) = Consumes old new []
-
--- what is kept of the bytes of a line, and whether they are too many
-abbrev pub Kept : Bool → List ℕ → List ℕ → Type 0
-Kept false text bytes = (length text ≤ LINE_MAX) × (text ≡ bytes)
-Kept true text bytes = LINE_MAX < length bytes
-
--- a line so far
-pub record Reading (old new : Option (List ℕ)) (text : List ℕ) (long : Bool) : Type 0 where
-  pub bytes : List ℕ
-  pub took : Consumes old new bytes
-  pub lacks : Lacks 10 bytes
-  pub kept : Kept long text bytes
-
--- a line was read, with its end
-pub record WholeLine (old new : Option (List ℕ)) (line : Line) : Type 0 where
-  pub text : List ℕ
-  pub took : Consumes old new (text ++ 10 ∷ [])
-  pub lacks : Lacks 10 text
-  pub kept : IsLine text line
-
--- a line was cut
-pub record CutLine (old new : Option (List ℕ)) : Type 0 where
-  pub text : List ℕ
-  pub took : Consumes old new text
-  pub lacks : Lacks 10 text
-
--- one reading of the input: a whole line, or a cut rest at its end
-abbrev pub ReadsLine : Option (List ℕ) → Option (List ℕ) → Option Line → Type 0
-ReadsLine old new (Some line) = WholeLine old new line
-ReadsLine old new None = CutLine old new × IsAtEnd new
-
--- ---- answers
-
--- what is written where a call was refused
-abbrev pub refusal_text : Refusal → List ℕ
-refusal_text refusal.Memory = codes "error 4 memory\n"
-refusal_text refusal.EraFull = codes "error 5 era full\n"
-refusal_text refusal.Unread = codes "error 6 unread\n"
-
--- the member takes no part
-abbrev pub is_stopped : Note → Bool
-is_stopped note.Stopped = true
-is_stopped _ = false
-
--- the member was told to join itself
-abbrev pub is_misdirected : Note → Bool
-is_misdirected note.Misdirected = true
-is_misdirected _ = false
-
--- what is written after a join
-abbrev pub joined_text : Reply → List ℕ
-joined_text reply =
-    if list_any is_stopped reply.notes.items then codes "ok stopped\n" else
-    if list_any is_misdirected reply.notes.items then codes "error 7 self\n" else
-    if nat_lt 0 reply.lost then codes "ok lost\n" else
-    codes "ok sent\n"
-
--- what is written after a leave
-abbrev pub left_text : Reply → List ℕ
-left_text reply =
-    if list_any is_stopped reply.notes.items then codes "ok stopped\n" else codes "ok left\n"
-
--- a line makes no call, and this is written
-pub record Plain (entries : List Entry) (refused : Option Refusal) (answer text : List ℕ)
-    : Type 0 where
-  pub none : entries ≡ []
-  pub unrefused : refused ≡ None
-  pub is : answer ≡ text
-
--- a line makes this call, and what is written follows from
--- its reply; or the call was refused, as is written then
-abbrev pub Calls : Event → (Reply → List ℕ → Type 0) → List Entry → Option Refusal → List ℕ → Type 0
-Calls event Writes [] (Some why) answer = answer ≡ refusal_text why
-Calls event Writes (e ∷ []) None answer = (e.event ≡ event) × Writes e.reply answer
-Calls event Writes _ _ answer = ⊥
-
--- the status is written, which makes no call; or the watch gave none
-abbrev pub ShowsStatus : List Entry → Option Refusal → List ℕ → Type 0
-ShowsStatus entries None answer = entries ≡ []
-ShowsStatus entries (Some why) answer =
-    (entries ≡ []) × (why ≡ refusal.Unread) × (answer ≡ refusal_text why)
-
--- what a line makes and writes
-abbrev pub Answers : Request → List Entry → Option Refusal → List ℕ → Type 0
-Answers asked.Status entries refused answer = ShowsStatus entries refused answer
-Answers (asked.Members after) entries refused answer =
-    Calls (event.Members after) (λ reply text. Unit {0}) entries refused answer
-Answers (asked.Join peer) entries refused answer =
-    Calls (event.Join peer) (λ reply text. text ≡ joined_text reply) entries refused answer
-Answers asked.Leave entries refused answer =
-    Calls event.Leave (λ reply text. text ≡ left_text reply) entries refused answer
-Answers asked.Stop entries refused answer = Plain entries refused answer (codes "ok stopping\n")
-Answers asked.Unknown entries refused answer =
-    Plain entries refused answer (codes "error 1 unknown\n")
-Answers asked.Address entries refused answer =
-    Plain entries refused answer (codes "error 2 address\n")
-Answers asked.TooLong entries refused answer =
-    Plain entries refused answer (codes "error 3 too long\n")
-
--- how a refusal ends a conversation, if it does
-abbrev pub end_by : Refusal → Option ControlEnd
-end_by refusal.Memory = None
-end_by refusal.EraFull = Some ends.EraFull
-end_by refusal.Unread = Some ends.Unread
-
--- how control ends after a refusal, if it ends
-abbrev pub end_after : Option Refusal → Option ControlEnd
-end_after None = None
-end_after (Some why) = end_by why
-
--- how a line ends a conversation, if it does
-abbrev pub end_of : Option Refusal → Request → Option ControlEnd
-end_of (Some why) asked = end_by why
-end_of None asked.Stop = Some ends.Stop
-end_of None _ = None
-
--- a status was written; or the watch gave none
-abbrev pub ShowsWatch : List ℕ → Option ControlEnd → Type 0
-ShowsWatch answer None = Unit {0}
-ShowsWatch answer (Some end) = (end ≡ ends.Unread) × (answer ≡ refusal_text refusal.Unread)
-
--- the answer to what was asked, and whether the conversation ends with it
-pub record Responds (p q : PassView) (asked : Request) (answer : List ℕ) (end : Option ControlEnd)
-    : Type 0 where
-  pub entries : List Entry
-  pub refused : Option Refusal
-  pub answers : Answers asked entries refused answer
-  pub gains : Gains p q entries
-  pub end_is : end ≡ end_of refused asked
-
--- the same of what makes a call
-pub record RespondsCall (p q : PassView) (event : Event) (Writes : Reply → List ℕ → Type 0)
-    (answer : List ℕ) (end : Option ControlEnd)
-    : Type 0 where
-  pub entries : List Entry
-  pub refused : Option Refusal
-  pub calls : Calls event Writes entries refused answer
-  pub gains : Gains p q entries
-  pub end_is : end ≡ end_after refused
-
--- ---- conversations
-
--- a line that was heard, the calls that it made, why its call was refused, if it was, and what was
--- answered
+-- a line that was heard, what it asks for, why its call was refused, if it was, and its answer
 pub record Heard : Type 0 where
   pub text : List ℕ
   pub asked : Request
-  pub entries : List Entry
   pub refused : Option Refusal
   pub answer : List ℕ
 
--- a line that was heard: what it asks for, the calls that it made and its answer fit
-pub record IsHeard (h : Heard) : Type 0 where
+-- a line was heard: it names what it asks for, and what that makes of the caller, why it was
+-- refused and the answer fit
+pub record IsHeard (limit : ℕ) (p q : CallerView) (h : Heard) : Type 0 where
   pub lacks : Lacks 10 h.text
   pub names : Names h.text h.asked
-  pub answers : Answers h.asked h.entries h.refused h.answer
+  pub answers : Answers limit h.asked p q h.refused h.answer
 
--- each of these lines was heard so
-abbrev pub AreHeard : List Heard → Type 0
-AreHeard [] = Unit {0}
-AreHeard (h ∷ hs) = IsHeard h × AreHeard hs
+-- these lines were heard, one after another, and nothing else was made of the caller
+abbrev pub Hears : ℕ → CallerView → CallerView → List Heard → Type 0
+Hears limit p q [] = q ≡ p
+Hears limit p q (h ∷ hs) = (then : CallerView) × IsHeard limit p then h × Hears limit then q hs
 
--- the bytes, answers and calls of the lines that were heard, in order
+-- the bytes of the lines, each with its end
 abbrev pub bytes_of : List Heard → List ℕ
 bytes_of [] = []
 bytes_of (h ∷ hs) = (h.text ++ 10 ∷ []) ++ bytes_of hs
 
+-- the answers to the lines, in order
 abbrev pub answers_of : List Heard → List ℕ
 answers_of [] = []
 answers_of (h ∷ hs) = h.answer ++ answers_of hs
 
-abbrev pub entries_of : List Heard → List Entry
-entries_of [] = []
-entries_of (h ∷ hs) = h.entries ++ entries_of hs
+-- no line is heard while an end is due, and the end that is due is the one of the last line
+abbrev pub DueAfter : Option LineEnd → List Heard → Option LineEnd → Type 0
+DueAfter before [] due = due ≡ before
+DueAfter before (h ∷ hs) due = (before ≡ None) × DueAfter (end_of h.refused h.asked) hs due
 
--- how control ends after this line, if it ends
-abbrev pub end_at : Heard → Option ControlEnd
-end_at h = end_of h.refused h.asked
-
--- none of these lines ends a conversation
-abbrev pub AreOpen : List Heard → Type 0
-AreOpen [] = Unit {0}
-AreOpen (h ∷ hs) = (end_at h ≡ None) × AreOpen hs
-
--- these lines and then a last one
-pub record EndsWith (heard : List Heard) (Last : Heard → Type 0) : Type 0 where
-  pub before : List Heard
-  pub last : Heard
-  pub heard_is : heard ≡ before ++ last ∷ []
-  pub unended : AreOpen before
-  pub is_last : Last last
-
--- the gate ended the conversation: one turn a line, and then Stop
-pub record ByGate (heard : List Heard) (shows : Type 0) (t u : List Turn) : Type 0 where
-  pub unended : AreOpen heard
-  pub halted : Halted shows t u (length heard)
-
--- its last line ended it in this way
-pub record ByLine (heard : List Heard) (shows : Type 0) (t u : List Turn) (end : ControlEnd)
+-- these lines were heard: they are what was read, with what was kept before, but for what is kept
+-- now; and their answers, after what was left to write, are written, but for what is left now
+pub record Talks (limit : ℕ) (a : ConversationView) (p : CallerView) (b : ConversationView)
+    (q : CallerView) (before due : Option LineEnd) (heard : List Heard)
     : Type 0 where
-  pub last : EndsWith heard (λ h. end_at h ≡ Some end)
-  pub went : Went shows t u (length heard)
+  pub lines : Hears limit p q heard
+  pub took : Takes a.comes b.comes a.kept b.kept (bytes_of heard)
+  pub wrote : Gives a.gone b.gone a.left b.left (answers_of heard)
+  pub ends : DueAfter before heard due
 
--- the answer to its last line was not written
-pub record ByWriter (heard : List Heard) (shows : Type 0) (t u : List Turn) : Type 0 where
-  pub last : EndsWith heard (λ h. Unit {0})
-  pub went : Went shows t u (length heard)
+-- an end that stays due with another caller: a refusal was the former one's
+abbrev pub carried : Option LineEnd → Option LineEnd
+carried (Some (line_end.Refused why)) = None
+carried due = due
 
--- it ended in the turn after its last line, where no whole line came
-pub record ByReader (heard : List Heard) (shows : Type 0) (t u : List Turn) : Type 0 where
-  pub unended : AreOpen heard
-  pub went : Went shows t u (length heard + 1)
+-- an answer was on its way, or a line was heard
+abbrev pub HadToWrite : ConversationView → List Heard → Type 0
+HadToWrite a heard = (a.waits ≡ true) ⊎ (heard ≢ [])
 
--- why a conversation ended after these lines
-abbrev pub EndsBy : ControlEnd → List Heard → Type 0 → List Turn → List Turn → Type 0
-EndsBy ends.Closed heard shows t u = ByReader heard shows t u
-EndsBy ends.Stop heard shows t u = ByGate heard shows t u ⊎ ByLine heard shows t u ends.Stop
-EndsBy ends.ReadFault heard shows t u = ByReader heard shows t u
-EndsBy ends.WriteFault heard shows t u = ByWriter heard shows t u
-EndsBy ends.EraFull heard shows t u = ByLine heard shows t u ends.EraFull
-EndsBy ends.Memory heard shows t u = ⊥
-EndsBy ends.Unread heard shows t u = ByLine heard shows t u ends.Unread
-
--- the lines that were read and answered, none of which ends the conversation
-pub record Converses (old new u v : Option (List ℕ)) (p q : PassView) (shows : Type 0)
-    (s t : List Turn)
+-- the lines that were heard in so many turns, at most one in each
+pub record Converses (limit : ℕ) (a : ConversationView) (p : CallerView) (b : ConversationView)
+    (q : CallerView) (turns : ℕ)
     : Type 0 where
   pub heard : List Heard
-  pub took : Consumes old new (bytes_of heard)
-  pub lines : AreHeard heard
-  pub unended : AreOpen heard
-  pub went : Went shows s t (length heard)
-  pub gains : Gains p q (entries_of heard)
-  pub wrote : Appends u v (answers_of heard)
+  pub each : length heard ≤ turns
+  pub talks : Talks limit a p b q (carried a.due) b.due heard
+  pub waits : b.waits ≡ true → HadToWrite a heard
 
--- the lines that were read, with what was cut after them, and the new calls, which are those of the
--- lines. Unless a write failed, the answers were written
-pub record Controls (old new u v : Option (List ℕ)) (p q : PassView) (shows : Type 0)
-    (s t : List Turn) (end : ControlEnd)
+-- the end of the last line that a conversation ends by; where it can write no more it stays due
+abbrev pub end_by_line : ControlEnd → Option LineEnd → Option LineEnd
+end_by_line ends.Closed due = None
+end_by_line ends.ReadFault due = None
+end_by_line ends.WriteFault due = due
+end_by_line ends.Asked due = Some line_end.Asked
+end_by_line (ends.Refused why) due = Some (line_end.Refused why)
+
+-- all answers are written, and no end is due
+pub record IsSettled (b : ConversationView) : Type 0 where
+  pub left : b.left ≡ []
+  pub due : b.due ≡ None
+
+-- what holds at an end: unless a write failed, all answers are written; where the input ended or a
+-- read failed, no whole line is left
+abbrev pub EndsAt : ControlEnd → ConversationView → Type 0
+EndsAt ends.Closed b = IsSettled b × Lacks 10 b.kept × IsAtEnd b.comes
+EndsAt ends.ReadFault b = IsSettled b × Lacks 10 b.kept
+EndsAt ends.WriteFault b = Unit {0}
+EndsAt ends.Asked b = IsSettled b
+EndsAt (ends.Refused why) b = IsSettled b
+
+-- the lines that were heard before a conversation ended so
+pub record ConversedBy (end : ControlEnd) (limit : ℕ) (a : ConversationView) (p : CallerView)
+    (b : ConversationView) (q : CallerView) (turns : ℕ)
     : Type 0 where
   pub heard : List Heard
-  pub cut : List ℕ
-  pub took : Consumes old new (bytes_of heard ++ cut)
-  pub lines : AreHeard heard
-  pub lacks : Lacks 10 cut
-  pub gains : Gains p q (entries_of heard)
-  pub wrote : end ≢ ends.WriteFault → Appends u v (answers_of heard)
-  pub ended : EndsBy end heard shows s t
+  pub each : length heard ≤ turns
+  pub talks : Talks limit a p b q (carried a.due) (end_by_line end b.due) heard
+  pub ended : EndsAt end b
+  pub fault : end ≡ ends.WriteFault → HadToWrite a heard
 
--- one line was read; where it could be answered, that is how the conversation goes on or ends
-pub record OneLine (old new u v : Option (List ℕ)) (p q : PassView) (end : Option ControlEnd)
+-- ---- parts of a turn
+
+-- nothing was left to write; a line was heard, and its answer is left
+pub record HearsLine (limit : ℕ) (a : ConversationView) (p : CallerView) (b : ConversationView)
+    (q : CallerView)
     : Type 0 where
   pub line : Heard
-  pub took : Consumes old new (line.text ++ 10 ∷ [])
-  pub is : IsHeard line
-  pub gains : Gains p q line.entries
-  pub wrote : end ≢ Some ends.WriteFault → Appends u v line.answer
-  pub ends_by : end ≢ Some ends.WriteFault → end_at line ≡ end
+  pub is : IsHeard limit p q line
+  pub took : Takes a.comes b.comes a.kept b.kept (line.text ++ 10 ∷ [])
+  pub gone : b.gone ≡ a.gone
+  pub empty : a.left ≡ []
+  pub left : b.left ≡ line.answer
+  pub due : b.due ≡ end_of line.refused line.asked
 
--- no whole line was read
-pub record NoLine (old new u v : Option (List ℕ)) (p q : PassView) : Type 0 where
-  pub text : List ℕ
-  pub took : Consumes old new text
-  pub lacks : Lacks 10 text
-  pub gains : Gains p q []
-  pub wrote : Appends u v []
+-- no line was heard, and nothing was written
+pub record HearsNone (a b : ConversationView) (why : NoLine) : Type 0 where
+  pub took : TakesNoLine a.comes b.comes a.kept b.kept why
+  pub gone : b.gone ≡ a.gone
+  pub left : b.left ≡ a.left
+  pub due : b.due ≡ a.due
+  pub waits : b.waits ≡ a.waits
 
--- one turn, which goes on or ends
-abbrev pub ControlsOne : Option (List ℕ) → Option (List ℕ) → Option (List ℕ) → Option (List ℕ)
-    → PassView → PassView → Option ControlEnd → Type 0
-ControlsOne old new u v p q (Some ends.Closed) = NoLine old new u v p q
-ControlsOne old new u v p q (Some ends.ReadFault) = NoLine old new u v p q
-ControlsOne old new u v p q end = OneLine old new u v p q end
+-- the end that the last line left due
+abbrev pub due_before : Option ControlEnd → Option LineEnd → Option LineEnd
+due_before None due = due
+due_before (Some end) due = end_by_line end due
 
--- the answer to a line
-pub record AnswersLine (p q : PassView) (line : Line) (u v : Option (List ℕ))
-    (end : Option ControlEnd)
-    : Type 0 where
-  pub asked : Request
-  pub entries : List Entry
-  pub refused : Option Refusal
-  pub answer : List ℕ
-  pub names : (text : List ℕ) → IsLine text line → Names text asked
-  pub answers : Answers asked entries refused answer
-  pub gains : Gains p q entries
-  pub wrote : end ≢ Some ends.WriteFault → Appends u v answer
-  pub ends_by : end ≢ Some ends.WriteFault → end_of refused asked ≡ end
+-- what holds at an end, if it is one
+abbrev pub EndsIf : Option ControlEnd → ConversationView → Type 0
+EndsIf None b = Unit {0}
+EndsIf (Some end) b = EndsAt end b
+
+-- some of what was left was written
+pub record Sends (a b : ConversationView) (end : Option ControlEnd) : Type 0 where
+  pub comes : b.comes ≡ a.comes
+  pub kept : b.kept ≡ a.kept
+  pub wrote : Gives a.gone b.gone a.left b.left []
+  pub due : a.due ≡ due_before end b.due
+  pub ended : EndsIf end b

@@ -1,15 +1,16 @@
 -- What an inbound answers, and what a receiver makes of it.
-use Rattle.std.specs.Prelude.{◌≡◌, ℕ, ◌+◌, ◌&&◌, nat_lt, if◌then◌else◌, Bool, true}
+use Rattle.std.specs.Prelude.{◌≡◌, ℕ, ◌+◌, ◌≤◌, min, ◌&&◌, nat_lt, Bool, true}
 use Rattle.std.specs.Prelude.{List, [], ◌∷◌, ◌++◌, length, Option, Some, None, Result, Ok, Err}
 use Rattle.swim_member.specs.declared.event.Event.{Event}
 use Rattle.swim_member.specs.declared.event.Event.TheVariants.{Datagram, ReceiveFailed}
-use Rattle.swim_shared.specs.Passes.{PassView}
-use Rattle.swim_shell.specs.declared.receiving.TheConstants.{FAILURES_MAX}
+use Rattle.swim_shell.specs.declared.arrival.Arrival.{Arrival}
+use Rattle.swim_shell.specs.declared.arrival.Arrival.TheVariants as arrival
+use Rattle.swim_shell.specs.declared.caller.Refusal.{Refusal}
+use Rattle.swim_shell.specs.declared.caller.Refusal.TheVariants as refusal
+use Rattle.swim_shell.specs.declared.receiver.TheConstants.{FAILURES_MAX}
 use Rattle.swim_shell.specs.declared.worker.WorkerEnd.{WorkerEnd}
 use Rattle.swim_shell.specs.declared.worker.WorkerEnd.TheVariants as ends
-use Rattle.swim_shell.specs.declared.worker.Turn.{Turn}
-use Rattle.swim_shell.specs.Calls.{NewCalls}
-use Rattle.swim_shell.specs.Gates.{Went, Guided}
+use Rattle.swim_shell.specs.Calls.{CallerView, NewCalls, Refuses}
 
 -- what an inbound gave in one turn: a datagram and its sender, nothing, or a failure
 pub data Came : Type 0 where
@@ -43,9 +44,9 @@ abbrev pub failures_in : List Came → ℕ
 failures_in [] = 0
 failures_in (c ∷ cs) = failures_at c + failures_in cs
 
--- the failures in a row after n of them and one more answer
+-- the failures in a row after n of them and one more answer, counted up to 16
 abbrev pub row_after : ℕ → Came → ℕ
-row_after n Failed = n + 1
+row_after n Failed = min (n + 1) FAILURES_MAX
 row_after n _ = 0
 
 -- how many failures in a row stand at the end, after n of them
@@ -63,67 +64,79 @@ pub record Took (tells : Type 0) (old new : List Came) (f g : ℕ) (came : List 
   pub told : tells → new ≡ old ++ came
   pub failed : g ≡ f + failures_in came
 
--- the last answer made a call that was refused
-pub record Refused (p q : PassView) (came : List Came) : Type 0 where
-  pub before : List Came
-  pub last : Came
-  pub event : Event
-  pub came_is : came ≡ before ++ last ∷ []
-  pub asked : events_at last ≡ event ∷ []
-  pub calls : NewCalls p q (events_for before)
-  pub calm : is_calm 0 before ≡ true
+-- the event that something that came makes
+abbrev pub event_of : Arrival → Event
+event_of (arrival.Datagram from bytes) = Datagram from bytes
+event_of arrival.Failure = ReceiveFailed
 
--- each answer made its calls, and nowhere were there 16 failures in a row
-pub record Served (p q : PassView) (came : List Came) : Type 0 where
-  pub calls : NewCalls p q (events_for came)
-  pub calm : is_calm 0 came ≡ true
+-- the event that waits to be entered, if one does
+abbrev pub waiting : Option Arrival → List Event
+waiting None = []
+waiting (Some a) = event_of a ∷ []
 
--- each answer made its calls, and the last 16 were failures
-pub record Faulty (p q : PassView) (came : List Came) : Type 0 where
-  pub before : List Came
-  pub came_is : came ≡ before ++ Failed ∷ []
-  pub calls : NewCalls p q (events_for came)
-  pub calm : is_calm 0 before ≡ true
-  pub row : failures_in_a_row 0 came ≡ FAILURES_MAX
+-- what a contract sees of a receiver: what its inbound answered, and how many of it were failures;
+-- how many in a row were, last; and what came and found the era full, so that it waits for the next
+pub record ReceiverView : Type 0 where
+  pub came : List Came
+  pub failures : ℕ
+  pub row : ℕ
+  pub kept : Option Arrival
 
--- what a receiver has done when it ends so
-abbrev pub EndsBy : WorkerEnd → PassView → PassView → List Came → Type 0
-EndsBy ends.Stopped p q came = Served p q came
-EndsBy ends.Fault p q came = Faulty p q came
-EndsBy _ p q came = Refused p q came
+-- the same of these parts
+abbrev pub receiver_view : List Came → ℕ → ℕ → Option Arrival → ReceiverView
+receiver_view came failures row kept = record {
+  came = came;
+  failures = failures;
+  row = row;
+  kept = kept;
+}
 
--- a receiver takes one answer of its inbound a turn; its calls are those for the answers, up to the
--- call that was refused
-pub record Receives (tells : Type 0) (old new : List Came) (f g : ℕ) (p q : PassView)
-    (shows : Type 0) (t u : List Turn) (end : WorkerEnd)
+-- what a turn takes: what waits, or else one answer of the inbound
+pub record Takes (tells : Type 0) (a b : ReceiverView) (taken : Option Arrival) : Type 0 where
+  pub came : List Came
+  pub took : Took tells a.came b.came a.failures b.failures came
+  pub row_is : b.row ≡ failures_in_a_row a.row came
+  pub events_are : waiting a.kept ++ events_for came ≡ waiting taken
+  pub one : length came + length (waiting a.kept) ≡ 1
+
+-- the turns of a receiver that goes on: it has entered, in order, what waited and what came, and at
+-- no time had 16 receives in a row failed
+pub record Receiving (tells : Type 0) (a : ReceiverView) (p : CallerView) (b : ReceiverView)
+    (q : CallerView) (turns : ℕ)
     : Type 0 where
   pub came : List Came
-  pub took : Took tells old new f g came
-  pub turns : Guided end shows t u (length came)
-  pub ended : EndsBy end p q came
+  pub entered : List Event
+  pub took : Took tells a.came b.came a.failures b.failures came
+  pub calls : NewCalls p q entered
+  pub all_entered : waiting a.kept ++ events_for came ≡ entered ++ waiting b.kept
+  pub row_is : b.row ≡ failures_in_a_row a.row came
+  pub calm : is_calm a.row came ≡ true
+  pub each : length came + length (waiting a.kept) ≡ turns + length (waiting b.kept)
 
--- so far
-pub record Receiving (tells : Type 0) (old new : List Came) (f g : ℕ) (p q : PassView)
-    (shows : Type 0) (t u : List Turn) (row : ℕ)
+-- what waits after a call that was refused so: what found the era full is not lost
+abbrev pub kept_after : Refusal → Arrival → Option Arrival
+kept_after refusal.EraFull a = Some a
+kept_after _ a = None
+
+-- the call for what was taken was refused
+pub record EntersInVain (limit : ℕ) (why : Refusal) (p q : CallerView) (taken kept : Option Arrival)
     : Type 0 where
-  pub came : List Came
-  pub took : Took tells old new f g came
-  pub turns : Went shows t u (length came)
-  pub served : Served p q came
-  pub row_is : failures_in_a_row 0 came ≡ row
+  pub last : Arrival
+  pub taken_is : taken ≡ Some last
+  pub refused : Refuses limit why p q (event_of last)
+  pub kept_is : kept ≡ kept_after why last
 
--- one turn, of which all calls were answered
-pub record TookOne (tells : Type 0) (old new : List Came) (f g : ℕ) (p q : PassView) (failed : Bool)
+-- how the last turn ended a receiver: it was entered, and 16 failures in a row were; or its call
+-- was refused
+abbrev pub EndsBy : ℕ → WorkerEnd → CallerView → CallerView → Option Arrival → ReceiverView → Type 0
+EndsBy limit ends.Fault p q taken b =
+    NewCalls p q (waiting taken) × (FAILURES_MAX ≤ b.row) × (b.kept ≡ None)
+EndsBy limit (ends.Refused why) p q taken b = EntersInVain limit why p q taken b.kept
+
+-- the last turn of a receiver
+pub record ReceivesLast (tells : Type 0) (limit : ℕ) (end : WorkerEnd) (a : ReceiverView)
+    (p : CallerView) (b : ReceiverView) (q : CallerView)
     : Type 0 where
-  pub one : Came
-  pub took : Took tells old new f g (one ∷ [])
-  pub calls : NewCalls p q (events_at one)
-  pub row_is : (n : ℕ) → row_after n one ≡ (if failed then n + 1 else 0)
-
--- one turn, whose call was refused
-pub record Refuses (tells : Type 0) (old new : List Came) (f g : ℕ) (p q : PassView) : Type 0 where
-  pub one : Came
-  pub event : Event
-  pub took : Took tells old new f g (one ∷ [])
-  pub asked : events_at one ≡ event ∷ []
-  pub calls : NewCalls p q []
+  pub taken : Option Arrival
+  pub takes : Takes tells a b taken
+  pub ends_by : EndsBy limit end p q taken b

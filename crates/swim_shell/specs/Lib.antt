@@ -1,8 +1,12 @@
 pub mod Calls
 pub mod Gates
-pub mod Joins
+pub mod Work
+pub mod Lines
+pub mod Requests
+pub mod Answers
+pub mod Views
+pub mod Control
 pub mod Inbounds
 pub mod Ticks
-pub mod Control
 pub mod Losses
-pub mod Numbers
+pub mod Joins

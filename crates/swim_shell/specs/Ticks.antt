@@ -1,5 +1,5 @@
 -- What a ticker draws.
-use Rattle.std.specs.Prelude.{◌≡◌, ℕ, List, [], ◌∷◌, ◌++◌, length}
+use Rattle.std.specs.Prelude.{◌≡◌, ℕ, List, [], ◌∷◌, length}
 use Rattle.rand_core.specs.Stream.{Stream}
 use Rattle.rand_core.specs.Steps.{stream_of, steps_u32}
 use Rattle.rand_chacha.specs.ChaCha.{ChaCha, next_word}
@@ -7,12 +7,8 @@ use Rattle.rand.specs.Shuffle.{shuffled}
 use Rattle.swim_member.specs.Deals.{deal_from}
 use Rattle.swim_member.specs.declared.event.Event.{Event}
 use Rattle.swim_member.specs.declared.event.Event.TheVariants.{Tick}
-use Rattle.swim_shared.specs.Passes.{PassView}
-use Rattle.swim_shell.specs.declared.worker.WorkerEnd.{WorkerEnd}
-use Rattle.swim_shell.specs.declared.worker.WorkerEnd.TheVariants as ends
-use Rattle.swim_shell.specs.declared.worker.Turn.{Turn}
-use Rattle.swim_shell.specs.Calls.{NewCalls}
-use Rattle.swim_shell.specs.Gates.{Went, Guided}
+use Rattle.swim_shell.specs.declared.caller.Refusal.{Refusal}
+use Rattle.swim_shell.specs.Calls.{CallerView, NewCalls, Refuses}
 
 -- all that the generator answers from now on
 abbrev pub answers : ChaCha → Stream
@@ -32,32 +28,18 @@ abbrev pub ticks_of : List (List ℕ) → List Event
 ticks_of [] = []
 ticks_of (d ∷ ds) = Tick d ∷ ticks_of ds
 
--- the deal drawn last made a call that was refused
-pub record LastRefused (p q : PassView) (deals : List (List ℕ)) : Type 0 where
-  pub before : List (List ℕ)
-  pub last : List ℕ
-  pub deals_are : deals ≡ before ++ last ∷ []
-  pub calls : NewCalls p q (ticks_of before)
-
--- what a ticker has done when it ends so
-abbrev pub TicksBy : WorkerEnd → PassView → PassView → List (List ℕ) → Type 0
-TicksBy ends.Stopped p q deals = NewCalls p q (ticks_of deals)
-TicksBy ends.Fault p q deals = ⊥
-TicksBy _ p q deals = LastRefused p q deals
-
--- a ticker's calls are Ticks with the deals drawn, one a turn, up to the call that was refused
-pub record Ticks (old new : Stream) (p q : PassView) (shows : Type 0) (t u : List Turn)
-    (end : WorkerEnd)
+-- the calls of a ticker are Ticks with the deals drawn, one a turn
+pub record Ticking (old : Stream) (p : CallerView) (new : Stream) (q : CallerView) (turns : ℕ)
     : Type 0 where
   pub deals : List (List ℕ)
   pub draws : Draws old deals new
-  pub turns : Guided end shows t u (length deals)
-  pub ended : TicksBy end p q deals
-
--- so far
-pub record Ticking (old new : Stream) (p q : PassView) (shows : Type 0) (t u : List Turn)
-    : Type 0 where
-  pub deals : List (List ℕ)
-  pub draws : Draws old deals new
-  pub turns : Went shows t u (length deals)
+  pub each : length deals ≡ turns
   pub calls : NewCalls p q (ticks_of deals)
+
+-- the last turn of a ticker: the Tick with the next deal was refused
+pub record TicksInVain (limit : ℕ) (why : Refusal) (old : Stream) (p : CallerView) (new : Stream)
+    (q : CallerView)
+    : Type 0 where
+  pub deal : List ℕ
+  pub drawn : (deal, new) ≡ next_deal old
+  pub refused : Refuses limit why p q (Tick deal)

@@ -2,16 +2,14 @@
 
 ghost use Rattle.std.specs.Prelude.{◌≡◌, ◌+◌, ◌≤◌, ◌++◌, [], length};
 ghost use Rattle.std.specs.List.{list_any};
-ghost use Rattle.swim_shell.specs.Control.{end_by, is_misdirected, is_stopped, joined_text, left_text, refusal_text};
+ghost use Rattle.swim_shell.specs.Answers.{is_misdirected, is_stopped, joined_text, left_text, refusal_text};
 
-use crate::calling::Refusal;
-use crate::worker::ControlEnd;
+use crate::caller::Refusal;
 use arrayvec::{ArrayString, ArrayVec};
 use std::fmt::Write;
 use swim_member::{NOTES_MAX, Note};
 use swim_node::{Reply, Status};
 use swim_wire::Update;
-use swim_words::{kind_name, phase_name};
 
 /// Room for the longest answer: a head, and thirty rows of at most 51 bytes.
 const ANSWER_MAX: usize = 2048;
@@ -30,7 +28,7 @@ pub(crate) fn add_text(answer: &mut Answer, text: &str)
 
 /// The line of a status.
 pub(crate) fn add_status(answer: &mut Answer, status: &Status) {
-    let phase = phase_name(status.phase);
+    let phase = status.phase.name();
     let number = status.number;
     let alive = status.alive;
     let suspect = status.suspect;
@@ -44,7 +42,7 @@ pub(crate) fn add_status(answer: &mut Answer, status: &Status) {
 
 /// The line of a member.
 fn add_row(answer: &mut Answer, row: &Update) {
-    let kind = kind_name(row.kind);
+    let kind = row.kind.name();
     let who = row.who;
     let number = row.number;
     let _ = writeln!(answer, "{kind} {who} {number}");
@@ -136,24 +134,15 @@ impl AnswerTo for Left {
     }
 }
 
-/// That a call was refused, and whether the conversation ends with it.
-pub(crate) fn add_refusal(answer: &mut Answer, why: Refusal) -> Option<ControlEnd>
+/// Writes that a call was refused.
+pub(crate) fn add_refusal(answer: &mut Answer, why: Refusal)
     requires { answer.old.bytes ≡ [] }
-    ensures text { answer.new.bytes ≡ refusal_text why }
-    ensures end { result ≡ end_by why }
+    ensures { answer.new.bytes ≡ refusal_text why }
 {
-    match why {
-        Refusal::Memory => {
-            add_text(answer, "error 4 memory\n");
-            None
-        }
-        Refusal::EraFull => {
-            add_text(answer, "error 5 era full\n");
-            Some(ControlEnd::EraFull)
-        }
-        Refusal::Unread => {
-            add_text(answer, "error 6 unread\n");
-            Some(ControlEnd::Unread)
-        }
-    }
+    let text = match why {
+        Refusal::Memory => "error 4 memory\n",
+        Refusal::EraFull => "error 5 era full\n",
+        Refusal::Unread => "error 6 unread\n",
+    };
+    add_text(answer, text);
 }

@@ -1,40 +1,42 @@
-//! The workers of a member that runs: each takes things as they come, and makes one call of the shared node for
-//! each. What came, what was drawn, which lines were read and what was lost can be read off its calls.
-//! The joiner makes calls by the clock.
+//! The workers of a member that runs: each has turns, takes what comes in a turn, and makes one call for it. What came and
+//! which lines were read can be read off the calls. No worker knows how a call is made.
 #![tactic(auto)]
 
+mod alarm;
+mod answer_writer;
 mod answers;
-mod calling;
-mod controlling;
+mod arrival;
+mod caller;
+mod conversation;
 mod doors;
-mod drawing;
+mod draw;
+mod gate;
 mod inbound;
-mod joining;
+mod joiner;
 mod lines;
-mod looking;
-mod note_log;
-mod number_log;
+mod look;
 mod peers;
-mod receiving;
+mod receiver;
 mod request;
-mod sending;
-mod ticking;
+mod sender;
+mod ticker;
 mod worker;
 
-pub use calling::{Refusal, enter};
-pub use controlling::control;
+pub use alarm::{Alarm, Alarmed};
+pub use arrival::Arrival;
+pub use caller::{Caller, Observer, Refusal};
+pub use conversation::{ControlEnd, Conversation};
 pub use doors::Doors;
+pub use gate::{Gate, Turn};
 pub use inbound::{Inbound, ReceiveFault};
-pub use joining::{Joiner, Paces};
+pub use joiner::{Joiner, Paces};
 pub use lines::{LINE_MAX, Line};
-pub use note_log::{LOGGED_MAX, NoteLog};
-pub use number_log::NumberLog;
 pub use peers::LIST_MAX;
-pub use receiving::{FAILURES_MAX, receiver};
+pub use receiver::{FAILURES_MAX, Receiver};
 pub use request::Request;
-pub use sending::sender;
-pub use ticking::ticker;
-pub use worker::{ControlEnd, Gate, Turn, WorkerEnd};
+pub use sender::{Outgoing, Sender};
+pub use ticker::Ticker;
+pub use worker::{Worker, WorkerEnd, run};
 
 #[cfg(test)]
 mod tests;

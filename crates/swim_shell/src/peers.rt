@@ -1,7 +1,7 @@
 //! The peers that a member is told to join, and those that its state file kept.
 
 ghost use Rattle.std.specs.Prelude.{◌≡◌, IfSome};
-ghost use Rattle.swim_shell.specs.Joins.{IsPeer};
+ghost use Rattle.swim_shell.specs.Joins.{IsNext, stepped};
 
 use arrayvec::ArrayVec;
 use std::marker::Model;
@@ -10,7 +10,7 @@ use swim_wire::Endpoint;
 /// The most peers of a list: eight of the settings, and eight of the state file.
 pub const LIST_MAX: usize = 16;
 
-/// A list of peers, which are joined in turn. Contracts see it as the list.
+/// A list of peers, which are joined in turn. Contracts see it as `PeersView`.
 #[derive(Drop)]
 pub(crate) struct Peers {
     list: ArrayVec<Endpoint, LIST_MAX>,
@@ -21,17 +21,18 @@ pub(crate) struct Peers {
 }
 
 impl Model for Peers {
-    ghost use Rattle.std.specs.Prelude.{ℕ, List};
+    ghost use Rattle.swim_shell.specs.Joins.{PeersView};
 
-    ghost Value = { List ℕ };
+    ghost Value = { PeersView };
 
-    ghost view = { λ p. p.list.items };
+    ghost view = { λ p. record { list = p.list.items; next = p.next; were_all = p.was_all } };
 }
 
 impl Peers {
     /// Peers of which none was joined.
     pub(crate) fn new(list: ArrayVec<Endpoint, LIST_MAX>) -> Peers
-        ensures { result ≡ list.items }
+        ensures list { result.list ≡ list.items }
+        ensures first { result.next ≡ 0 }
     {
         let was_all = list.is_empty();
         Peers {
@@ -42,20 +43,22 @@ impl Peers {
     }
 
     /// Whether each was joined once.
-    pub(crate) fn were_all(&self) -> bool {
+    pub(crate) fn were_all(&self) -> bool
+        ensures { result ≡ self.now.were_all }
+    {
         self.was_all
     }
 
     /// The peer that comes next; none if the list is empty.
     pub(crate) fn next(&self) -> Option<Endpoint>
-        ensures { IfSome result (IsPeer self.now) }
+        ensures { IfSome result (IsNext self.now) }
     {
         self.list.get(self.next).copied()
     }
 
     /// The peer that came next was joined.
     pub(crate) fn step(&mut self)
-        ensures { self.new ≡ self.old }
+        ensures { self.new ≡ stepped self.old }
     {
         self.next = self.next.saturating_add(1);
         if self.next >= self.list.len() {

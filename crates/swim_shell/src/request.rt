@@ -1,7 +1,8 @@
 //! What control lines ask for.
 
 ghost use Rattle.std.specs.Prelude.{◌≡◌, ◌≢◌, ◌<◌, ◌≤◌, List, ℕ, length, codes};
-ghost use Rattle.swim_shell.specs.Control.{Names, NamesShort, IsLine};
+ghost use Rattle.swim_shell.specs.Lines.{IsLine};
+ghost use Rattle.swim_shell.specs.Requests.{Names, NamesShort};
 
 use crate::lines::Line;
 use swim_wire::{Cursor, Endpoint};

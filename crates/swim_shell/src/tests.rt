@@ -1,9 +1,8 @@
-//! Workers over a member in memory. The words of the generator are those of another ChaCha20; the texts of control lines
-//! are those of docs/CONTROL.md.
+//! Workers over a member that they call directly, and conversations over connections in parts. The texts are those of
+//! docs/CONTROL.md.
 
+mod direct;
 mod fakes;
+mod inbounds;
 mod lines;
-mod notes;
-mod numbers;
-mod scene;
 mod workers;

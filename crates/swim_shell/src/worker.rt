@@ -1,76 +1,70 @@
-//! What all workers have: a gate that is asked before each turn, and an end.
+//! What all workers have: turns, until a gate stops them or a turn ends them.
 
-ghost use Rattle.std.specs.Prelude.{◌≡◌, ◌++◌, ◌∷◌, []};
+ghost use Rattle.std.specs.Prelude.{IfNone, IfSome};
+ghost use Rattle.swim_shell.specs.Work.{Starts, Goes, Runs};
 
+use crate::caller::{Caller, Refusal};
+use crate::gate::{Gate, Turn};
+use std::sync::{Wait, WaitMethods};
 use thiserror::Error;
 
-/// Whether a worker goes on.
-#[derive(Clone, Copy, Debug, PartialEq, Eq)]
-pub enum Turn {
-    /// It has another turn.
-    Go,
-    /// It ends.
-    Stop,
-}
-
-/// What is asked before each turn of a worker. It may wait before it answers.
-pub trait Gate {
-    ghost use Rattle.std.specs.Prelude.{List};
-    ghost use Rattle.swim_shell.specs.declared.worker.Turn.{Turn as Turns};
-
-    /// Whether it tells what it answered.
-    ghost tells: { Type 0 };
-
-    /// What it answered, in order.
-    ghost turns: { Self → List Turns };
-
-    /// Whether the worker has another turn.
-    fn turn(&mut self) -> Turn
-        ensures { tells → turns self.new ≡ turns self.old ++ result ∷ [] };
-}
-
-/// How a worker ended.
+/// How a worker ended itself.
 #[derive(Clone, Copy, Debug, PartialEq, Eq, Error)]
 pub enum WorkerEnd {
-    /// Its gate stopped it.
-    #[error("Stopped")]
-    Stopped,
     /// Too many receives in a row failed.
     #[error("Fault")]
     Fault,
-    /// The era is full.
-    #[error("EraFull")]
-    EraFull,
-    /// A call was refused for want of memory, or no thread could be made for the worker.
-    #[error("Memory")]
-    Memory,
-    /// What a call did could not be read back.
-    #[error("Unread")]
-    Unread,
+    /// Its last call was refused.
+    #[error("{0}")]
+    Refused(Refusal),
 }
 
-/// How a control connection ended, or the worker that serves them.
-#[derive(Clone, Copy, Debug, PartialEq, Eq, Error)]
-pub enum ControlEnd {
-    /// Its input ended.
-    #[error("Closed")]
-    Closed,
-    /// Its gate or the line `stop` ended it.
-    #[error("Stop")]
-    Stop,
-    /// A read failed.
-    #[error("ReadFault")]
-    ReadFault,
-    /// An answer was not written.
-    #[error("WriteFault")]
-    WriteFault,
-    /// The era is full.
-    #[error("EraFull")]
-    EraFull,
-    /// No thread could be made for the worker, or a call of the joiner found no memory.
-    #[error("Memory")]
-    Memory,
-    /// What a call did could not be read back, or the watch gave no status.
-    #[error("Unread")]
-    Unread,
+/// What has turns, with calls of a caller.
+pub trait Worker<C: Caller> {
+    ghost use Rattle.std.specs.Prelude.{ℕ};
+    ghost use Rattle.swim_shell.specs.Calls.{CallerView};
+
+    /// How it ends itself.
+    type End;
+
+    /// What it has done with a caller in so many turns, from what both were to what they are.
+    ghost worked: { Self → CallerView → Self → CallerView → ℕ → Type 0 };
+
+    /// What it has done if the last of these turns ended it so.
+    ghost ended: { Self.End → Self → CallerView → Self → CallerView → ℕ → Type 0 };
+
+    /// Gets ready for its first turn.
+    fn begin(&mut self)
+        ensures { Starts worked self.old self.new };
+
+    /// One turn. Says how it ended the worker, if it did.
+    fn turn(&mut self, caller: &mut C) -> Option<Self::End>
+        ensures on { IfNone result (Goes worked worked self.old (C.known caller.old) self.new
+            (C.known caller.new)) }
+        ensures end { IfSome result (λ end. Goes worked (ended end) self.old (C.known caller.old)
+            self.new (C.known caller.new)) };
+}
+
+/// Gives a worker its turns, until its gate stops it or a turn ends it. Says how it ended itself; none if its gate stopped it.
+#[tactic(auto, using(crate::proofs::Running::runs_start, crate::proofs::Running::runs_on, crate::proofs::Running::runs_stopped, crate::proofs::Running::runs_ended))]
+pub fn run<W: Wait, C: Caller, K: Worker<C>, G: Gate>(
+    rt: &W,
+    worker: &mut K,
+    caller: &mut C,
+    gate: &mut G,
+) -> Option<K::End>
+    ensures { Runs K.worked K.ended worker.old (C.known caller.old) worker.new (C.known caller.new)
+        G.tells (G.turns gate.old) (G.turns gate.new) result }
+{
+    worker.begin();
+    for _ in rt.forever() {
+        match gate.turn() {
+            Turn::Stop => return None,
+            Turn::Go => {}
+        }
+        if let Some(end) = worker.turn(caller) {
+            return Some(end);
+        }
+    }
+    unreachable!()
 }

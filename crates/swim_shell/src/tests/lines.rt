@@ -1,189 +1,106 @@
 //! Control lines by their bytes.
 
-use super::fakes::{Broken, Given, Goes, Listed, MOST, Short, Signalled};
-use super::scene::{Host, Play, numbers, played};
-use crate::{ControlEnd, control, receiver};
-use arrayvec::ArrayVec;
+use super::fakes::{Goes, MOST, Pieces, Said, Scripted, Slow};
+use crate::{ControlEnd, Conversation, Refusal, run};
+use std::io::ErrorKind;
 use std::test::Fail;
-use swim_disk::MemDisk;
-use swim_shared::{Name, Outbox, Pass, Sender, Shared, Watch};
 
-/// A conversation after some receives: its input, what it must answer, and how it must end.
+/// A conversation: its input, what the calls tell, what it must answer, and how it must end.
 #[derive(Clone, Copy)]
 struct Talk {
-    before: &'static [Given],
     input: &'static [u8],
+    script: &'static [Said],
     output: &'static [u8],
     end: ControlEnd,
 }
 
-impl Play for Talk {
-    fn play<N: Name, R: Host>(
-        &mut self,
-        rt: &R,
-        shared: &Shared<N, MemDisk, Outbox, &R>,
-        pass: &mut Pass<N>,
-        watch: &mut Watch<N>,
-        _ring: &mut Sender,
-    ) {
-        let output = self.output;
-        receiver(
-            rt,
-            shared,
-            pass,
-            &mut numbers(rt),
-            &mut Listed::new(self.before),
-            &mut Goes { left: 1 },
-        );
-        let mut writer: ArrayVec<u8, 512> = ArrayVec::new();
-        let mut reader = self.input;
-        let mut gate = Goes { left: 9 };
-        let end = control(rt, shared, pass, watch, &mut reader, &mut writer, &mut gate);
-        assert!(rt; writer.as_slice() == output);
-        assert_eq!(rt; end, self.end);
-    }
-}
-
-/// In an era of three calls, with one place in the outbox.
-const TALKS: [Talk; 7] = [
+/// In an era of three calls.
+const TALKS: [Talk; 9] = [
     Talk {
-        before: &[],
         input: b"status\nsta",
+        script: &[],
         output: b"ok running number 1 alive 0 suspect 0 confirmed 0 length 0\n",
         end: ControlEnd::Closed,
     },
     Talk {
-        before: &[Given::Ping(1)],
-        input: b"status\nmembers\nmembers 10.0.0.3:7000\n",
-        output: b"ok running number 1 alive 1 suspect 0 confirmed 0 length 1\nok 2\nalive 10.0.0.1:7000 1\nalive 10.0.0.3:7000 1\nok 0\n",
+        input: b"members\nstatus\nmembers 10.0.0.3:7000\n",
+        script: &[Said::Member(4)],
+        output: b"ok 1\nalive 10.0.0.3:7000 4\nok running number 1 alive 0 suspect 0 confirmed 0 length 1\nok 0\n",
         end: ControlEnd::Closed,
     },
     Talk {
-        before: &[],
         input: b"frob\nmembers x\njoin 10.0.0.2\njoin 10.0.0.1:7000\njoin 10.0.0.2:7000\njoin 10.0.0.2:7000\n",
+        script: &[Said::ToItself, Said::Done, Said::Lost],
         output: b"error 1 unknown\nerror 2 address\nerror 2 address\nerror 7 self\nok sent\nok lost\n",
         end: ControlEnd::Closed,
     },
     Talk {
-        before: &[],
         input: b"0123456789012345678901234567890123456789012345678901234567890123\n01234567890123456789012345678901234567890123456789012345678901234\n",
+        script: &[],
         output: b"error 1 unknown\nerror 3 too long\n",
         end: ControlEnd::Closed,
     },
     Talk {
-        before: &[],
-        input: b"leave\nstatus\nleave\njoin 10.0.0.2:7000\n",
-        output: b"ok left\nok left number 1 alive 0 suspect 0 confirmed 0 length 1\nok stopped\nok stopped\n",
+        input: b"leave\nleave\njoin 10.0.0.2:7000\n",
+        script: &[Said::Done, Said::Stopped, Said::Stopped],
+        output: b"ok left\nok stopped\nok stopped\n",
         end: ControlEnd::Closed,
     },
     Talk {
-        before: &[],
-        input: b"members 10.0.0.9:7000\nleave\nleave\nleave\nstatus\n",
-        output: b"ok 0\nok left\nok stopped\nerror 5 era full\n",
-        end: ControlEnd::EraFull,
+        input: b"leave\nleave\nleave\nleave\nstatus\n",
+        script: &[],
+        output: b"ok left\nok left\nok left\nerror 5 era full\n",
+        end: ControlEnd::Refused(Refusal::EraFull),
     },
     Talk {
-        before: &[],
+        input: b"leave\nleave\nleave\n",
+        script: &[Said::NoMemory, Said::Unread],
+        output: b"error 4 memory\nerror 6 unread\n",
+        end: ControlEnd::Refused(Refusal::Unread),
+    },
+    Talk {
         input: b"stop\nstatus\n",
+        script: &[],
         output: b"ok stopping\n",
-        end: ControlEnd::Stop,
+        end: ControlEnd::Asked,
+    },
+    Talk {
+        input: b"",
+        script: &[],
+        output: b"",
+        end: ControlEnd::Closed,
     },
 ];
 
-/// Each line is answered by these bytes.
+/// The errors that come before each read and write of a connection that is slow, and of which signals interrupt each.
+const PAUSES: &[ErrorKind] = &[ErrorKind::Interrupted, ErrorKind::WouldBlock];
+
+/// Each line is answered by these bytes, however the connection takes them apart.
 #[test]
 fn control_lines(rt: HostRuntime) -> Result<(), Fail> {
-    for mut talk in TALKS {
-        played(&rt, rt.alloc(), 3, 1, &mut talk)?;
-    }
-    Ok(())
-}
-
-/// Three lines and the begin of a fourth, and what answers them.
-const LINES: &[u8] = b"status\njoin 10.0.0.1:7000\nfrob\n";
-
-/// How many bytes a line and those before it have, and their answers.
-const ANSWERED: [(usize, &[u8]); 4] = [
-    (0, b""),
-    (
-        7,
-        b"ok running number 1 alive 0 suspect 0 confirmed 0 length 0\n",
-    ),
-    (
-        26,
-        b"ok running number 1 alive 0 suspect 0 confirmed 0 length 0\nerror 7 self\n",
-    ),
-    (
-        31,
-        b"ok running number 1 alive 0 suspect 0 confirmed 0 length 0\nerror 7 self\nerror 1 unknown\n",
-    ),
-];
-
-/// Input that ends after any count of bytes gets the answers of its whole lines.
-#[test]
-fn cut_input(rt: HostRuntime) -> Result<(), Fail> {
-    for count in 0..=31 {
-        let mut whole = ANSWERED.iter().filter(|(end, _)| *end <= count);
-        let (_, output) = whole.next_back().ok_or("an answer")?;
-        let mut talk = Talk {
-            before: &[],
-            input: LINES.get(..count).ok_or("a cut")?,
-            output,
-            end: ControlEnd::Closed,
-        };
-        played(&rt, rt.alloc(), 3, 1, &mut talk)?;
-    }
-    Ok(())
-}
-
-/// A connection that fails.
-#[derive(Drop)]
-struct Breaks {
-    reader: Broken,
-    writer: Short,
-    end: Option<ControlEnd>,
-}
-
-impl Breaks {
-    /// One whose reads fail after this input, and whose writes fail after so many bytes.
-    fn new(input: &'static [u8], room: usize) -> Breaks {
-        Breaks {
-            reader: Broken { left: input },
-            writer: Short {
-                room,
-                taken: ArrayVec::new(),
-            },
-            end: None,
+    for (size, kinds) in [
+        (MOST, &[] as &[ErrorKind]),
+        (MOST, PAUSES),
+        (7, PAUSES),
+        (1, PAUSES),
+    ] {
+        for talk in TALKS {
+            let mut reader = Pieces::new(talk.input, size, kinds);
+            let mut writer = Slow::new(MOST, size, kinds);
+            let mut caller = Scripted::<3>::new(talk.script);
+            let mut conversation = Conversation::new(&mut reader, &mut writer);
+            let end = run(&rt, &mut conversation, &mut caller, &mut Goes { left: 999 });
+            assert_eq!(&rt; end, Some(talk.end));
+            assert_eq!(&rt; writer.out(), talk.output);
         }
     }
-}
-
-impl Play for Breaks {
-    fn play<N: Name, R: Host>(
-        &mut self,
-        rt: &R,
-        shared: &Shared<N, MemDisk, Outbox, &R>,
-        pass: &mut Pass<N>,
-        watch: &mut Watch<N>,
-        _ring: &mut Sender,
-    ) {
-        let mut gate = Goes { left: 9 };
-        self.end = Some(control(
-            rt,
-            shared,
-            pass,
-            watch,
-            &mut self.reader,
-            &mut self.writer,
-            &mut gate,
-        ));
-    }
+    Ok(())
 }
 
 /// Four lines, of which three make a call, and their answers.
 const CALLS: &[u8] = b"members 10.0.0.9:7000\nleave\nfrob\nleave\n";
 
-const REPLIES: &[u8] = b"ok 0\nok left\nerror 1 unknown\nok stopped\n";
+const REPLIES: &[u8] = b"ok 0\nok left\nerror 1 unknown\nok left\n";
 
 /// What stands after each line, and before the first: the bytes of the lines, those of the answers, and the calls.
 const STANDING: [(usize, usize, usize); 5] = [
@@ -191,84 +108,104 @@ const STANDING: [(usize, usize, usize); 5] = [
     (22, 5, 1),
     (28, 13, 2),
     (33, 29, 2),
-    (39, 40, 3),
+    (39, 37, 3),
 ];
 
-/// Each read fails in turn. A cut line makes no call, and all before it are answered and stand in the history.
+/// The input ends, or a read fails, after each count of bytes. A cut line makes no call, and all before it are answered.
 #[test]
-fn each_read_fails(rt: HostRuntime) -> Result<(), Fail> {
-    for count in 0..=39 {
-        let mut whole = STANDING.iter().filter(|(read, ..)| *read <= count);
-        let (_, written, calls) = whole.next_back().ok_or("a line")?;
-        let mut breaks = Breaks::new(CALLS.get(..count).ok_or("a cut")?, MOST);
-        let node = played(&rt, rt.alloc(), 8, 1, &mut breaks)?;
-        assert_eq!(&rt; breaks.end, Some(ControlEnd::ReadFault));
-        let replies = REPLIES.get(..*written).ok_or("replies")?;
-        assert_eq!(&rt; breaks.writer.taken.as_slice(), replies);
-        assert_eq!(&rt; node.len(), *calls);
+fn each_cut(rt: HostRuntime) -> Result<(), Fail> {
+    for (fails, end) in [(false, ControlEnd::Closed), (true, ControlEnd::ReadFault)] {
+        for count in 0..=39 {
+            let mut whole = STANDING.iter().filter(|(read, ..)| *read <= count);
+            let (_, written, calls) = whole.next_back().ok_or("a line")?;
+            let mut reader = Pieces::new(CALLS.get(..count).ok_or("a cut")?, MOST, &[]);
+            reader.fail_at_end(fails);
+            let mut writer = Slow::new(MOST, MOST, &[]);
+            let mut caller = Scripted::<8>::new(&[]);
+            let mut conversation = Conversation::new(&mut reader, &mut writer);
+            let ended = run(&rt, &mut conversation, &mut caller, &mut Goes { left: 9 });
+            assert_eq!(&rt; ended, Some(end));
+            assert_eq!(&rt; writer.out(), REPLIES.get(..*written).ok_or("replies")?);
+            assert_eq!(&rt; caller.calls(), *calls);
+        }
     }
     Ok(())
 }
 
-/// The writes fail after each count of bytes. The line whose answer is cut has made its call, and no later one is read.
+/// The writes fail after each count of bytes. The line whose answer is cut has made its call, and no later one is heard.
 #[test]
 fn each_write_fails(rt: HostRuntime) -> Result<(), Fail> {
-    for room in 0..40 {
+    for room in 0..37 {
         let mut cut = STANDING.iter().filter(|(_, written, _)| room < *written);
-        let (read, _, calls) = cut.next().ok_or("a line")?;
-        let mut breaks = Breaks::new(CALLS, room);
-        let node = played(&rt, rt.alloc(), 8, 1, &mut breaks)?;
-        assert_eq!(&rt; breaks.end, Some(ControlEnd::WriteFault));
-        let unread = CALLS.get(*read..).ok_or("lines")?;
-        assert_eq!(&rt; breaks.reader.left, unread);
-        let replies = REPLIES.get(..room).ok_or("replies")?;
-        assert_eq!(&rt; breaks.writer.taken.as_slice(), replies);
-        assert_eq!(&rt; node.len(), *calls);
+        let (_, _, calls) = cut.next().ok_or("a line")?;
+        let mut reader = Pieces::new(CALLS, MOST, &[]);
+        let mut writer = Slow::new(room, MOST, &[]);
+        let mut caller = Scripted::<8>::new(&[]);
+        let mut conversation = Conversation::new(&mut reader, &mut writer);
+        let ended = run(&rt, &mut conversation, &mut caller, &mut Goes { left: 9 });
+        assert_eq!(&rt; ended, Some(ControlEnd::WriteFault));
+        assert_eq!(&rt; writer.taken(), REPLIES.get(..room).ok_or("replies")?);
+        assert_eq!(&rt; caller.calls(), *calls);
     }
     Ok(())
 }
 
-/// A conversation of which a signal interrupts each other read and write.
-#[derive(Drop)]
-struct Signals {
-    reader: Signalled<&'static [u8]>,
-    writer: Signalled<ArrayVec<u8, MOST>>,
-    end: Option<ControlEnd>,
-}
+/// A line of 70 bytes, one that leaves, and one that stops.
+const OVER: &[u8] =
+    b"0123456789012345678901234567890123456789012345678901234567890123456789\nleave\nstop\nleave\n";
 
-impl Play for Signals {
-    fn play<N: Name, R: Host>(
-        &mut self,
-        rt: &R,
-        shared: &Shared<N, MemDisk, Outbox, &R>,
-        pass: &mut Pass<N>,
-        watch: &mut Watch<N>,
-        _ring: &mut Sender,
-    ) {
-        let mut gate = Goes { left: 9 };
-        self.end = Some(control(
-            rt,
-            shared,
-            pass,
-            watch,
-            &mut self.reader,
-            &mut self.writer,
-            &mut gate,
-        ));
-    }
-}
-
-/// A read and a write that a signal interrupts are tried again: the lines are answered as ever.
+/// Each turn is an era of its own, with another caller. No byte of a line or of an answer is lost, and the end comes once
+/// the last answer is written.
 #[test]
-fn interrupted_conversation(rt: HostRuntime) -> Result<(), Fail> {
-    let mut signals = Signals {
-        reader: Signalled::new(CALLS),
-        writer: Signalled::new(ArrayVec::new()),
-        end: None,
-    };
-    let node = played(&rt, rt.alloc(), 8, 1, &mut signals)?;
-    assert_eq!(&rt; signals.end, Some(ControlEnd::Closed));
-    assert_eq!(&rt; signals.writer.inner.as_slice(), REPLIES);
-    assert_eq!(&rt; node.len(), 3);
+fn turns_in_eras(rt: HostRuntime) -> Result<(), Fail> {
+    for size in [1, 5, MOST] {
+        let mut reader = Pieces::new(OVER, size, PAUSES);
+        let mut writer = Slow::new(MOST, size, PAUSES);
+        let mut conversation = Conversation::new(&mut reader, &mut writer);
+        let mut end = None;
+        let mut calls = 0u64;
+        for _ in 0..400 {
+            if end.is_none() {
+                let mut caller = Scripted::<1>::new(&[]);
+                end = run(&rt, &mut conversation, &mut caller, &mut Goes { left: 1 });
+                calls = calls.wrapping_add(caller.calls() as u64);
+            }
+        }
+        assert_eq!(&rt; end, Some(ControlEnd::Asked));
+        assert_eq!(&rt;
+            writer.out(),
+            b"error 3 too long\nok left\nok stopping\n".as_slice()
+        );
+        assert_eq!(&rt; calls, 1);
+    }
+    Ok(())
+}
+
+/// A call that a full era refuses ends the conversation, which goes on with the next line in the next era. Where the answer
+/// is not out at the era's end, the next caller writes the rest of it, and does not end for it.
+#[test]
+fn full_eras(rt: HostRuntime) -> Result<(), Fail> {
+    for (kinds, turns, first) in [
+        (
+            &[] as &[ErrorKind],
+            9,
+            Some(ControlEnd::Refused(Refusal::EraFull)),
+        ),
+        (PAUSES, 3, None),
+    ] {
+        let mut reader = Pieces::new(b"leave\nleave\nstatus\n", MOST, &[]);
+        let mut writer = Slow::new(MOST, 4, kinds);
+        let mut conversation = Conversation::new(&mut reader, &mut writer);
+        let mut full = Scripted::<0>::new(&[]);
+        let end = run(&rt, &mut conversation, &mut full, &mut Goes { left: turns });
+        assert_eq!(&rt; end, first);
+        let mut caller = Scripted::<1>::new(&[]);
+        let end = run(&rt, &mut conversation, &mut caller, &mut Goes { left: 99 });
+        assert_eq!(&rt; end, Some(ControlEnd::Closed));
+        assert_eq!(&rt;
+            writer.out(),
+            b"error 5 era full\nok left\nok running number 1 alive 0 suspect 0 confirmed 0 length 1\n".as_slice()
+        );
+    }
     Ok(())
 }

@@ -1,0 +1,103 @@
+//! `swim ctl`.
+
+use crate::ending::Ending;
+use std::io::{self, ErrorKind, Read, Write};
+use std::net::{Net, TcpStream};
+use std::rt::Clock;
+use std::time::{Duration, Instant};
+use swim_net::address_of;
+use swim_wire::Endpoint;
+use swim_words::{read_endpoint, read_number, split_at_byte};
+
+/// How many milliseconds the whole exchange may take.
+const LIMIT_MILLIS: u64 = 5000;
+
+/// The most bytes of an answer, and so the most reads: 31 lines of at most 43 bytes are less.
+const ANSWER_MAX: usize = 4096;
+
+/// What is left of the time limit; an error where nothing is.
+fn left<R: Clock>(rt: &R, start: &Instant) -> io::Result<Duration> {
+    let left = Duration::from_millis(LIMIT_MILLIS).saturating_sub(start.elapsed(rt)?);
+    if left.is_zero() {
+        return Err(io::Error::from(ErrorKind::TimedOut));
+    }
+    Ok(left)
+}
+
+/// Whether the line asks for members, whose answer has more lines than one.
+fn asks_members(line: &str) -> bool {
+    line == "members" || line.starts_with("members ")
+}
+
+/// How many lines the answer has that begins so: with `ok N`, where members were asked for, N more than one.
+fn lines_wanted(line: &str, answer: &[u8]) -> Option<u64> {
+    let (first, _) = split_at_byte(answer, b'\n')?;
+    if !asks_members(line) {
+        return Some(1);
+    }
+    let more = match first.strip_prefix(b"ok ") {
+        Some(count) => read_number(count).unwrap_or(0),
+        None => 0,
+    };
+    Some(more.saturating_add(1))
+}
+
+/// Whether this is the whole answer to the line.
+fn is_whole(line: &str, answer: &[u8]) -> bool {
+    let ends = answer.iter().filter(|byte| **byte == b'\n').count();
+    match lines_wanted(line, answer) {
+        Some(wanted) => wanted <= ends as u64,
+        None => false,
+    }
+}
+
+/// The whole answer to a line. A read that a signal interrupts is tried again.
+fn read_answer<R: Clock>(
+    rt: &R,
+    start: &Instant,
+    stream: &mut TcpStream,
+    line: &str,
+    answer: &mut Vec<u8>,
+) -> io::Result<()> {
+    for _ in 0..ANSWER_MAX {
+        if is_whole(line, answer.as_slice()) {
+            return Ok(());
+        }
+        stream.set_read_timeout(Some(left(rt, start)?))?;
+        let mut bytes = [0u8; 512];
+        match stream.read(&mut bytes) {
+            Ok(0) => return Err(io::Error::from(ErrorKind::UnexpectedEof)),
+            Ok(count) => answer.extend_from_slice(&bytes[..count])?,
+            Err(error) if error.kind() == ErrorKind::Interrupted => {}
+            Err(error) => return Err(error),
+        }
+    }
+    Err(io::Error::from(ErrorKind::InvalidData))
+}
+
+/// Connects, sends the line and reads its answer, within the time limit.
+pub(crate) fn exchange<R: Net<Stream = TcpStream> + Clock + AllocGlobal>(
+    rt: &R,
+    to: Endpoint,
+    line: &str,
+) -> io::Result<Vec<u8>> {
+    let start = Instant::now(rt)?;
+    let mut stream = TcpStream::connect_timeout(rt, &address_of(to), left(rt, &start)?)?;
+    stream.set_write_timeout(Some(left(rt, &start)?))?;
+    stream.write_all(line.as_bytes())?;
+    stream.write_all(b"\n")?;
+    let mut answer = Vec::new(rt.alloc());
+    read_answer(rt, &start, &mut stream, line, &mut answer)?;
+    Ok(answer)
+}
+
+/// Sends one control line as it is, with its end, and gives the whole answer. The address is a word not yet judged. It
+/// takes at most 5 seconds.
+pub fn ask<R: Net<Stream = TcpStream> + Clock + AllocGlobal>(
+    rt: &R,
+    to: &str,
+    line: &str,
+) -> Result<Vec<u8>, Ending> {
+    let to = read_endpoint(to.as_bytes()).ok_or(Ending::Address)?;
+    exchange(rt, to, line).map_err(|error| Ending::of(&error, Ending::Socket))
+}

@@ -1,0 +1,108 @@
+//! All rows of a running member, asked for page by page by control lines.
+
+use crate::asking::exchange;
+use crate::ending::Ending;
+use arrayvec::ArrayString;
+use std::fmt::Write as _;
+use std::net::{Net, TcpStream};
+use std::rt::Clock;
+use swim_news::{PAGES_MAX, Rows};
+use swim_wire::{Endpoint, MEMBERS_MAX, UPDATES_MAX, Update, UpdateKind};
+use swim_words::{read_endpoint, read_number, split_at_byte};
+
+/// Room for the line `members A`.
+const LINE_MAX: usize = 40;
+
+/// The begin of the answer where the call did not fit into the era.
+const ERA_FULL: &[u8] = b"error 5";
+
+/// What became of a page that was asked for.
+enum Page {
+    /// It was read, and more rows may follow.
+    Full,
+    /// It was read, and none follow.
+    Last,
+    /// The call for it did not fit into the era.
+    EraFull,
+}
+
+/// The kind of a row with this name.
+fn read_kind(word: &[u8]) -> Option<UpdateKind> {
+    let kinds = [UpdateKind::Alive, UpdateKind::Suspect, UpdateKind::Confirm];
+    kinds
+        .into_iter()
+        .find(|kind| kind.name().as_bytes() == word)
+}
+
+/// The row of a line `KIND A N`.
+fn read_row(line: &[u8]) -> Option<Update> {
+    let (kind, rest) = split_at_byte(line, b' ')?;
+    let (who, number) = split_at_byte(rest, b' ')?;
+    Some(Update {
+        kind: read_kind(kind)?,
+        who: read_endpoint(who)?,
+        number: read_number(number)?,
+    })
+}
+
+/// Adds the rows of an answer, and says how many lines it has; none if a line is no row, or one that is not after the
+/// others.
+fn add_rows(rows: &mut Rows, lines: &[u8]) -> Option<usize> {
+    let mut left = lines;
+    for count in 0..MEMBERS_MAX {
+        let Some((line, rest)) = split_at_byte(left, b'\n') else {
+            return Some(count);
+        };
+        if !rows.add(read_row(line)?) {
+            return None;
+        }
+        left = rest;
+    }
+    None
+}
+
+/// Adds the rows of the whole answer to a line `members`.
+fn take_answer(rows: &mut Rows, answer: &[u8]) -> Result<Page, Ending> {
+    if answer.starts_with(ERA_FULL) {
+        return Ok(Page::EraFull);
+    }
+    let (first, lines) = split_at_byte(answer, b'\n').ok_or(Ending::Answer)?;
+    if !first.starts_with(b"ok ") {
+        return Err(Ending::Answer);
+    }
+    match add_rows(rows, lines) {
+        Some(UPDATES_MAX) => Ok(Page::Full),
+        Some(_) => Ok(Page::Last),
+        None => Err(Ending::Answer),
+    }
+}
+
+/// The line that asks for the rows after these.
+fn next_line(rows: &Rows) -> ArrayString<LINE_MAX> {
+    let mut line = ArrayString::new();
+    let _ = match rows.last() {
+        Some(last) => write!(line, "members {last}"),
+        None => write!(line, "members"),
+    };
+    line
+}
+
+/// All rows of a member, by as many control lines as there are pages. None if its era is full, so that it has to be asked
+/// again. What changes meanwhile may be in the rows or not.
+pub(crate) fn read_rows<R: Net<Stream = TcpStream> + Clock + AllocGlobal>(
+    rt: &R,
+    to: Endpoint,
+) -> Result<Option<Rows>, Ending> {
+    let mut rows = Rows::new();
+    for _ in 0..PAGES_MAX {
+        let line = next_line(&rows);
+        let answer = exchange(rt, to, line.as_str());
+        let answer = answer.map_err(|error| Ending::of(&error, Ending::Socket))?;
+        match take_answer(&mut rows, answer.as_slice())? {
+            Page::Full => {}
+            Page::Last => break,
+            Page::EraFull => return Ok(None),
+        }
+    }
+    Ok(Some(rows))
+}

@@ -1,0 +1,40 @@
+//! What a running member holds of the network.
+
+use crate::ending::Ending;
+use std::net::{Net, SocketAddr, TcpListener, TcpStream};
+use std::rt::Clock;
+use std::time::Duration;
+use swim_net::{TcpDoors, Waits, address_of};
+use swim_wire::Endpoint;
+
+/// No socket waits longer, in milliseconds.
+const WAIT_MAX_MILLIS: u64 = 1000;
+
+/// How long a socket waits at most: one tick, or a second if that is less.
+pub(crate) fn wait_of(tick_millis: u64) -> Duration {
+    Duration::from_millis(tick_millis.min(WAIT_MAX_MILLIS))
+}
+
+/// The address that the others reach this member by. A machine binds the unspecified one and those of multicast too, but a
+/// datagram that is sent there does not come back to this member alone.
+pub(crate) fn own_address(me: Endpoint) -> Result<SocketAddr, Ending> {
+    let at = address_of(me);
+    if at.ip().is_unspecified() || at.ip().is_multicast() {
+        return Err(Ending::Socket);
+    }
+    Ok(at)
+}
+
+/// Binds the control socket, whose thread has these waits.
+pub(crate) fn bind_doors<'a, R: Net<Listener = TcpListener, Stream = TcpStream>, C: Clock>(
+    rt: &R,
+    clock: &'a C,
+    waits: &'a Waits,
+    control: Endpoint,
+    wait: Duration,
+) -> Result<TcpDoors<'a, C>, Ending> {
+    let bound = TcpListener::bind(rt, address_of(control));
+    let listener = bound.map_err(|error| Ending::of(&error, Ending::Socket))?;
+    let doors = TcpDoors::new(listener, waits, clock, wait);
+    doors.map_err(|error| Ending::of(&error, Ending::Socket))
+}

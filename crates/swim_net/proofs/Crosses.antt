@@ -1,0 +1,26 @@
+-- What may go to another thread.
+use denote.RattleType.{RattleType}
+use denote.Ref.{NamedLft}
+use denote.Param.Send.{IsSend, IsSync, sendable}
+use Rattle.std.proofs.Crossing.{crosses}
+use Rattle.swim_trace.specs.contracts.Trace as Trace
+use Rattle.swim_trace.proofs.Crosses.{Trace-send}
+use Rattle.swim_net.specs.contracts.udp.Answer as Answer
+use Rattle.swim_net.specs.contracts.udp.UdpInbound as UdpInbound
+use Rattle.swim_net.specs.contracts.udp.UdpLink as UdpLink
+
+-- what a socket has answered
+pub Answer-send : IsSend Answer.the_row
+Answer-send = search (sendable, crosses, Trace-send) depth 60 fits 20000
+
+pub answers-send : IsSend (Trace.the_row Answer.the_row)
+answers-send = Trace-send Answer.the_row Answer-send
+
+module _ (x : NamedLft) (C : RattleType) (cs : IsSync C) where
+  -- what receives datagrams
+  pub UdpInbound-send : IsSend (UdpInbound.the_row x C)
+  UdpInbound-send = search (sendable, crosses, answers-send) depth 60 fits 20000
+
+  -- what sends datagrams
+  pub UdpLink-send : IsSend (UdpLink.the_row x C)
+  UdpLink-send = search (sendable, crosses, Trace-send) depth 60 fits 20000

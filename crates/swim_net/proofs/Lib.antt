@@ -1,0 +1,4 @@
+pub mod Answering
+pub mod Naming
+pub mod Passing
+pub mod Crosses

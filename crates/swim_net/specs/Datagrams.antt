@@ -1,0 +1,25 @@
+-- Where datagrams come from and go to, and what a socket for them has answered.
+use Rattle.std.specs.Prelude.{◌≢◌, ℕ, ◌+◌, ◌*◌, List, [], ◌∷◌, Option, Result, IsNone, SomeIff}
+use Rattle.std.specs.Net.Addr.{ipv4_bits}
+use Rattle.std.specs.Net.Socket.{v4_ip, v4_port}
+use Rattle.std.specs.declared.net.socket_addr.SocketAddr.{SocketAddr}
+use Rattle.std.specs.declared.net.socket_addr.SocketAddr.TheVariants.{V4, V6}
+use Rattle.arrayvec.specs.ArrayVec.{ArrayVec}
+use Rattle.swim_shell.specs.Inbounds.{Came, Nothing, came_of}
+use Rattle.swim_net.specs.declared.udp.Answer.{Answer}
+
+-- the endpoint at an address: none where that is of IPv6, or its port is 0
+abbrev pub IsEndpointAt : SocketAddr → Option ℕ → Type 0
+IsEndpointAt (V4 a) endpoint =
+    SomeIff endpoint (v4_port a ≢ 0) (ipv4_bits (v4_ip a) * (256 * 256) + v4_port a)
+IsEndpointAt (V6 a) endpoint = IsNone endpoint
+
+-- what an answer says, of which each trace has one entry
+abbrev pub came_by : {E : Type 0} → List (Result (Option ℕ) E) → List (ArrayVec ℕ) → Came
+came_by (from ∷ _) (bytes ∷ _) = came_of from bytes.items
+came_by _ _ = Nothing
+
+-- what these answers say, in order
+abbrev pub came_in : List Answer → List Came
+came_in [] = []
+came_in (a ∷ answers) = came_by a.from a.bytes ∷ came_in answers

@@ -1,0 +1,87 @@
+//! Control connections over TCP.
+
+use crate::connection::{ConnectionReader, ConnectionWriter, Patience};
+use crate::waits::Waits;
+use mio::Interest;
+use mio::net::{TcpListener as Listener, TcpStream as Stream};
+use std::io;
+use std::net::{TcpListener, TcpStream};
+use std::time::{Clock, Duration, Instant};
+use swim_shell::Doors;
+
+/// Control connections over TCP.
+#[derive(Drop)]
+pub struct TcpDoors<'a, C: Clock> {
+    listener: Listener,
+    waits: &'a Waits,
+    clock: &'a C,
+    wait: Duration,
+}
+
+/// Both ends of a connection.
+type Ends<'a, C> = (
+    ConnectionReader<'a, Stream, C>,
+    ConnectionWriter<'a, Stream, C>,
+);
+
+impl<'a, C: Clock> TcpDoors<'a, C> {
+    /// Doors over a bound listener, which wait as long as `wait` at most for a connection, and a second at most for one that
+    /// came. The waits are those of the thread that calls them, and it waits in none beside them. An error is the system's:
+    /// it watches too many sockets.
+    pub fn new(
+        listener: TcpListener,
+        waits: &'a Waits,
+        clock: &'a C,
+        wait: Duration,
+    ) -> io::Result<TcpDoors<'a, C>> {
+        listener.set_nonblocking(true)?;
+        let mut listener = Listener::from_std(listener);
+        waits.watch(&mut listener, Interest::READABLE)?;
+        Ok(TcpDoors {
+            listener,
+            waits,
+            clock,
+            wait,
+        })
+    }
+
+    /// What a connection waits by that began then.
+    fn patience(&self, began: Instant) -> Patience<'a, C> {
+        Patience {
+            waits: self.waits,
+            clock: self.clock,
+            began,
+        }
+    }
+
+    /// Both ends of a connection that begins now.
+    fn ends_of(&self, stream: Stream) -> io::Result<Ends<'a, C>> {
+        let began = Instant::now(self.clock)?;
+        let stream = TcpStream::from(stream);
+        let other = Stream::from_std(stream.try_clone()?);
+        let mut stream = Stream::from_std(stream);
+        self.waits.watch(&mut stream, Interest::READABLE)?;
+        Ok((
+            ConnectionReader::new(stream, self.patience(began)),
+            ConnectionWriter::new(other, self.patience(began)),
+        ))
+    }
+}
+
+impl<'a, C: Clock> Doors for TcpDoors<'a, C> {
+    type Reader = ConnectionReader<'a, Stream, C>;
+
+    type Writer = ConnectionWriter<'a, Stream, C>;
+
+    /// Waits where none has come, and where the system refuses one that has.
+    fn next(&mut self) -> Option<Ends<'a, C>> {
+        let (stream, _) = match self.listener.accept() {
+            Ok(accepted) => accepted,
+            Err(_) => {
+                self.waits.wait(self.clock, self.wait);
+                self.listener.accept().ok()?
+            }
+        };
+        self.ends_of(stream).ok()
+    }
+}

@@ -1,0 +1,17 @@
+//! Sockets whose waits another thread can end: UDP for datagrams, TCP for control connections. Each call is tried first, and
+//! waits only where it finds nothing, so that under load nothing waits.
+//! Nothing is claimed of what the system does; what a socket answered is what its worker is given.
+#![tactic(auto)]
+
+mod connection;
+mod doors;
+mod udp;
+mod waits;
+
+pub use connection::{ConnectionReader, ConnectionWriter};
+pub use doors::TcpDoors;
+pub use udp::{UdpInbound, UdpLink, address_of, bind_datagrams};
+pub use waits::{SocketAlarm, Waits};
+
+#[cfg(test)]
+mod tests;

@@ -1,0 +1,320 @@
+//! Control connections.
+
+use super::scene::{ENDED_MILLIS, Host, address, long, ring_later, sleep};
+use crate::{SocketAlarm, TcpDoors, Waits};
+use std::io::{ErrorKind, Read, Write};
+use std::net::{TcpListener, TcpStream, UdpSocket};
+use std::os::fd::{AsRawFd, RawFd};
+use std::test::Fail;
+use std::thread::join;
+use std::time::Instant;
+use swim_shell::{Alarm, Doors};
+
+/// How many connections come one after the other.
+const CONNECTIONS: u32 = 200;
+
+/// How many turns a reader has at most that reads until its connection is over.
+const TURNS: u32 = 100_000;
+
+/// An alarm from another thread ends the wait for a connection.
+#[test]
+fn alarm_ends_next(rt: HostRuntime) -> Result<(), Fail> {
+    let listener = TcpListener::bind(&rt, address(0))?;
+    let (waits, alarm) = Waits::new(&rt, rt.alloc())?;
+    let mut doors = TcpDoors::new(listener, &waits, &rt, long())?;
+    let start = Instant::now(&rt)?;
+    let (none, _) = join(&rt, || doors.next().is_none(), || ring_later(&rt, &alarm));
+    assert!(&rt; none);
+    let took = start.elapsed(&rt)?.as_millis();
+    assert!(&rt; 15 < took && took < ENDED_MILLIS);
+    Ok(())
+}
+
+/// A connection that comes in the wait ends it.
+#[test]
+fn connection_ends_next(rt: HostRuntime) -> Result<(), Fail> {
+    let listener = TcpListener::bind(&rt, address(0))?;
+    let port = listener.local_addr()?.port();
+    let (waits, _) = Waits::new(&rt, rt.alloc())?;
+    let mut doors = TcpDoors::new(listener, &waits, &rt, long())?;
+    let start = Instant::now(&rt)?;
+    let (made, came) = join(
+        &rt,
+        || {
+            sleep(&rt, 30);
+            TcpStream::connect(&rt, address(port)).is_ok()
+        },
+        || doors.next().is_some(),
+    );
+    assert!(&rt; made && came);
+    assert!(&rt; start.elapsed(&rt)?.as_millis() < ENDED_MILLIS);
+    Ok(())
+}
+
+/// How a read for one byte fails.
+fn failed<R: Read>(reader: &mut R) -> Option<ErrorKind> {
+    let mut one = [0u8; 1];
+    reader.read(&mut one).err().map(|error| error.kind())
+}
+
+/// An alarm from another thread ends a read of a connection that says nothing.
+#[test]
+fn alarm_ends_read(rt: HostRuntime) -> Result<(), Fail> {
+    let listener = TcpListener::bind(&rt, address(0))?;
+    let silent = TcpStream::connect(&rt, listener.local_addr()?)?;
+    let (waits, alarm) = Waits::new(&rt, rt.alloc())?;
+    let mut doors = TcpDoors::new(listener, &waits, &rt, long())?;
+    let (mut reader, _) = doors.next().ok_or("a connection")?;
+    let start = Instant::now(&rt)?;
+    let (kind, _) = join(&rt, || failed(&mut reader), || ring_later(&rt, &alarm));
+    assert_eq!(&rt; kind, Some(ErrorKind::WouldBlock));
+    let took = start.elapsed(&rt)?.as_millis();
+    assert!(&rt; 15 < took && took < ENDED_MILLIS);
+    let _ = silent;
+    Ok(())
+}
+
+/// Reads byte after byte until a read fails otherwise than by `WouldBlock`.
+fn last_failure<R: Read>(reader: &mut R) -> Option<ErrorKind> {
+    for _ in 0..TURNS {
+        match failed(reader) {
+            None | Some(ErrorKind::WouldBlock) => {}
+            other => return other,
+        }
+    }
+    None
+}
+
+/// Says one byte after the other of a line that does not end, until the connection is ended.
+fn drip<R: Host>(rt: &R, mut stream: TcpStream) {
+    for _ in 0..80 {
+        if stream.write_all(b"x").is_err() {
+            return;
+        }
+        sleep(rt, 50);
+    }
+}
+
+/// A connection whose line does not end holds the next one for a second, and no longer.
+#[test]
+fn endless_line(rt: HostRuntime) -> Result<(), Fail> {
+    let listener = TcpListener::bind(&rt, address(0))?;
+    let dripping = TcpStream::connect(&rt, listener.local_addr()?)?;
+    let (waits, _) = Waits::new(&rt, rt.alloc())?;
+    let mut doors = TcpDoors::new(listener, &waits, &rt, long())?;
+    let (mut reader, writer) = doors.next().ok_or("a connection")?;
+    let start = Instant::now(&rt)?;
+    let (_, took) = join(
+        &rt,
+        || drip(&rt, dripping),
+        || {
+            let kind = last_failure(&mut reader);
+            drop(reader);
+            drop(writer);
+            (kind, start.elapsed(&rt).map_or(0, |took| took.as_millis()))
+        },
+    );
+    assert_eq!(&rt; took.0, Some(ErrorKind::TimedOut));
+    assert!(&rt; 900 < took.1 && took.1 < 5000);
+    Ok(())
+}
+
+/// A connection that says nothing holds the next one for a second, and no longer; what came beside it is served next.
+#[test]
+fn stalled_connection(rt: HostRuntime) -> Result<(), Fail> {
+    let listener = TcpListener::bind(&rt, address(0))?;
+    let at = listener.local_addr()?;
+    let silent = TcpStream::connect(&rt, at)?;
+    let (waits, _) = Waits::new(&rt, rt.alloc())?;
+    let mut doors = TcpDoors::new(listener, &waits, &rt, long())?;
+    let (mut reader, _) = doors.next().ok_or("a connection")?;
+    let start = Instant::now(&rt)?;
+    let (second, kind) = join(
+        &rt,
+        || {
+            sleep(&rt, 30);
+            TcpStream::connect(&rt, at).is_ok_and(|mut next| next.write_all(b"2").is_ok())
+        },
+        || last_failure(&mut reader),
+    );
+    assert!(&rt; second);
+    assert_eq!(&rt; kind, Some(ErrorKind::TimedOut));
+    let took = start.elapsed(&rt)?.as_millis();
+    assert!(&rt; 900 < took && took < 5000);
+    let (mut reader, _) = doors.next().ok_or("the second connection")?;
+    let mut said = [0u8; 1];
+    reader.read_exact(&mut said)?;
+    assert!(&rt; said == *b"2");
+    assert!(&rt; start.elapsed(&rt)?.as_millis() < 5000);
+    let _ = silent;
+    Ok(())
+}
+
+/// Reads so many bytes, turn after turn, and says in how many turns; none if they do not come.
+fn read_whole<R: Read>(reader: &mut R, bytes: &mut [u8]) -> Option<u32> {
+    let mut kept = 0;
+    for turns in 0..TURNS {
+        if kept >= bytes.len() {
+            return Some(turns);
+        }
+        match reader.read(&mut bytes[kept..kept + 1]) {
+            Ok(1) => kept += 1,
+            Err(error) if error.kind() == ErrorKind::WouldBlock => {}
+            _ => return None,
+        }
+    }
+    None
+}
+
+/// Says a line in two parts, and rings between them.
+fn say_slowly<R: Host>(rt: &R, stream: &mut TcpStream, alarm: &SocketAlarm) -> bool {
+    let first = stream.write_all(b"sta").is_ok();
+    sleep(rt, 30);
+    alarm.ring();
+    sleep(rt, 30);
+    first && stream.write_all(b"tus\n").is_ok()
+}
+
+/// A line that comes in two parts comes whole, also when an alarm is rung between them; and its answer goes out.
+#[test]
+fn slow_line(rt: HostRuntime) -> Result<(), Fail> {
+    let listener = TcpListener::bind(&rt, address(0))?;
+    let mut stream = TcpStream::connect(&rt, listener.local_addr()?)?;
+    let (waits, alarm) = Waits::new(&rt, rt.alloc())?;
+    let mut doors = TcpDoors::new(listener, &waits, &rt, long())?;
+    let (mut reader, mut writer) = doors.next().ok_or("a connection")?;
+    let mut line = [0u8; 7];
+    let (said, turns) = join(
+        &rt,
+        || say_slowly(&rt, &mut stream, &alarm),
+        || read_whole(&mut reader, &mut line),
+    );
+    assert!(&rt; said && turns.is_some_and(|turns| turns > 7));
+    assert!(&rt; line == *b"status\n");
+    writer.write_all(b"ok\n")?;
+    let mut answer = [0u8; 3];
+    stream.read_exact(&mut answer)?;
+    assert!(&rt; answer == *b"ok\n");
+    Ok(())
+}
+
+/// Bytes without end do not hold up the thread: of 1000 some reads give way, and no byte is lost.
+#[test]
+fn gives_way(rt: HostRuntime) -> Result<(), Fail> {
+    let listener = TcpListener::bind(&rt, address(0))?;
+    let mut stream = TcpStream::connect(&rt, listener.local_addr()?)?;
+    let (waits, _) = Waits::new(&rt, rt.alloc())?;
+    let mut doors = TcpDoors::new(listener, &waits, &rt, long())?;
+    let (mut reader, _) = doors.next().ok_or("a connection")?;
+    stream.write_all(&[7u8; 1000])?;
+    let mut bytes = [0u8; 1000];
+    let turns = read_whole(&mut reader, &mut bytes);
+    assert!(&rt; turns.is_some_and(|turns| turns > 1003));
+    assert!(&rt; bytes == [7u8; 1000]);
+    Ok(())
+}
+
+/// Writes until a write fails, and says how.
+fn fill<W: Write>(writer: &mut W) -> Option<ErrorKind> {
+    for _ in 0..TURNS {
+        if let Err(error) = writer.write(&[0u8; 10_000]) {
+            return Some(error.kind());
+        }
+    }
+    None
+}
+
+/// A write to a peer that reads nothing ends by an alarm, and after it with the second.
+#[test]
+fn full_writer(rt: HostRuntime) -> Result<(), Fail> {
+    let listener = TcpListener::bind(&rt, address(0))?;
+    let stream = TcpStream::connect(&rt, listener.local_addr()?)?;
+    let (waits, alarm) = Waits::new(&rt, rt.alloc())?;
+    let mut doors = TcpDoors::new(listener, &waits, &rt, long())?;
+    let (_, mut writer) = doors.next().ok_or("a connection")?;
+    let start = Instant::now(&rt)?;
+    let (kind, _) = join(&rt, || fill(&mut writer), || ring_later(&rt, &alarm));
+    assert_eq!(&rt; kind, Some(ErrorKind::WouldBlock));
+    assert!(&rt; start.elapsed(&rt)?.as_millis() < ENDED_MILLIS);
+    assert_eq!(&rt; fill(&mut writer), Some(ErrorKind::TimedOut));
+    let took = start.elapsed(&rt)?.as_millis();
+    assert!(&rt; 900 < took && took < 5000);
+    let _ = stream;
+    Ok(())
+}
+
+/// Writes a million bytes, and says whether all went out.
+fn write_much<W: Write>(writer: &mut W) -> bool {
+    for _ in 0..1000 {
+        if writer.write_all(&[5u8; 1000]).is_err() {
+            return false;
+        }
+    }
+    true
+}
+
+/// How many bytes come until the end.
+fn count_bytes<R: Host>(rt: &R, stream: &mut TcpStream) -> usize {
+    let mut count = 0usize;
+    let mut bytes = [0u8; 5000];
+    sleep(rt, 30);
+    for _ in 0..TURNS {
+        match stream.read(&mut bytes) {
+            Ok(0) => return count,
+            Ok(read) if count < 1_000_000 => count += read,
+            _ => return 0,
+        }
+    }
+    0
+}
+
+/// A write waits for a peer that reads late.
+#[test]
+fn late_peer(rt: HostRuntime) -> Result<(), Fail> {
+    let listener = TcpListener::bind(&rt, address(0))?;
+    let mut stream = TcpStream::connect(&rt, listener.local_addr()?)?;
+    let (waits, _) = Waits::new(&rt, rt.alloc())?;
+    let mut doors = TcpDoors::new(listener, &waits, &rt, long())?;
+    let (reader, mut writer) = doors.next().ok_or("a connection")?;
+    let (count, whole) = join(
+        &rt,
+        || count_bytes(&rt, &mut stream),
+        || {
+            let whole = write_much(&mut writer);
+            drop(reader);
+            drop(writer);
+            whole
+        },
+    );
+    assert!(&rt; whole);
+    assert_eq!(&rt; count, 1_000_000);
+    Ok(())
+}
+
+/// The number that the system gives the next descriptor.
+fn next_descriptor<R: Host>(rt: &R) -> RawFd {
+    let socket = UdpSocket::bind(rt, address(0)).ok().expect(rt, "a socket");
+    socket.as_raw_fd()
+}
+
+/// Connections that come one after the other leave no descriptor behind.
+#[test]
+fn descriptors(rt: HostRuntime) -> Result<(), Fail> {
+    let listener = TcpListener::bind(&rt, address(0))?;
+    let at = listener.local_addr()?;
+    let (waits, _) = Waits::new(&rt, rt.alloc())?;
+    let mut doors = TcpDoors::new(listener, &waits, &rt, long())?;
+    let before = next_descriptor(&rt);
+    for number in 0..CONNECTIONS {
+        let mut stream = TcpStream::connect(&rt, at)?;
+        stream.write_all(&number.to_be_bytes())?;
+        let (mut reader, mut writer) = doors.next().ok_or("a connection")?;
+        let mut said = [0u8; 4];
+        assert!(&rt; read_whole(&mut reader, &mut said).is_some());
+        assert!(&rt; said == number.to_be_bytes());
+        writer.write_all(&said)?;
+        stream.read_exact(&mut said)?;
+    }
+    assert_eq!(&rt; next_descriptor(&rt), before);
+    Ok(())
+}

@@ -1,0 +1,191 @@
+//! Datagrams between two sockets.
+
+use super::scene::{ENDED_MILLIS, Host, address, long, ring_later, sleep};
+use crate::{SocketAlarm, UdpInbound, UdpLink, bind_datagrams};
+use arrayvec::ArrayVec;
+use std::alloc::Global;
+use std::io;
+use std::net::{Net, UdpSocket};
+use std::sync::atomic::{AtomicU32, Ordering};
+use std::test::Fail;
+use std::thread::join;
+use std::time::{Clock, Duration, Instant};
+use swim_node::Link;
+use swim_shell::{Alarm, Inbound};
+use swim_wire::Endpoint;
+
+/// How many datagrams are sent one after the other.
+const SENT: u32 = 3000;
+
+/// What receives and what sends at a port, and what ends its waits.
+fn bound<'a, R: Net + Clock>(
+    rt: &'a R,
+    alloc: Global,
+    port: u16,
+    wait: Duration,
+) -> io::Result<(UdpInbound<'a, R>, UdpLink<'a, R>, SocketAlarm)> {
+    bind_datagrams(rt, rt, alloc, address(port), wait)
+}
+
+/// The endpoint of this machine with this port.
+fn endpoint<R: Host>(rt: &R, port: u16) -> Endpoint {
+    Endpoint::new(0x7f00_0001, port).expect(rt, "a port")
+}
+
+/// A receive that nothing comes for ends by its waiting time.
+#[test]
+fn waiting_time(rt: HostRuntime) -> Result<(), Fail> {
+    let (mut inbound, _, _) = bound(&rt, rt.alloc(), 0, Duration::from_millis(20))?;
+    let mut into = ArrayVec::new();
+    let start = Instant::now(&rt)?;
+    assert_eq!(&rt; inbound.receive(&mut into), Ok(None));
+    let took = start.elapsed(&rt)?.as_millis();
+    assert!(&rt; 15 < took && took < ENDED_MILLIS);
+    Ok(())
+}
+
+/// An alarm from another thread ends a receive.
+#[test]
+fn alarm_ends_receive(rt: HostRuntime) -> Result<(), Fail> {
+    let (mut inbound, _, alarm) = bound(&rt, rt.alloc(), 0, long())?;
+    let mut into = ArrayVec::new();
+    let start = Instant::now(&rt)?;
+    let (_, received) = join(
+        &rt,
+        || ring_later(&rt, &alarm),
+        || inbound.receive(&mut into),
+    );
+    assert_eq!(&rt; received, Ok(None));
+    let took = start.elapsed(&rt)?.as_millis();
+    assert!(&rt; 15 < took && took < ENDED_MILLIS);
+    Ok(())
+}
+
+/// Rings before a receive end it at once, and the one after it waits.
+#[test]
+fn ring_before_wait(rt: HostRuntime) -> Result<(), Fail> {
+    let (mut inbound, _, alarm) = bound(&rt, rt.alloc(), 0, Duration::from_millis(950))?;
+    let mut into = ArrayVec::new();
+    alarm.ring();
+    alarm.ring();
+    let start = Instant::now(&rt)?;
+    assert_eq!(&rt; inbound.receive(&mut into), Ok(None));
+    assert!(&rt; start.elapsed(&rt)?.as_millis() < ENDED_MILLIS);
+    assert_eq!(&rt; inbound.receive(&mut into), Ok(None));
+    assert!(&rt; start.elapsed(&rt)?.as_millis() >= ENDED_MILLIS);
+    Ok(())
+}
+
+/// A datagram that comes in the wait ends it, and is what the receive gives.
+#[test]
+fn datagram_ends_receive(rt: HostRuntime) -> Result<(), Fail> {
+    let (mut inbound, _, _) = bound(&rt, rt.alloc(), 7111, long())?;
+    let (_, mut link, _) = bound(&rt, rt.alloc(), 7112, long())?;
+    let to = endpoint(&rt, 7111);
+    let mut into = ArrayVec::new();
+    let start = Instant::now(&rt)?;
+    let (sent, received) = join(
+        &rt,
+        || {
+            sleep(&rt, 30);
+            link.send(to, b"late")
+        },
+        || inbound.receive(&mut into),
+    );
+    assert!(&rt; sent.is_ok());
+    assert_eq!(&rt; received, Ok(Some(endpoint(&rt, 7112))));
+    assert_eq!(&rt; into.as_slice(), b"late".as_slice());
+    assert!(&rt; start.elapsed(&rt)?.as_millis() < ENDED_MILLIS);
+    Ok(())
+}
+
+/// Waits until so many were received.
+fn catch_up<R: Host>(rt: &R, received: &AtomicU32, wanted: u32) {
+    for _ in 0..20_000 {
+        if received.load(Ordering::SeqCst) >= wanted {
+            return;
+        }
+        sleep(rt, 1);
+    }
+}
+
+/// Sends numbers in order, a few at a time: then the other side has them all, and has come to wait again.
+fn send_numbers<R: Host>(
+    rt: &R,
+    link: &mut UdpLink<'_, R>,
+    to: Endpoint,
+    received: &AtomicU32,
+) -> bool {
+    for number in 0..SENT {
+        if number % 50 == 0 {
+            catch_up(rt, received, number);
+        }
+        if link.send(to, &number.to_be_bytes()).is_err() {
+            return false;
+        }
+    }
+    true
+}
+
+/// Receives numbers, up to the first that is not the next one.
+fn receive_numbers<R: Host>(inbound: &mut UdpInbound<'_, R>, from: Endpoint, received: &AtomicU32) {
+    let mut into = ArrayVec::new();
+    for number in 0..SENT {
+        received.store(number, Ordering::SeqCst);
+        let answer = inbound.receive(&mut into);
+        if answer != Ok(Some(from)) || into.as_slice() != number.to_be_bytes().as_slice() {
+            return;
+        }
+    }
+    received.store(SENT, Ordering::SeqCst);
+}
+
+/// Each datagram is given once and in order, whether it comes before a wait or in one.
+#[test]
+fn in_order(rt: HostRuntime) -> Result<(), Fail> {
+    let (mut inbound, _, _) = bound(&rt, rt.alloc(), 7113, long())?;
+    let (_, mut link, _) = bound(&rt, rt.alloc(), 7114, long())?;
+    let (to, from) = (endpoint(&rt, 7113), endpoint(&rt, 7114));
+    let received = AtomicU32::new(0);
+    let (_, sent) = join(
+        &rt,
+        || receive_numbers(&mut inbound, from, &received),
+        || send_numbers(&rt, &mut link, to, &received),
+    );
+    assert!(&rt; sent);
+    assert_eq!(&rt; received.load(Ordering::SeqCst), SENT);
+    Ok(())
+}
+
+/// Datagrams that came before the first receive are all given without a wait, the same change or not.
+#[test]
+fn before_wait(rt: HostRuntime) -> Result<(), Fail> {
+    let (mut inbound, _, _) = bound(&rt, rt.alloc(), 7115, long())?;
+    let (_, mut link, _) = bound(&rt, rt.alloc(), 7116, long())?;
+    let to = endpoint(&rt, 7115);
+    let mut into = ArrayVec::new();
+    let start = Instant::now(&rt)?;
+    for round in 0..20u8 {
+        for number in 0..10u8 {
+            assert!(&rt; link.send(to, &[round, number]).is_ok());
+        }
+        for number in 0..10u8 {
+            assert_eq!(&rt; inbound.receive(&mut into), Ok(Some(endpoint(&rt, 7116))));
+            assert_eq!(&rt; into.as_slice(), [round, number].as_slice());
+        }
+    }
+    assert!(&rt; start.elapsed(&rt)?.as_millis() < ENDED_MILLIS);
+    Ok(())
+}
+
+/// What a member keeps of a datagram that is too long, and what a stranger sends.
+#[test]
+fn long_and_strange(rt: HostRuntime) -> Result<(), Fail> {
+    let (mut inbound, _, _) = bound(&rt, rt.alloc(), 7117, long())?;
+    let sender = UdpSocket::bind(&rt, address(7118))?;
+    sender.send_to(&[9u8; 600], address(7117))?;
+    let mut into = ArrayVec::new();
+    assert_eq!(&rt; inbound.receive(&mut into), Ok(Some(endpoint(&rt, 7118))));
+    assert_eq!(&rt; into.as_slice(), [9u8; 513].as_slice());
+    Ok(())
+}

@@ -1,0 +1,275 @@
+//! Datagrams over UDP.
+
+ghost use Rattle.std.specs.Prelude.{◌≡◌, ◌≢◌, ◌≤◌, ◌++◌, ◌∷◌, [], length, take as first, IfErr, IfNone, IfOk, IfSome, IsOk, IsTrue, OnErr, OnOk, Some};
+ghost use Rattle.std.specs.IoError.{error_kind};
+ghost use Rattle.std.specs.declared.io.ErrorKind.TheVariants.{Interrupted};
+ghost use Rattle.swim_shell.specs.Inbounds.{came_of};
+ghost use Rattle.swim_net.specs.Datagrams.{IsEndpointAt, came_in};
+
+use crate::waits::{SocketAlarm, Waits, pause};
+use arrayvec::ArrayVec;
+use mio::Interest;
+use std::alloc::Global;
+use std::io::{self, ErrorKind};
+use std::net::{Ipv4Addr, Net, SocketAddr, SocketAddrV4, ToSocketAddrs, UdpSocket};
+use std::time::{Clock, Duration};
+use swim_member::RECEIVED_MAX;
+use swim_node::{Link, LinkFault};
+use swim_shell::{Alarmed, Inbound, ReceiveFault};
+use swim_trace::Trace;
+use swim_wire::Endpoint;
+
+/// How often a send is tried that a signal cuts short or that finds no room.
+const SENDS_MAX: u32 = 16;
+
+/// The socket address of an endpoint.
+pub fn address_of(endpoint: Endpoint) -> SocketAddr
+    ensures { IsEndpointAt result (Some endpoint) }
+{
+    let address = Ipv4Addr::from_bits(endpoint.address());
+    SocketAddr::V4(SocketAddrV4::new(address, endpoint.port()))
+}
+
+/// The endpoint that a socket address is; none for IPv6 and for port 0.
+fn endpoint_of(from: SocketAddr) -> Option<Endpoint>
+    ensures { IsEndpointAt from result }
+{
+    match from {
+        SocketAddr::V4(from) => Endpoint::new(u32::from(*from.ip()), from.port()),
+        SocketAddr::V6(_) => None,
+    }
+}
+
+/// Datagrams that go out over UDP, one a send. A short send is a failure. It does not tell what it took: what a socket
+/// takes is not known here.
+#[derive(Drop)]
+pub struct UdpLink<'a, C: Clock> {
+    socket: UdpSocket,
+    clock: &'a C,
+    failures: Trace<()>,
+}
+
+impl<'a, C: Clock> UdpLink<'a, C> {
+    /// A link over a bound socket that never waits.
+    fn new(socket: UdpSocket, clock: &'a C) -> UdpLink<'a, C> {
+        UdpLink {
+            socket,
+            clock,
+            failures: Trace::new(),
+        }
+    }
+
+    /// Whether a send that failed so may be tried again: at once if a signal cut it short, and after a pause if the system
+    /// had no room.
+    fn may_retry(&self, kind: ErrorKind) -> bool {
+        match kind {
+            ErrorKind::Interrupted => true,
+            ErrorKind::WouldBlock => {
+                pause(self.clock);
+                true
+            }
+            _ => false,
+        }
+    }
+
+    /// Sends one datagram whole.
+    fn send_whole(&self, to: Endpoint, bytes: &[u8]) -> bool {
+        for _ in 0..SENDS_MAX {
+            match self.socket.send_to(bytes, address_of(to)) {
+                Ok(sent) => return sent == bytes.len(),
+                Err(error) if self.may_retry(error.kind()) => {}
+                Err(_) => return false,
+            }
+        }
+        false
+    }
+}
+
+impl<'a, C: Clock> Link for UdpLink<'a, C> {
+    ghost use Rattle.std.specs.Prelude.{[], length};
+    ghost use Rattle.swim_node.specs.Link.{link_number};
+
+    ghost name = { λ _. link_number 0 };
+
+    ghost tells = { ⊥ };
+
+    ghost took = { λ _. [] };
+
+    ghost failures = { λ l. length l.failures };
+
+    fn send(&mut self, to: Endpoint, bytes: &[u8]) -> Result<(), LinkFault> {
+        if self.send_whole(to, bytes) {
+            return Ok(());
+        }
+        self.failures = self.failures.and(&());
+        Err(LinkFault)
+    }
+}
+
+/// One answer of a socket, which only proofs read: each of its traces has one entry.
+#[derive(Drop)]
+struct Answer {
+    from: Trace<Result<Option<Endpoint>, ReceiveFault>>,
+    bytes: Trace<ArrayVec<u8, RECEIVED_MAX>>,
+}
+
+/// Datagrams that come in over UDP, within a waiting time. A datagram from no endpoint is nothing that came. It tells what
+/// it answered.
+#[derive(Drop)]
+pub struct UdpInbound<'a, C: Clock> {
+    socket: mio::net::UdpSocket,
+    waits: Waits,
+    clock: &'a C,
+    wait: Duration,
+    answers: Trace<Answer>,
+}
+
+/// Whether a receive that ended so brought nothing, and did not fail: nothing had come in the waiting time, a signal cut it
+/// short, or the system told of an earlier send that it did not arrive.
+pub(crate) fn brings_nothing(kind: ErrorKind) -> bool
+    ensures { kind ≡ Interrupted → IsTrue result }
+{
+    matches!(
+        kind,
+        ErrorKind::WouldBlock
+            | ErrorKind::TimedOut
+            | ErrorKind::Interrupted
+            | ErrorKind::ConnectionRefused
+            | ErrorKind::HostUnreachable
+            | ErrorKind::NetworkUnreachable
+    )
+}
+
+/// What a receive of the system says, whose bytes are kept if they come from an endpoint. Whoever can send a datagram can
+/// send one from port 0, so that is no failed receive, and neither is one that a signal cut short.
+pub(crate) fn take(
+    received: io::Result<(usize, SocketAddr)>,
+    bytes: &[u8],
+    into: &mut ArrayVec<u8, RECEIVED_MAX>,
+) -> Result<Option<Endpoint>, ReceiveFault>
+    requires { IfOk received (λ r. r.0 ≤ length bytes.now) }
+    ensures came { OnOk received (IsOk result) }
+    ensures failed { OnErr result (IfErr received (λ e. error_kind e ≢ Interrupted)) }
+    ensures nothing { IfOk result (λ from. IfNone from (into.new.items ≡ [])) }
+    ensures whence { IfOk received (λ r. IfOk result (λ from. IsEndpointAt r.1 from)) }
+    ensures whole { IfOk received (λ r. r.0 ≤ RECEIVED_MAX → IfOk result
+        (λ from. IfSome from (λ _. into.new.items ≡ first r.0 bytes.now))) }
+{
+    into.clear();
+    match received {
+        Ok((length, from)) => match endpoint_of(from) {
+            Some(from) => {
+                let _ = into.try_extend_from_slice(&bytes[..length]);
+                Ok(Some(from))
+            }
+            None => Ok(None),
+        },
+        Err(error) if brings_nothing(error.kind()) => Ok(None),
+        Err(_) => Err(ReceiveFault),
+    }
+}
+
+impl<'a, C: Clock> UdpInbound<'a, C> {
+    /// Takes an answer of the system.
+    #[tactic(auto, using(crate::proofs::Answering::answers_more))]
+    fn answer(
+        &mut self,
+        received: io::Result<(usize, SocketAddr)>,
+        bytes: &[u8],
+        into: &mut ArrayVec<u8, RECEIVED_MAX>,
+    ) -> Result<Option<Endpoint>, ReceiveFault>
+        requires { IfOk received (λ r. r.0 ≤ length bytes.now) }
+        ensures { came_in self.new.answers ≡ came_in self.old.answers
+            ++ came_of result into.new.items ∷ [] }
+    {
+        let taken = take(received, bytes, into);
+        self.answers = self.answers.and(&Answer {
+            from: Trace::new().and(&taken),
+            bytes: Trace::new().and(into),
+        });
+        taken
+    }
+
+    /// What has come; none where nothing has come yet. The system cuts a datagram that is longer than a member keeps.
+    fn receive_now(
+        &mut self,
+        into: &mut ArrayVec<u8, RECEIVED_MAX>,
+    ) -> Option<Result<Option<Endpoint>, ReceiveFault>>
+        ensures some { IfSome result (λ answer. came_in self.new.answers
+            ≡ came_in self.old.answers ++ came_of answer into.new.items ∷ []) }
+        ensures none { IfNone result (came_in self.new.answers ≡ came_in self.old.answers) }
+    {
+        let mut bytes = [0u8; RECEIVED_MAX];
+        match self.socket.recv_from(&mut bytes) {
+            Err(error) if error.kind() == ErrorKind::WouldBlock => None,
+            received => Some(self.answer(received, &bytes, into)),
+        }
+    }
+
+    /// What has come after a wait.
+    fn receive_at_last(
+        &mut self,
+        into: &mut ArrayVec<u8, RECEIVED_MAX>,
+    ) -> Result<Option<Endpoint>, ReceiveFault>
+        ensures { came_in self.new.answers ≡ came_in self.old.answers
+            ++ came_of result into.new.items ∷ [] }
+    {
+        self.waits.wait(self.clock, self.wait);
+        let mut bytes = [0u8; RECEIVED_MAX];
+        let received = self.socket.recv_from(&mut bytes);
+        self.answer(received, &bytes, into)
+    }
+}
+
+impl<'a, C: Clock> Alarmed for UdpInbound<'a, C> {
+    type Alarm = SocketAlarm;
+}
+
+impl<'a, C: Clock> Inbound for UdpInbound<'a, C> {
+    ghost use Rattle.std.specs.Prelude.{⊤};
+    ghost use Rattle.swim_shell.specs.Inbounds.{failures_in};
+    ghost use Rattle.swim_net.specs.Datagrams.{came_in};
+
+    ghost tells = { ⊤ };
+
+    ghost came = { λ i. came_in i.answers };
+
+    ghost failures = { λ i. failures_in (came_in i.answers) };
+
+    #[tactic(auto, using(crate::proofs::Answering::took_one))]
+    fn receive(
+        &mut self,
+        into: &mut ArrayVec<u8, RECEIVED_MAX>,
+    ) -> Result<Option<Endpoint>, ReceiveFault> {
+        match self.receive_now(into) {
+            Some(received) => received,
+            None => self.receive_at_last(into),
+        }
+    }
+}
+
+/// Binds a socket for datagrams, and gives what receives from it, what sends through it, and what ends a wait of the
+/// first. A receive waits as long as `wait` at most. An error is the system's: the address is taken or not this machine's,
+/// or there are too many sockets, or no memory.
+pub fn bind_datagrams<'a, R: Net, C: Clock, A: ToSocketAddrs>(
+    net: &R,
+    clock: &'a C,
+    alloc: Global,
+    at: A,
+    wait: Duration,
+) -> io::Result<(UdpInbound<'a, C>, UdpLink<'a, C>, SocketAlarm)> {
+    let socket = UdpSocket::bind(net, at)?;
+    socket.set_nonblocking(true)?;
+    let link = UdpLink::new(socket.try_clone()?, clock);
+    let mut socket = mio::net::UdpSocket::from_std(socket);
+    let (waits, alarm) = Waits::new(net, alloc)?;
+    waits.watch(&mut socket, Interest::READABLE)?;
+    let inbound = UdpInbound {
+        socket,
+        waits,
+        clock,
+        wait,
+        answers: Trace::new(),
+    };
+    Ok((inbound, link, alarm))
+}

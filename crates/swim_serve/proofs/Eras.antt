@@ -1,0 +1,81 @@
+-- What the journal of an era has of each of its workers.
+use Rattle.std.proofs.Common.{◌≡◌, ℕ, ◌+◌, ◌==◌, ◌&&◌, ◌||◌, leb, Bool, true, false, true≢false, List, [], ◌∷◌, ◌++◌, length, refl, ap, sym, subst, ◌∙◌, arith, inl, inr, ⊎_elim, length-append}
+use Rattle.std.proofs.lemmas.List.{append-nil}
+use Rattle.std.proofs.lemmas.Bool.Decides.{nat_tests}
+use Rattle.std.specs.Prelude.{Option}
+use mathlib.Core.List.{IsPrefix}
+use Rattle.swim_member.specs.declared.event.Event.{Event}
+use Rattle.swim_node.specs.declared.entry.Entry.{Entry}
+use Rattle.swim_node.specs.History.{Base, calls_by}
+use Rattle.swim_node.proofs.Lists.{calls_by-append}
+use Rattle.swim_shared.specs.Odd.{is_in_step}
+use Rattle.swim_shared.specs.Outboxes.{SenderView, owed_after, Handed as HandedOn}
+use Rattle.swim_shared.specs.Passes.{PassView, IsPass}
+use Rattle.swim_shared.specs.Taken.{taken_of}
+use Rattle.swim_shell.specs.declared.caller.Refusal.{Refusal}
+use Rattle.swim_shell.specs.Calls.{CallerView}
+use Rattle.swim_serve.specs.Eras.{HasCalls, Knows, ByPass, Served, SendsBy, Sends, outgoing_of}
+use Rattle.swim_serve.specs.Views.{view_of}
+use Rattle.swim_serve.specs.Works.{Sent}
+use Rattle.swim_serve.proofs.Fitting.{Fits}
+
+both : (a b : Bool) → (a && b) ≡ true → b ≡ true
+both true b h = h
+both false b h = absurd (true≢false (sym h))
+
+in_step : (p : PassView) (journal : List Entry) → is_in_step p journal ≡ true → length (calls_by p.caller journal) ≡ p.calls
+in_step p journal h =
+    let last = both (leb (length p.seen) (length journal)) (length (calls_by p.caller journal) == p.calls) h in
+    grind (arith, nat_tests, last)
+
+nothing : (xs : List Entry) → length xs ≡ 0 → xs ≡ []
+nothing [] h = refl
+nothing (x ∷ xs) h = absurd (omega arith)
+
+only : (xs : List Entry) → length xs ≡ 1 → (x : Entry) × (xs ≡ x ∷ [])
+only [] h = absurd (omega arith)
+only (x ∷ xs) h = (x, ap (λ w. x ∷ w) (nothing xs (omega arith)))
+
+or_true : (a b : Bool) → b ≡ true → (a || b) ≡ true
+or_true true b h = refl
+or_true false b h = h
+
+has_more : (p : PassView) (s : Bool) (a : List Event) (journal : List Entry) (rest : List Entry) → p.spent ≡ true → calls_by p.caller journal ≡ calls_by p.caller p.seen ++ rest → length rest ≡ 1 → HasCalls journal (view_of p s a)
+has_more p s a journal rest spent is one =
+    let last = only rest one in
+    inr (or_true s p.spent spent, last.0, is ∙ ap (λ w. calls_by p.caller p.seen ++ w) last.1)
+
+pub knows : (base : Base) (p : PassView) (s : Bool) (a : List Event) (journal : List Entry) → IsPass base p → Fits journal p → Knows journal (view_of p s a)
+knows base p s a journal ok (steps, begins) =
+    let begun : IsPrefix p.seen journal = begins steps in
+    let rest = calls_by p.caller begun.0 in
+    let all : calls_by p.caller journal ≡ calls_by p.caller p.seen ++ rest = ap (calls_by p.caller) (sym begun.1) ∙ calls_by-append p.caller p.seen begun.0 in
+    let many = in_step p journal steps in
+    let sum : length (calls_by p.caller journal) ≡ length (calls_by p.caller p.seen) + length rest = ap length all ∙ length-append (calls_by p.caller p.seen) rest in (
+      begun,
+      ⊎_elim
+          (λ (e : p.calls ≡ length (calls_by p.caller p.seen)). inl (all ∙ ap (λ w. calls_by p.caller p.seen ++ w) (nothing rest (omega (arith, e, many, sum))) ∙ append-nil (calls_by p.caller p.seen)))
+          (λ (t : (p.spent ≡ true) × (p.calls ≡ length (calls_by p.caller p.seen) + 1)). has_more p s a journal rest t.0 all (omega (arith, t.1, many, sum)))
+          ok.counted,
+    )
+
+module _ {S E : Type 0} (does : S → CallerView → S → CallerView → Option E → Type 0) where
+  -- what a worker did by a caller, which gave its pass back
+  pub by_pass : (base : Base) (a b c : S) (p : CallerView) (s : Bool) (asked : List Event) (pass back : PassView) (end ends : Option E) → does a p b (view_of pass s asked) end → c ≡ b → back ≡ pass → ends ≡ end → IsPass base back → ByPass does base a p c back ends
+  by_pass base a b c p s asked pass back end ends did is same ended ok =
+      record { spent = s; asked = asked; did = subst (λ w. does a p c (view_of w s asked) ends) (sym same) (subst (λ w. does a p c (view_of pass s asked) w) (sym ended) (subst (λ w. does a p w (view_of pass s asked) end) (sym is) did)); is_pass = ok }
+
+  pub served : (base : Base) (a b : S) (p : CallerView) (pass : PassView) (end : Option E) (odd : ℕ) (journal : List Entry) → ByPass does base a p b pass end → (odd ≡ 0 → Fits journal pass) → Served does a p b end odd journal
+  served base a b p pass end odd journal by fits = record { then = view_of pass by.spent by.asked; did = by.did; knows = λ none. knows base pass by.spent by.asked journal by.is_pass (fits none) }
+
+module _ {M : Type 0} (tells : Type 0) (took : M → List (ℕ × List ℕ)) (failures : M → ℕ) where
+  pub sends : (base : Base) (owed : ℕ) (ring turned : SenderView) (link after last : M) (pass : PassView) (end : Option Refusal) (odd owes : ℕ) (journal : List Entry) → SendsBy tells took failures base owed ring link turned after pass end → (odd ≡ 0 → Fits journal pass) → HandedOn tells took failures turned.got (taken_of journal) after last → owes ≡ owed_after turned.owed (failures after) (failures last) → Sends tells took failures base.limit owed ring link last end odd owes journal
+  sends base owed ring turned link after last pass end odd owes journal by fits handed owe = record {
+    first = by.first;
+    told = by.told;
+    then = outgoing_of took failures by.turns turned after;
+    served = served (Sent tells base.limit) base (outgoing_of took failures 0 ring link) (outgoing_of took failures by.turns turned after) by.first pass end odd journal by.by fits;
+    fates = handed.fates;
+    rest = record { out = handed.out_is; took = handed.took_is; lost = handed.failures_is };
+    owes_are = owe;
+  }

@@ -1,0 +1,45 @@
+use Rattle.std.proofs.Common.{◌≡◌, [], ◌∷◌, subst, rules}
+use Rattle.swim_shared.specs.Odd.{odd_of}
+use Rattle.swim_shared.specs.Outboxes.{Handed, owed_after}
+use Rattle.swim_shared.specs.Taken.{taken_of}
+use Rattle.swim_serve.specs.Eras.{SendsBy}
+use Rattle.swim_serve.proofs.Eras.{served, sends}
+use Rattle.swim_serve.proofs.Fitting.{all_fit}
+use Rattle.swim_serve.proofs.era.run_era.Goals as goal
+
+pub returns-clause-receiver : goal.returns-clause-receiver
+returns-clause-receiver g c =
+    let passes = c.in_ok-back.back.passes in
+    let journal = c.close_sent-closed.result.node.entries in
+    let all : c.in_ok-passes.passes.items ≡ passes.receiver ∷ passes.ticker ∷ passes.sender ∷ passes.control ∷ [] = search rules in
+    let sum : c.close_sent-closed.result.odd ≡ odd_of journal c.in_ok-passes.passes.items [] = search rules in
+    served _ _ _ _ _ _ _ c.close_sent-closed.result.odd journal c.in_ok-back.ensures.receiver (λ none. (all_fit journal passes.receiver passes.ticker passes.sender passes.control c.in_ok-passes.passes.items c.close_sent-closed.result.odd all sum c.close_sent-closed.ensures.passes none).first)
+
+pub returns-clause-ticker : goal.returns-clause-ticker
+returns-clause-ticker g c =
+    let passes = c.in_ok-back.back.passes in
+    let journal = c.close_sent-closed.result.node.entries in
+    let all : c.in_ok-passes.passes.items ≡ passes.receiver ∷ passes.ticker ∷ passes.sender ∷ passes.control ∷ [] = search rules in
+    let sum : c.close_sent-closed.result.odd ≡ odd_of journal c.in_ok-passes.passes.items [] = search rules in
+    served _ _ _ _ _ _ _ c.close_sent-closed.result.odd journal c.in_ok-back.ensures.ticker (λ none. (all_fit journal passes.receiver passes.ticker passes.sender passes.control c.in_ok-passes.passes.items c.close_sent-closed.result.odd all sum c.close_sent-closed.ensures.passes none).second)
+
+pub returns-clause-control : goal.returns-clause-control
+returns-clause-control g c =
+    let passes = c.in_ok-back.back.passes in
+    let journal = c.close_sent-closed.result.node.entries in
+    let all : c.in_ok-passes.passes.items ≡ passes.receiver ∷ passes.ticker ∷ passes.sender ∷ passes.control ∷ [] = search rules in
+    let sum : c.close_sent-closed.result.odd ≡ odd_of journal c.in_ok-passes.passes.items [] = search rules in
+    served _ _ _ _ _ _ _ c.close_sent-closed.result.odd journal c.in_ok-back.ensures.control (λ none. (all_fit journal passes.receiver passes.ticker passes.sender passes.control c.in_ok-passes.passes.items c.close_sent-closed.result.odd all sum c.close_sent-closed.ensures.passes none).fourth)
+
+pub returns-clause-sender : goal.returns-clause-sender
+returns-clause-sender g c =
+    let passes = c.in_ok-back.back.passes in
+    let journal = c.close_sent-closed.result.node.entries in
+    let all : c.in_ok-passes.passes.items ≡ passes.receiver ∷ passes.ticker ∷ passes.sender ∷ passes.control ∷ [] = search rules in
+    let sum : c.close_sent-closed.result.odd ≡ odd_of journal c.in_ok-passes.passes.items [] = search rules in
+    let link = c.in_ok-back.back.outside.link in
+    let last = c.close_sent-closed.new.link in
+    let handed = subst (λ s. Handed g.M.Link.tells g.M.Link.took g.M.Link.failures s.got (taken_of journal) link last) c.into_inner.ensures.sender c.close_sent-closed.ensures.handed in
+    let owes = subst (λ s. c.close_sent-closed.result.owed ≡ owed_after s.owed (g.M.Link.failures link) (g.M.Link.failures last)) c.into_inner.ensures.sender c.close_sent-closed.ensures.owed in
+    let by = subst (λ r. SendsBy g.M.Link.tells g.M.Link.took g.M.Link.failures g.N.Name.base c.args.outside.owed r c.args.outside.link c.in_ok-back.back.ring link passes.sender c.in_ok-back.back.ends.sender) c.new-ring.ensures c.in_ok-back.ensures.sender in
+    sends g.M.Link.tells g.M.Link.took g.M.Link.failures _ _ _ _ _ link last _ _ c.close_sent-closed.result.odd _ journal by (λ none. (all_fit journal passes.receiver passes.ticker passes.sender passes.control c.in_ok-passes.passes.items c.close_sent-closed.result.odd all sum c.close_sent-closed.ensures.passes none).third) handed owes

@@ -1,0 +1,120 @@
+-- What the workers of an era do, and what its journal has of them.
+use Rattle.std.specs.Prelude.{◌≡◌, ◌⊎◌, ℕ, zero, suc, Bool, true, List, [], ◌∷◌, ◌++◌, Option}
+use mathlib.Core.List.{IsPrefix}
+use Rattle.swim_member.specs.declared.event.Event.{Event}
+use Rattle.swim_member.specs.declared.event.Event.TheVariants.{SendFailed}
+use Rattle.swim_node.specs.declared.entry.Entry.{Entry}
+use Rattle.swim_node.specs.Link.{Fate}
+use Rattle.swim_node.specs.History.{Base, IsLegal, calls_by}
+use Rattle.swim_node.specs.Lives.{IsRaised}
+use Rattle.swim_node.specs.Node.{next_base}
+use Rattle.swim_shared.specs.Outboxes.{SenderView, owed_after}
+use Rattle.swim_shared.specs.Passes.{PassView, IsPass}
+use Rattle.swim_shared.specs.Taken.{taken_of}
+use Rattle.swim_shell.specs.declared.caller.Refusal.{Refusal}
+use Rattle.swim_shell.specs.Calls.{CallerView, NewCalls, calls_of}
+use Rattle.swim_shell.specs.Losses.{OutgoingView, Handed}
+use Rattle.swim_serve.specs.Views.{view_of, new_caller}
+use Rattle.swim_serve.specs.Works.{Sent}
+
+-- what is told first where so many losses are owed
+abbrev pub owed_first : ℕ → List Event
+owed_first zero = []
+owed_first (suc n) = SendFailed (suc n) ∷ []
+
+-- the journal has of this caller just the calls that it has seen, and one more at most where it
+-- can see no more
+abbrev pub HasCalls : List Entry → CallerView → Type 0
+HasCalls journal q =
+    (calls_by q.caller journal ≡ calls_of q)
+    ⊎ ((q.spent ≡ true) × (last : Entry)
+    × (calls_by q.caller journal ≡ calls_of q ++ last ∷ []))
+
+-- what it has seen begins the journal, which has its calls
+abbrev pub Knows : List Entry → CallerView → Type 0
+Knows journal q = IsPrefix q.seen journal × HasCalls journal q
+
+-- what a worker does between two of its states, with what its caller knows then, and how it ends
+module _ {S E : Type 0} (does : S → CallerView → S → CallerView → Option E → Type 0) where
+  -- a worker did so, and its calls are those of this pass
+  pub record ByPass (base : Base) (a : S) (p : CallerView) (b : S) (pass : PassView)
+      (end : Option E)
+      : Type 0 where
+    pub spent : Bool
+    pub asked : List Event
+    pub did : does a p b (view_of pass spent asked) end
+    pub is_pass : IsPass base pass
+
+  -- a worker did so in an era that left this journal, which has its calls if no pass is odd
+  pub record Served (a : S) (p : CallerView) (b : S) (end : Option E) (odd : ℕ)
+      (journal : List Entry)
+      : Type 0 where
+    pub then : CallerView
+    pub did : does a p b then end
+    pub knows : odd ≡ 0 → Knows journal then
+
+  -- the same, however the worker ended
+  abbrev pub Serves : S → CallerView → S → ℕ → List Entry → Type 0
+  Serves a p b odd journal = (end : Option E) × Served a p b end odd journal
+
+module _ {M : Type 0} (took : M → List (ℕ × List ℕ)) (failures : M → ℕ) where
+  -- what a contract sees of a ring and its link, after so many turns
+  abbrev pub outgoing_of : ℕ → SenderView → M → OutgoingView
+  outgoing_of turns ring link = record {
+    turns = turns;
+    out = ring.got;
+    took = took link;
+    lost = failures link;
+    owed = ring.owed;
+  }
+
+-- a link tells what it took and how many it refused
+module _ {M : Type 0} (tells : Type 0) (took : M → List (ℕ × List ℕ)) (failures : M → ℕ) where
+  -- first it was told what was owed, and then the sender worked
+  pub record SendsBy (base : Base) (owed : ℕ) (ring : SenderView) (link : M) (then : SenderView)
+      (after : M) (pass : PassView) (end : Option Refusal)
+      : Type 0 where
+    pub first : CallerView
+    pub told : NewCalls (new_caller 2) first (owed_first owed)
+    pub turns : ℕ
+    pub by : ByPass (Sent tells base.limit) base (outgoing_of took failures 0 ring link) first
+        (outgoing_of took failures turns then after) pass end
+
+  -- the same in an era that left this journal: all that its calls took for sending went to the
+  -- link in order, what was left at the end too; and so many losses are owed now
+  pub record Sends (limit : ℕ) (owed : ℕ) (ring : SenderView) (link after : M)
+      (end : Option Refusal) (odd owes : ℕ) (journal : List Entry)
+      : Type 0 where
+    pub first : CallerView
+    pub told : NewCalls (new_caller 2) first (owed_first owed)
+    pub then : OutgoingView
+    pub served : Served (Sent tells limit) (outgoing_of took failures 0 ring link) first then
+        end odd journal
+    pub fates : List Fate
+    pub rest : Handed tells then (record {
+      turns = then.turns;
+      out = taken_of journal;
+      took = took after;
+      lost = failures after;
+      owed = owes;
+    }) fates
+    pub owes_are : owes ≡ owed_after then.owed then.lost (failures after)
+
+  -- the same by a new ring, however the sender ended
+  abbrev pub SendsAll : (limit owed owes : ℕ) → M → M → ℕ → List Entry → Type 0
+  SendsAll limit owed owes link after odd journal =
+      (ring : SenderView) × (end : Option Refusal) × (ring.got ≡ [])
+      × Sends limit owed ring link after end odd owes journal
+
+-- one era of a member from this base on: its journal is a legal history, which each worker's calls
+-- are of; and where the next era begins
+pub record EraOf (base next : Base) (receives ticks sends serves : ℕ → List Entry → Type 0)
+    : Type 0 where
+  pub odd : ℕ
+  pub journal : List Entry
+  pub legal : IsLegal base journal
+  pub receiver : receives odd journal
+  pub ticker : ticks odd journal
+  pub sender : sends odd journal
+  pub control : serves odd journal
+  pub goes_on : IsRaised (next_base base journal) next

@@ -1,0 +1,5 @@
+pub mod Desks
+pub mod Eras
+pub mod Numbers
+pub mod Views
+pub mod Works

@@ -1,0 +1,35 @@
+//! The end of an era, as each worker is told of it.
+
+use crate::gates::Pace;
+use swim_shell::Alarm;
+
+/// Ends all workers of an era, wherever they wait.
+///
+/// No wake is lost. First the end is set, and then all that workers wait for is rung: the sender's bell, the ticker's rest,
+/// and the alarms of those that wait at sockets. Each of them keeps a ring that comes while nobody waits, and the next wait
+/// ends at once. So a worker whose gate saw no end waits until its ring at most, and its gate, asked again, sees the end.
+#[derive(Drop)]
+pub struct Ending<'a, A: Alarm> {
+    pace: &'a Pace,
+    alarms: &'a [A],
+}
+
+impl<'a, A: Alarm> Ending<'a, A> {
+    /// Of the era that has this pace, some of whose workers wait until one of these alarms rings.
+    pub fn new(pace: &'a Pace, alarms: &'a [A]) -> Ending<'a, A> {
+        Ending { pace, alarms }
+    }
+
+    /// The pace of the era.
+    pub(crate) fn pace(&self) -> &'a Pace {
+        self.pace
+    }
+
+    /// A worker has ended: all others are to end.
+    pub fn end(&self) {
+        self.pace.end();
+        for alarm in self.alarms {
+            alarm.ring();
+        }
+    }
+}

@@ -1,0 +1,439 @@
+//! One era of a running member: its workers over one shared node, from its beginning to its end.
+
+ghost use Rattle.std.specs.Prelude.{◌≡◌, ◌∷◌, [], IfOk, IfSome, length};
+ghost use Rattle.swim_node.specs.History.{IsLegal};
+ghost use Rattle.swim_shared.specs.Passes.{IsPass, new_passes};
+ghost use Rattle.swim_shell.specs.Calls.{NewCalls};
+ghost use Rattle.swim_shell.specs.Ticks.{answers};
+ghost use Rattle.swim_serve.specs.Desks.{Tended, desk_of};
+ghost use Rattle.swim_serve.specs.Eras.{ByPass, Sends, SendsBy, Served, outgoing_of, owed_first};
+ghost use Rattle.swim_serve.specs.Works.{Received, Sent, Ticked, receiver_of};
+ghost use Rattle.swim_serve.specs.Views.{known_of, new_caller};
+
+use crate::attending::{Attended, Callers, Workers, attend};
+use crate::beat::Beat;
+use crate::crew::{Ends, Work};
+use crate::desk::Desk;
+use crate::ending::Ending;
+use crate::gates::{Pace, Ringing};
+use crate::handle::{Handle, Observing};
+use crate::job::{Job, Left};
+use crate::logs::Logs;
+use crate::minding::Minding;
+use crate::outgoing::{RingLink, RingSender};
+use log::Log;
+use std::alloc::Global;
+use std::sync::Wait;
+use std::thread::Threads;
+use std::time::Clock;
+use swim_disk::Disk;
+use swim_member::Event;
+use swim_node::{Link, Node};
+use swim_shared::{Name, Outbox, Parts, Pass, Sender as Ring, Shared, Watch};
+use swim_shell::{
+    Alarmed, Caller, ControlEnd, Doors, Inbound, Receiver, Refusal, Sender, Ticker, WorkerEnd,
+};
+
+/// The workers of an era, each with a pass of its own.
+pub const CALLERS: u8 = 4;
+
+/// One watch, for control and the joiner.
+pub const WATCHES: u8 = 1;
+
+/// A caller of a shared member whose outbox is a ring.
+type Share<'x, N, D, R> = Handle<'x, N, D, Outbox, R, R>;
+
+/// One that is shown the status.
+type Shown<'x, N, D, R> = Observing<'x, N, D, Outbox, R, R>;
+
+/// What comes back of the workers of a shared member, and of control.
+type SharedEnds<'x, N, D, R, I, M, E> = Attended<'x, Share<'x, N, D, R>, R, I, RingLink<N, M>, E>;
+
+/// Gives each worker what it calls by; none where there are too few passes or watches.
+fn callers_of<'x, N: Name, D: Disk, R: Wait + Log + Clock + Drop>(
+    rt: &'x R,
+    shared: &'x Shared<N, D, Outbox, R>,
+    passes: &mut Vec<Pass<N>>,
+    watches: &mut Vec<Watch<N>>,
+    logs: &Logs,
+) -> Option<(Callers<'x, Share<'x, N, D, R>, R>, Shown<'x, N, D, R>)>
+    requires { passes.old.items ≡ new_passes CALLERS }
+    ensures receiver { IfSome result (λ c. known_of c.0.receiver.caller ≡ new_caller 0) }
+    ensures ticker { IfSome result (λ c. known_of c.0.ticker ≡ new_caller 1) }
+    ensures sender { IfSome result (λ c. known_of c.0.sender ≡ new_caller 2) }
+    ensures control { IfSome result (λ c. known_of c.1.handle ≡ new_caller 3) }
+    ensures all { IfSome result (λ _. passes.new.items ≡ []) }
+{
+    let control = Handle::new(rt, shared, passes.pop()?, logs.control);
+    let control = Observing::new(control, watches.pop()?);
+    let sender = Handle::new(rt, shared, passes.pop()?, logs.sender);
+    let ticker = Handle::new(rt, shared, passes.pop()?, logs.ticker);
+    let receiver = Handle::new(rt, shared, passes.pop()?, logs.receiver);
+    let callers = Callers {
+        receiver: Minding::new(rt, receiver, logs.numbers),
+        ticker,
+        sender,
+    };
+    Some((callers, control))
+}
+
+/// Tells what the era before lost and told in no call.
+fn tell<C: Caller>(caller: &mut C, count: u32) -> Result<(), Refusal>
+    ensures { IfOk result (λ _. NewCalls (C.known caller.old) (C.known caller.new)
+        (owed_first count)) }
+{
+    if count > 0 {
+        caller.call(Event::SendFailed { count })?;
+    }
+    Ok(())
+}
+
+/// What a member works with from one era to the next.
+#[derive(Drop)]
+pub struct Outside<I: Inbound + Drop, M: Link + Drop, R: Log + Clock + Drop, O: Doors + Drop> {
+    /// The worker that hands datagrams in.
+    pub receiver: Receiver<I>,
+    /// The worker that counts the ticks.
+    pub ticker: Ticker,
+    /// The worker that answers control lines and joins members.
+    pub desk: Desk<R, O>,
+    /// Where datagrams go.
+    pub link: M,
+    /// What each worker has logged.
+    pub logs: Logs,
+    /// The losses that no call has told.
+    pub owed: u32,
+    /// When ticks are due.
+    pub beat: Beat,
+}
+
+/// How the workers of an era ended themselves; none for one that its gate stopped.
+#[derive(Clone, Copy, Debug, PartialEq, Eq)]
+pub struct EraEnds {
+    /// The worker that hands datagrams in.
+    pub receiver: Option<WorkerEnd>,
+    /// The worker that counts the ticks.
+    pub ticker: Option<Refusal>,
+    /// The worker that sends what the outbox took.
+    pub sender: Option<Refusal>,
+    /// The worker that answers control lines and joins members.
+    pub control: Option<ControlEnd>,
+}
+
+/// The passes that came back of an era's workers.
+#[derive(Drop)]
+struct Passes<N: Name> {
+    receiver: Pass<N>,
+    ticker: Pass<N>,
+    sender: Pass<N>,
+    control: Pass<N>,
+}
+
+impl<N: Name> Passes<N> {
+    /// All of them in this list, which is empty; none where it cannot take them.
+    fn into_list(self, mut room: Vec<Pass<N>>) -> Option<Vec<Pass<N>>>
+        requires { room.items ≡ [] }
+        ensures { IfSome result (λ all. all.items
+            ≡ self.receiver ∷ self.ticker ∷ self.sender ∷ self.control ∷ []) }
+    {
+        let Passes {
+            receiver,
+            ticker,
+            sender,
+            control,
+        } = self;
+        room.push(receiver).ok()?;
+        room.push(ticker).ok()?;
+        room.push(sender).ok()?;
+        room.push(control).ok()?;
+        Some(room)
+    }
+}
+
+/// What comes back of an era's workers.
+#[derive(Drop)]
+struct Back<N: Name, I: Inbound + Drop, M: Link + Drop, R: Log + Clock + Drop, O: Doors + Drop> {
+    passes: Passes<N>,
+    /// An empty list, in which the passes were.
+    room: Vec<Pass<N>>,
+    ring: RingSender<N>,
+    outside: Outside<I, M, R, O>,
+    ends: EraEnds,
+}
+
+/// What comes back of the receiver of a shared member.
+type ReceiverLeft<'x, N, D, R, I> = Left<Minding<'x, Share<'x, N, D, R>, R>, Receiver<I>>;
+
+/// What comes back of its sender.
+type SenderLeft<'x, N, D, R, M> = Left<Share<'x, N, D, R>, Sender<RingLink<N, M>>>;
+
+/// What comes back of its desk.
+type DeskLeft<'x, N, D, R, O> = Left<Shown<'x, N, D, R>, Desk<R, O>>;
+
+/// Takes apart what came back of each worker.
+fn take_apart<
+    'x,
+    N: Name,
+    D: Disk,
+    R: Wait + Log + Clock + Drop,
+    I: Inbound + Drop,
+    M: Link + Drop,
+    O: Doors + Drop,
+>(
+    receiver: ReceiverLeft<'x, N, D, R, I>,
+    ticker: Left<Share<'x, N, D, R>, Ticker>,
+    sender: SenderLeft<'x, N, D, R, M>,
+    control: DeskLeft<'x, N, D, R, O>,
+    beat: Beat,
+    room: Vec<Pass<N>>,
+) -> Back<N, I, M, R, O>
+    ensures receiver { (result.outside.receiver ≡ receiver.entry.worker)
+        × (result.passes.receiver ≡ receiver.entry.caller.caller.pass)
+        × (result.ends.receiver ≡ receiver.entry.end) × IsPass N.base result.passes.receiver }
+    ensures ticker { (result.outside.ticker ≡ ticker.entry.worker)
+        × (result.passes.ticker ≡ ticker.entry.caller.pass)
+        × (result.ends.ticker ≡ ticker.entry.end) × IsPass N.base result.passes.ticker }
+    ensures sender { (result.ring ≡ sender.entry.worker.outgoing.ring)
+        × (result.outside.link ≡ sender.entry.worker.outgoing.link)
+        × (result.passes.sender ≡ sender.entry.caller.pass)
+        × (result.ends.sender ≡ sender.entry.end) × IsPass N.base result.passes.sender }
+    ensures control { (result.outside.desk ≡ control.entry.worker)
+        × (result.passes.control ≡ control.entry.caller.handle.pass)
+        × (result.ends.control ≡ control.entry.end) × IsPass N.base result.passes.control }
+    ensures room { result.room ≡ room }
+{
+    let (handle, numbers) = receiver.caller.into_parts();
+    let (receiver_pass, receiver_notes) = handle.into_parts();
+    let (ticker_pass, ticker_notes) = ticker.caller.into_parts();
+    let (sender_pass, sender_notes) = sender.caller.into_parts();
+    let (control_pass, control_notes) = control.caller.into_handle().into_parts();
+    let (ring, link) = sender.worker.outgoing.into_parts();
+    Back {
+        passes: Passes {
+            receiver: receiver_pass,
+            ticker: ticker_pass,
+            sender: sender_pass,
+            control: control_pass,
+        },
+        room,
+        ring,
+        outside: Outside {
+            receiver: receiver.worker,
+            ticker: ticker.worker,
+            desk: control.worker,
+            link,
+            logs: Logs {
+                numbers,
+                receiver: receiver_notes,
+                ticker: ticker_notes,
+                sender: sender_notes,
+                control: control_notes,
+            },
+            owed: 0,
+            beat,
+        },
+        ends: EraEnds {
+            receiver: receiver.end,
+            ticker: ticker.end,
+            sender: sender.end,
+            control: control.end,
+        },
+    }
+}
+
+/// Runs the workers of a shared member, and control beside them.
+fn attend_shared<
+    'x,
+    N: Name + Send + Sync,
+    D: Disk + Send,
+    R: Threads + Wait + Log + Clock + Send + Sync + Drop,
+    I: Alarmed<Alarm: Sync> + Send + Drop,
+    M: Link + Send + Drop,
+    J: Work<Done: Drop> + Drop,
+>(
+    rt: &'x R,
+    ending: &'x Ending<'x, I::Alarm>,
+    beat: &mut Beat,
+    callers: Callers<'x, Share<'x, N, D, R>, R>,
+    workers: Workers<I, RingLink<N, M>>,
+    control: J,
+) -> SharedEnds<'x, N, D, R, I, M, J::Done>
+    ensures receiver { IfSome result.receiver (λ left. Received I.tells N.base.limit
+        (receiver_of I.came I.failures workers.receiver)
+        (known_of callers.entry.receiver.caller)
+        (receiver_of I.came I.failures left.worker) (known_of left.caller.caller) left.end) }
+    ensures ticker { IfSome result.ticker (λ left. Ticked N.base.limit
+        (answers workers.ticker.rng) (known_of callers.entry.ticker)
+        (answers left.worker.rng) (known_of left.caller) left.end) }
+    ensures sender { IfSome result.sender (λ left. Sent M.tells N.base.limit
+        (outgoing_of M.took M.failures (length workers.sender.outgoing.turns)
+        workers.sender.outgoing.ring workers.sender.outgoing.link)
+        (known_of callers.entry.sender)
+        (outgoing_of M.took M.failures (length left.worker.outgoing.turns)
+        left.worker.outgoing.ring left.worker.outgoing.link)
+        (known_of left.caller) left.end) }
+    ensures control { J.does control result.control }
+{
+    attend(rt, ending, beat, callers, workers, control)
+}
+
+/// Runs the workers of a shared member until one of them ends. An error is that there are too few passes, that the call for
+/// what is owed was refused so, or Memory where the system had no thread for a worker.
+fn work<
+    'x,
+    N: Name + Send + Sync,
+    D: Disk + Send,
+    R: Threads + Wait + Log + Clock + Send + Sync + Copy + Drop,
+    I: Alarmed<Alarm: Sync> + Send + Drop,
+    M: Link + Send + Drop,
+    O: Doors + Drop,
+>(
+    rt: &'x R,
+    shared: &'x Shared<N, D, Outbox, R>,
+    held: (Vec<Pass<N>>, Vec<Watch<N>>),
+    ring: RingSender<N>,
+    outside: Outside<I, M, R, O>,
+    ending: &'x Ending<'x, I::Alarm>,
+) -> Result<Back<N, I, M, R, O>, Refusal>
+    requires { held.0.items ≡ new_passes CALLERS }
+    ensures receiver { IfOk result (λ back. ByPass (Received I.tells N.base.limit) N.base
+        (receiver_of I.came I.failures outside.receiver) (new_caller 0)
+        (receiver_of I.came I.failures back.outside.receiver)
+        back.passes.receiver back.ends.receiver) }
+    ensures ticker { IfOk result (λ back. ByPass (Ticked N.base.limit) N.base
+        (answers outside.ticker.rng) (new_caller 1) (answers back.outside.ticker.rng)
+        back.passes.ticker back.ends.ticker) }
+    ensures sender { IfOk result (λ back. SendsBy M.tells M.took M.failures N.base outside.owed
+        ring outside.link back.ring back.outside.link back.passes.sender back.ends.sender) }
+    ensures control { IfOk result (λ back. ByPass (Tended O.Reader.remaining O.Writer.contents
+        N.base.limit) N.base
+        (desk_of outside.desk.joiner outside.desk.conversation) (new_caller 3)
+        (desk_of back.outside.desk.joiner back.outside.desk.conversation)
+        back.passes.control back.ends.control) }
+    ensures room { IfOk result (λ back. back.room.items ≡ []) }
+{
+    let (mut passes, mut watches) = held;
+    let Outside {
+        receiver,
+        ticker,
+        desk,
+        link,
+        logs,
+        owed,
+        mut beat,
+    } = outside;
+    let made = callers_of(rt, shared, &mut passes, &mut watches, &logs);
+    let (mut callers, shown) = made.ok_or(Refusal::Memory)?;
+    tell(&mut callers.sender, owed)?;
+    let workers = Workers {
+        receiver,
+        ticker,
+        sender: Sender {
+            outgoing: RingLink::new(ring, link),
+        },
+    };
+    let control = Job {
+        rt,
+        worker: desk,
+        caller: shown,
+        gate: Ringing::new(ending.pace()),
+        ending,
+    };
+    let ends = attend_shared(rt, ending, &mut beat, callers, workers, control);
+    let receiver = ends.receiver.ok_or(Refusal::Memory)?;
+    let ticker = ends.ticker.ok_or(Refusal::Memory)?;
+    let sender = ends.sender.ok_or(Refusal::Memory)?;
+    Ok(take_apart(receiver, ticker, sender, ends.control, beat, passes))
+}
+
+/// What is left of an era.
+#[derive(Drop)]
+pub struct EraEnd<
+    D: Disk,
+    I: Inbound + Drop,
+    M: Link + Drop,
+    R: Log + Clock + Drop,
+    O: Doors + Drop,
+> {
+    /// The node with the era's journal.
+    pub node: Node<D>,
+    /// What the next era works with.
+    pub outside: Outside<I, M, R, O>,
+    /// How many passes do not fit the journal.
+    pub odd: u32,
+    /// How the workers ended.
+    pub ends: EraEnds,
+}
+
+/// One era of a shared node, from its beginning to its end: its workers, which one of these alarms wakes where they wait at
+/// sockets. An error is Memory where there is none or no thread for a worker, or why the call was refused that was to tell
+/// what the era before owed.
+pub fn run_era<
+    N: Name + Send + Sync,
+    D: Disk + Send + Drop,
+    R: Threads + Wait + Log + Clock + Send + Sync + Copy + Drop,
+    I: Alarmed<Alarm: Sync> + Send + Drop,
+    M: Link + Send + Drop,
+    O: Doors + Drop,
+>(
+    rt: &R,
+    alloc: Global,
+    parts: Parts<D, Outbox>,
+    ring: Ring,
+    outside: Outside<I, M, R, O>,
+    alarms: &[I::Alarm],
+) -> Result<EraEnd<D, I, M, R, O>, Refusal>
+    requires book { parts.book ≡ N.book }
+    requires base { parts.node.base ≡ N.base }
+    requires disk { (D.state parts.node.disk).name ≡ N.disk }
+    requires owner { parts.node.owner ≡ N.owner }
+    requires first { parts.node.first ≡ N.first }
+    requires link { parts.link.ring ≡ N.link }
+    requires start { parts.link.put ≡ N.start }
+    requires ring { N.link ≡ ring.ring }
+    requires nothing { N.start ≡ [] }
+    requires callers { parts.callers ≡ CALLERS }
+    ensures legal { IfOk result (λ end. IsLegal N.base end.node.entries) }
+    ensures base { IfOk result (λ end. end.node.base ≡ N.base) }
+    ensures disk { IfOk result (λ end. (D.state end.node.disk).name ≡ N.disk) }
+    ensures owner { IfOk result (λ end. end.node.owner ≡ N.owner) }
+    ensures first { IfOk result (λ end. end.node.first ≡ N.first) }
+    ensures receiver { IfOk result (λ end. Served (Received I.tells N.base.limit)
+        (receiver_of I.came I.failures outside.receiver) (new_caller 0)
+        (receiver_of I.came I.failures end.outside.receiver) end.ends.receiver
+        end.odd end.node.entries) }
+    ensures ticker { IfOk result (λ end. Served (Ticked N.base.limit)
+        (answers outside.ticker.rng) (new_caller 1) (answers end.outside.ticker.rng)
+        end.ends.ticker end.odd end.node.entries) }
+    ensures sender { IfOk result (λ end. Sends M.tells M.took M.failures N.base.limit
+        outside.owed ring outside.link end.outside.link end.ends.sender
+        end.odd end.outside.owed end.node.entries) }
+    ensures control { IfOk result (λ end. Served (Tended O.Reader.remaining O.Writer.contents
+        N.base.limit) (desk_of outside.desk.joiner outside.desk.conversation) (new_caller 3)
+        (desk_of end.outside.desk.joiner end.outside.desk.conversation) end.ends.control
+        end.odd end.node.entries) }
+{
+    let made = Shared::<N, D, Outbox, R>::new(alloc, *rt, parts);
+    let (shared, passes, watches) = made.ok().ok_or(Refusal::Memory)?;
+    let pace = Pace::new();
+    let ending = Ending::new(&pace, alarms);
+    let ring = RingSender::<N>::new(ring);
+    let back = work(rt, &shared, (passes, watches), ring, outside, &ending)?;
+    let Back {
+        passes,
+        room,
+        ring,
+        mut outside,
+        ends,
+    } = back;
+    let passes = passes.into_list(room).ok_or(Refusal::Memory)?;
+    let watches = Vec::new(alloc);
+    let closed = shared.close_sent(passes, watches, ring.into_inner(), &mut outside.link);
+    outside.owed = closed.owed;
+    Ok(EraEnd {
+        node: closed.node,
+        outside,
+        odd: closed.odd,
+        ends,
+    })
+}

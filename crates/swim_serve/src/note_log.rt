@@ -1,0 +1,109 @@
+//! What the workers write to the log: the notes of their calls, and how many they left out.
+
+ghost use Rattle.std.specs.Prelude.{◌<◌};
+
+use log::{Log, warn};
+use std::time::Clock;
+use swim_member::Note;
+use swim_node::Reply;
+use swim_wire::Endpoint;
+
+/// The most notes of one kind that a worker logs in one second.
+pub const LOGGED_MAX: u8 = 5;
+
+/// How many kinds of notes there are.
+const KINDS: usize = 18;
+
+/// What became of the notes of one kind in the second that goes on.
+#[derive(Clone, Copy, Debug, PartialEq, Eq)]
+struct Kind {
+    /// The last one that was left out.
+    note: Note,
+    logged: u8,
+    left_out: u32,
+}
+
+const NOTHING: Kind = Kind {
+    note: Note::Stopped,
+    logged: 0,
+    left_out: 0,
+};
+
+/// Which notes were logged in the second that goes on, and how many were not. A member that takes no part any more notes so at
+/// each tick and each datagram, which is logged once.
+#[derive(Clone, Copy, Debug, PartialEq, Eq)]
+pub struct NoteLog {
+    second: u64,
+    has_left_out: bool,
+    has_stopped: bool,
+    kinds: [Kind; KINDS],
+}
+
+/// Writes one note, with whence the datagram came that it is about.
+fn write<W: Log>(rt: &W, note: Note, from: &Option<Endpoint>) {
+    match from {
+        Some(from) => warn!(rt; "note {note} from {from}"),
+        None => warn!(rt; "note {note}"),
+    }
+}
+
+impl NoteLog {
+    /// Nothing was logged yet.
+    pub fn new() -> NoteLog {
+        NoteLog {
+            second: 0,
+            has_left_out: false,
+            has_stopped: false,
+            kinds: [NOTHING; KINDS],
+        }
+    }
+
+    /// Says how many notes of each kind were left out, and begins another second.
+    fn begin<W: Log>(&mut self, rt: &W, second: u64) {
+        for kind in self.kinds {
+            if kind.left_out > 0 {
+                let note = kind.note;
+                let count = kind.left_out;
+                warn!(rt; "note {note}, and {count} of its kind in the same second");
+            }
+        }
+        self.kinds = [NOTHING; KINDS];
+        self.has_left_out = false;
+        self.second = second;
+    }
+
+    #[tactic(auto, using(crate::proofs::Notes::number_range))]
+    /// Writes a note, or counts it where too many of its kind were written in this second.
+    fn add<W: Log>(&mut self, rt: &W, note: Note, from: &Option<Endpoint>) {
+        let place = usize::from(note.number()) - 1;
+        let kind = self.kinds[place];
+        if kind.logged < LOGGED_MAX {
+            self.kinds[place].logged = kind.logged + 1;
+            write(rt, note, from);
+        } else {
+            self.kinds[place].note = note;
+            self.kinds[place].left_out = kind.left_out.saturating_add(1);
+            self.has_left_out = true;
+        }
+    }
+
+    /// Logs the notes of a reply. A clock that cannot be read begins no second.
+    pub(crate) fn log<W: Log + Clock>(&mut self, rt: &W, reply: &Reply, from: &Option<Endpoint>) {
+        if reply.notes.is_empty() && !self.has_left_out {
+            return;
+        }
+        if let Ok(now) = rt.monotonic() {
+            if now.as_secs() != self.second {
+                self.begin(rt, now.as_secs());
+            }
+        }
+        for note in reply.notes.as_slice() {
+            if *note != Note::Stopped {
+                self.add(rt, *note, from);
+            } else if !self.has_stopped {
+                self.has_stopped = true;
+                self.add(rt, *note, from);
+            }
+        }
+    }
+}

@@ -1,0 +1,151 @@
+//! What the receiver writes to the log of the own number: that the group knows a greater one, and that none can be saved.
+
+ghost use Rattle.std.specs.Prelude.{◌≡◌, ◌<◌, ◌↔◌, IsTrue, false};
+ghost use Rattle.swim_wire.specs.Decoding.{decoded};
+ghost use Rattle.swim_serve.specs.Numbers.{number_of, greatest_said, number_said, is_refusal, is_refused};
+
+use log::{Log, error};
+use swim_member::{Note, Phase};
+use swim_node::{Reply, Status};
+use swim_wire::{Endpoint, Update, decode};
+
+/// The most lines of numbers of other lives that are logged, so that no stranger can fill the disk by such numbers.
+const LIVES_MAX: u8 = 5;
+
+/// What the log tells of the own number, each thing once: that the group knows a greater one, which no call of this life
+/// took, and that no number can be saved.
+#[derive(Clone, Copy, Debug, PartialEq, Eq)]
+pub struct NumberLog {
+    me: Endpoint,
+    /// The own number after the last call.
+    number: u64,
+    /// The greatest number of another life that was logged, or 0.
+    told: u64,
+    /// How many such numbers were logged.
+    lives: u8,
+    /// The own number at the failed save that was logged last. It is greater once a save was done.
+    failed_at: Option<u64>,
+}
+
+/// The number that an update says of a member, or 0.
+fn number_of(update: &Update, me: Endpoint) -> u64
+    ensures { result ≡ number_of me update.now }
+{
+    if update.who == me { update.number } else { 0 }
+}
+
+/// The greatest number that updates say of a member, or 0.
+fn greatest_said(updates: &[Update], me: Endpoint) -> u64
+    ensures { result ≡ greatest_said me updates.now }
+{
+    let mut greatest = 0;
+    for update in updates {
+        greatest = number_of(update, me).max(greatest);
+    }
+    greatest
+}
+
+/// The greatest number that received bytes say of a member, or 0, and 0 where they spell no datagram.
+fn number_said(bytes: &[u8], me: Endpoint) -> u64
+    ensures { result ≡ number_said me (decoded bytes.now) }
+{
+    match decode(bytes) {
+        Ok(datagram) => greatest_said(datagram.updates.as_slice(), me),
+        Err(_) => 0,
+    }
+}
+
+/// Whether a note says that a datagram was read, and not taken.
+fn is_refusal(note: Note) -> bool
+    ensures { result ≡ is_refusal note }
+{
+    match note {
+        Note::OtherGroup => true,
+        Note::NotSender => true,
+        Note::FromSelf => true,
+        Note::Stopped => true,
+        Note::OtherVersion => true,
+        _ => false,
+    }
+}
+
+/// Whether these notes are of a datagram that was read, and not taken.
+fn is_refused(notes: &[Note]) -> bool
+    ensures { result ≡ is_refused notes.now }
+{
+    match notes.first() {
+        Some(note) => is_refusal(*note),
+        None => false,
+    }
+}
+
+/// Logs that the group knows a number above the own one, which was `own`, and what became of that.
+fn write_life<W: Log>(rt: &W, said: u64, own: u64, status: &Status) {
+    let outcome = if status.phase == Phase::Expelled {
+        "it takes no part any more"
+    } else if status.number > said {
+        "it goes on with a greater one"
+    } else {
+        "it keeps its own"
+    };
+    error!(rt; "the group knows this member by number {said}, above its own {own}, and {outcome}: the state file is older than a life of this member, or a second member has its address");
+}
+
+/// Logs that no number can be saved above this one.
+fn write_failure<W: Log>(rt: &W, number: u64) {
+    error!(rt; "the state file cannot be written: this member goes on with number {number}, and can refute no suspicion until it can be; look at the disk");
+}
+
+impl NumberLog {
+    /// Nothing was logged yet of this member, whose number is this one.
+    pub fn new(me: Endpoint, number: u64) -> NumberLog
+        ensures { (result.me ≡ me) × (result.number ≡ number) }
+    {
+        NumberLog {
+            me,
+            number,
+            told: 0,
+            lives: 0,
+            failed_at: None,
+        }
+    }
+
+    /// The greatest number that received bytes say of this member, or 0.
+    pub(crate) fn said_by(&self, bytes: &[u8]) -> u64
+        ensures { result ≡ number_said self.now.me (decoded bytes.now) }
+    {
+        number_said(bytes, self.me)
+    }
+
+    /// Whether a number that a datagram said is one of another life, and is to be logged. The reply is that to the datagram.
+    fn is_other_life(&self, said: u64, reply: &Reply) -> bool
+        ensures { IsTrue result ↔ (self.now.number < said) × (self.now.told < said)
+            × (self.now.lives < LIVES_MAX) × (is_refused reply.now.notes.items ≡ false) }
+    {
+        let is_news = self.told < said && self.lives < LIVES_MAX;
+        self.number < said && is_news && !is_refused(reply.notes.as_slice())
+    }
+
+    /// Whether a save failed, for the first time since one was done.
+    fn is_first_failure(&self, reply: &Reply) -> bool {
+        let failed = reply.notes.as_slice().contains(&Note::SaveFailed);
+        failed && self.failed_at != Some(reply.status.number)
+    }
+
+    /// Logs what the reply to a datagram shows, which said this number of this member.
+    pub(crate) fn log<W: Log>(&mut self, rt: &W, said: u64, reply: &Reply)
+        ensures me { self.new.me ≡ self.old.me }
+        ensures number { self.new.number ≡ reply.now.status.number }
+    {
+        if self.is_other_life(said, reply) {
+            self.told = said;
+            self.lives = self.lives.saturating_add(1);
+            write_life(rt, said, self.number, &reply.status);
+        }
+        if self.is_first_failure(reply) {
+            self.failed_at = Some(reply.status.number);
+            write_failure(rt, reply.status.number);
+        }
+        self.number = reply.status.number;
+    }
+}

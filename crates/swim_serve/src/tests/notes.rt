@@ -1,0 +1,130 @@
+//! What is logged of notes.
+
+use crate::LOGGED_MAX;
+use crate::note_log::NoteLog;
+use arrayvec::ArrayVec;
+use log::kv::Source;
+use log::sink::Memory;
+use log::span::Spans;
+use log::{Log, Metadata, Record};
+use std::fmt::Display;
+use std::io;
+use std::test::Fail;
+use std::time::{Clock, Duration};
+use swim_member::{Note, Phase};
+use swim_node::{Reply, Status};
+use swim_scenes::endpoint;
+
+/// A clock that stands, beside a log in memory.
+#[derive(Drop)]
+pub(super) struct Desk {
+    pub(super) second: u64,
+    pub(super) lines: Memory,
+}
+
+impl Clock for Desk {
+    fn monotonic(&self) -> io::Result<Duration> {
+        Ok(Duration::from_secs(self.second))
+    }
+
+    fn since_1970(&self) -> io::Result<Duration> {
+        Ok(Duration::from_secs(self.second))
+    }
+}
+
+impl Log for Desk {
+    fn enabled(&self, metadata: &Metadata<'_>) -> bool {
+        self.lines.enabled(metadata)
+    }
+
+    fn log<D: Display, K: Source, S: Spans>(&self, record: &Record<'_, D, K, S>) {
+        self.lines.log(record);
+    }
+
+    fn flush(&self) {}
+
+    fn target(&self) -> &str {
+        ""
+    }
+}
+
+/// A reply with this note.
+fn noted(note: Note) -> Reply {
+    replied(Some(note), Phase::Running, 1)
+}
+
+/// A reply with this note or none, after which the member has this phase and number.
+pub(super) fn replied(note: Option<Note>, phase: Phase, number: u64) -> Reply {
+    let mut notes = ArrayVec::new();
+    if let Some(note) = note {
+        notes.push(note);
+    }
+    Reply {
+        status: Status {
+            phase,
+            number,
+            alive: 0,
+            suspect: 0,
+            confirmed: 0,
+            length: 1,
+        },
+        notes,
+        page: ArrayVec::new(),
+        sent: 0,
+        lost: 0,
+    }
+}
+
+/// Of seven notes of one kind in a second five are logged; that two were not is said in a later one. A note of another
+/// kind is logged at once.
+#[test]
+fn left_out_notes(rt: HostRuntime) -> Result<(), Fail> {
+    let mut desk = Desk {
+        second: 5,
+        lines: Memory::new(rt.alloc()),
+    };
+    let mut notes = NoteLog::new();
+    let from = endpoint(2);
+    for _ in 0..LOGGED_MAX + 2 {
+        notes.log(&desk, &noted(Note::OtherGroup), &from);
+    }
+    notes.log(&desk, &noted(Note::SendFailed(3)), &None);
+    desk.second = 6;
+    notes.log(&desk, &noted(Note::OtherGroup), &from);
+    let lines = desk.lines.into_lines();
+    let want = [
+        "note 2 OtherGroup from 10.0.0.2:7000",
+        "note 2 OtherGroup from 10.0.0.2:7000",
+        "note 2 OtherGroup from 10.0.0.2:7000",
+        "note 2 OtherGroup from 10.0.0.2:7000",
+        "note 2 OtherGroup from 10.0.0.2:7000",
+        "note 16 SendFailed 3",
+        "note 2 OtherGroup, and 2 of its kind in the same second",
+        "note 2 OtherGroup from 10.0.0.2:7000",
+    ];
+    assert_eq!(&rt; lines.len(), want.len());
+    for (line, want) in lines.as_slice().iter().zip(want) {
+        assert!(&rt; line.as_str().ends_with(want));
+    }
+    Ok(())
+}
+
+/// A member that takes no part any more notes it at each tick; that is logged once, in whatever second.
+#[test]
+fn stopped_once(rt: HostRuntime) -> Result<(), Fail> {
+    let mut desk = Desk {
+        second: 5,
+        lines: Memory::new(rt.alloc()),
+    };
+    let mut notes = NoteLog::new();
+    for second in 5..8 {
+        desk.second = second;
+        notes.log(&desk, &noted(Note::Stopped), &None);
+    }
+    let lines = desk.lines.into_lines();
+    assert_eq!(&rt; lines.len(), 1);
+    for line in lines.as_slice() {
+        assert!(&rt; line.as_str().ends_with("note 14 Stopped"));
+    }
+    Ok(())
+}

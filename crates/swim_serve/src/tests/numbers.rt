@@ -1,0 +1,151 @@
+//! What is logged of the own number.
+
+use super::notes::{Desk, replied};
+use crate::NumberLog;
+use arrayvec::ArrayVec;
+use log::sink::Memory;
+use std::process::Abort;
+use std::test::Fail;
+use swim_member::{Note, Phase};
+use swim_scenes::{endpoint, text, update};
+use swim_wire::{Cursor, Kind, Update, UpdateKind};
+
+/// What the receiver of a new member, 10.0.0.1:7000 with number 1, logs of its number.
+fn numbers(rt: &impl Abort) -> NumberLog {
+    NumberLog::new(endpoint(1).expect(rt, "an endpoint"), 1)
+}
+
+/// A call: which number its datagram said of the member, what was replied to it, and how the line ends that is logged,
+/// if any is.
+#[derive(Clone, Copy)]
+struct Call {
+    said: u64,
+    note: Option<Note>,
+    phase: Phase,
+    number: u64,
+    logged: Option<&'static str>,
+}
+
+/// A call of a running member.
+fn called(said: u64, note: Option<Note>, number: u64, logged: Option<&'static str>) -> Call {
+    Call {
+        said,
+        note,
+        phase: Phase::Running,
+        number,
+        logged,
+    }
+}
+
+const KEEPS_1: &str =
+    "ERROR swim_serve::number_log] the group knows this member by number 4, above its own 1, and it keeps its own: the state file is older than a life of this member, or a second member has its address";
+
+const RAISED_TO_6: &str =
+    "by number 5, above its own 1, and it goes on with a greater one: the state file is older than a life of this member, or a second member has its address";
+
+const EXPELLED: &str =
+    "by number 9, above its own 6, and it takes no part any more: the state file is older than a life of this member, or a second member has its address";
+
+const FAILING_6: &str =
+    "ERROR swim_serve::number_log] the state file cannot be written: this member goes on with number 6, and can refute no suspicion until it can be; look at the disk";
+
+const FAILING_7: &str =
+    "this member goes on with number 7, and can refute no suspicion until it can be; look at the disk";
+
+/// The calls of one life that begins with number 1. A number of another life is told once, and not where its datagram was
+/// not taken. A failed save is told once until a number is taken again.
+fn calls() -> [Call; 15] {
+    let expelled = Call {
+        said: 9,
+        note: Some(Note::Expelled),
+        phase: Phase::Expelled,
+        number: 7,
+        logged: None,
+    };
+    [
+        called(0, None, 1, None),
+        called(1, None, 1, None),
+        called(4, Some(Note::OtherGroup), 1, None),
+        called(4, Some(Note::NotSender), 1, None),
+        called(4, Some(Note::FromSelf), 1, None),
+        called(4, Some(Note::OtherVersion), 1, None),
+        called(4, None, 1, Some(KEEPS_1)),
+        called(4, None, 1, None),
+        called(5, None, 6, Some(RAISED_TO_6)),
+        called(6, Some(Note::SaveFailed), 6, Some(FAILING_6)),
+        called(6, Some(Note::SaveFailed), 6, None),
+        Call {
+            logged: Some(EXPELLED),
+            number: 6,
+            ..expelled
+        },
+        called(6, None, 7, None),
+        called(7, Some(Note::SaveFailed), 7, Some(FAILING_7)),
+        expelled,
+    ]
+}
+
+/// Each call logs the line that is wanted of it, or none.
+#[test]
+fn number_lines(rt: HostRuntime) -> Result<(), Fail> {
+    let desk = Desk {
+        second: 5,
+        lines: Memory::new(rt.alloc()),
+    };
+    let mut numbers = numbers(&rt);
+    let all = calls();
+    for call in &all {
+        numbers.log(
+            &desk,
+            call.said,
+            &replied(call.note, call.phase, call.number),
+        );
+    }
+    let lines = desk.lines.into_lines();
+    let mut lines = lines.as_slice().iter();
+    for want in all.iter().filter_map(|call| call.logged) {
+        let line = lines.next().ok_or("a line")?;
+        assert!(&rt; line.as_str().ends_with(want));
+    }
+    assert!(&rt; lines.next().is_none());
+    Ok(())
+}
+
+/// Of seven greater and greater numbers of other lives, which a stranger may have made up, five are logged.
+#[test]
+fn numbers_without_end(rt: HostRuntime) -> Result<(), Fail> {
+    let desk = Desk {
+        second: 5,
+        lines: Memory::new(rt.alloc()),
+    };
+    let mut numbers = numbers(&rt);
+    for said in 2..9 {
+        numbers.log(&desk, said, &replied(None, Phase::Running, 1));
+    }
+    assert_eq!(&rt; desk.lines.into_lines().len(), 5);
+    Ok(())
+}
+
+/// The greatest number is read that a datagram says of the member, in whichever kind, and no number of another one; of
+/// bytes that are no datagram none.
+#[test]
+fn numbers_said(rt: HostRuntime) -> Result<(), Fail> {
+    let mut updates: ArrayVec<Update, 5> = ArrayVec::new();
+    let numbers = numbers(&rt);
+    for (kind, last, number, want) in [
+        (UpdateKind::Alive, 2, 20, 0),
+        (UpdateKind::Alive, 1, 4, 4),
+        (UpdateKind::Confirm, 1, 9, 9),
+        (UpdateKind::Suspect, 1, 8, 9),
+        (UpdateKind::Suspect, 3, 30, 9),
+    ] {
+        let said = update(kind, last, number).ok_or("an update")?;
+        assert!(&rt; updates.try_push(said).is_ok());
+        let page = text(Kind::Page, 1, Cursor::zero(), updates.as_slice());
+        let mut bytes = page.ok_or("a text")?;
+        assert_eq!(&rt; numbers.said_by(bytes.as_slice()), want);
+        bytes.truncate(9);
+        assert_eq!(&rt; numbers.said_by(bytes.as_slice()), 0);
+    }
+    Ok(())
+}

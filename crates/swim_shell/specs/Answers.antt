@@ -1,0 +1,103 @@
+-- What a control line makes of a caller, and what is answered.
+use Rattle.std.specs.Prelude.{◌≡◌, ℕ, nat_lt, Bool, true, false, if◌then◌else◌}
+use Rattle.std.specs.Prelude.{List, ◌++◌, codes, Option, Some, None}
+use Rattle.std.specs.List.{list_any}
+use Rattle.std.specs.Io.KnownBytes.{Appends}
+use Rattle.swim_member.specs.declared.event.Event.{Event}
+use Rattle.swim_member.specs.declared.event.Event.TheVariants as event
+use Rattle.swim_member.specs.declared.note.Note.{Note}
+use Rattle.swim_member.specs.declared.note.Note.TheVariants as note
+use Rattle.swim_node.specs.declared.entry.Reply.{Reply}
+use Rattle.swim_shell.specs.declared.caller.Refusal.{Refusal}
+use Rattle.swim_shell.specs.declared.caller.Refusal.TheVariants as refusal
+use Rattle.swim_shell.specs.declared.request.Request.{Request}
+use Rattle.swim_shell.specs.declared.request.Request.TheVariants as asked
+use Rattle.swim_shell.specs.declared.conversation.LineEnd.{LineEnd}
+use Rattle.swim_shell.specs.declared.conversation.LineEnd.TheVariants as line_end
+use Rattle.swim_shell.specs.Calls.{CallerView, NewCall, Refuses}
+
+-- what is written where a call was refused
+abbrev pub refusal_text : Refusal → List ℕ
+refusal_text refusal.Memory = codes "error 4 memory\n"
+refusal_text refusal.EraFull = codes "error 5 era full\n"
+refusal_text refusal.Unread = codes "error 6 unread\n"
+
+-- the member takes no part
+abbrev pub is_stopped : Note → Bool
+is_stopped note.Stopped = true
+is_stopped _ = false
+
+-- the member was told to join itself
+abbrev pub is_misdirected : Note → Bool
+is_misdirected note.Misdirected = true
+is_misdirected _ = false
+
+-- what is written after a join
+abbrev pub joined_text : Reply → List ℕ
+joined_text reply =
+    if list_any is_stopped reply.notes.items then codes "ok stopped\n" else
+    if list_any is_misdirected reply.notes.items then codes "error 7 self\n" else
+    if nat_lt 0 reply.lost then codes "ok lost\n" else
+    codes "ok sent\n"
+
+-- what is written after a leave
+abbrev pub left_text : Reply → List ℕ
+left_text reply =
+    if list_any is_stopped reply.notes.items then codes "ok stopped\n" else codes "ok left\n"
+
+-- no event was to be entered, and this is written
+pub record Plain (p q : CallerView) (refused : Option Refusal) (answer text : List ℕ)
+    : Type 0 where
+  pub same : q ≡ p
+  pub unrefused : refused ≡ None
+  pub is : answer ≡ text
+
+-- the event was to be entered: its one new call is of it, and what is written follows from its
+-- reply; or the call was refused, there was a reason for it, and this is written
+abbrev pub Calls : ℕ → Event → (Reply → List ℕ → Type 0) → CallerView → CallerView
+    → Option Refusal → List ℕ → Type 0
+Calls limit event Writes p q None answer =
+    (reply : Reply) × NewCall p q event reply × Writes reply answer
+Calls limit event Writes p q (Some why) answer =
+    Refuses limit why p q event × (answer ≡ refusal_text why)
+
+-- no event was to be entered; the status is written, or that there is no reading of it
+abbrev pub ShowsStatus : CallerView → CallerView → Option Refusal → List ℕ → Type 0
+ShowsStatus p q None answer = q ≡ p
+ShowsStatus p q (Some why) answer =
+    (q ≡ p) × (why ≡ refusal.Unread) × (answer ≡ refusal_text why)
+
+-- what a request makes of the caller, why that was refused, if it was, and what is written
+abbrev pub Answers : ℕ → Request → CallerView → CallerView → Option Refusal → List ℕ → Type 0
+Answers limit asked.Status p q refused answer = ShowsStatus p q refused answer
+Answers limit (asked.Members after) p q refused answer =
+    Calls limit (event.Members after) (λ reply text. Unit {0}) p q refused answer
+Answers limit (asked.Join peer) p q refused answer =
+    Calls limit (event.Join peer) (λ reply text. text ≡ joined_text reply) p q refused answer
+Answers limit asked.Leave p q refused answer =
+    Calls limit event.Leave (λ reply text. text ≡ left_text reply) p q refused answer
+Answers limit asked.Stop p q refused answer = Plain p q refused answer (codes "ok stopping\n")
+Answers limit asked.Unknown p q refused answer =
+    Plain p q refused answer (codes "error 1 unknown\n")
+Answers limit asked.Address p q refused answer =
+    Plain p q refused answer (codes "error 2 address\n")
+Answers limit asked.TooLong p q refused answer =
+    Plain p q refused answer (codes "error 3 too long\n")
+
+-- how a refusal ends a conversation, if it does
+abbrev pub end_by : Refusal → Option LineEnd
+end_by refusal.Memory = None
+end_by refusal.EraFull = Some (line_end.Refused refusal.EraFull)
+end_by refusal.Unread = Some (line_end.Refused refusal.Unread)
+
+-- how a line ends a conversation, if it does
+abbrev pub end_of : Option Refusal → Request → Option LineEnd
+end_of (Some why) asked = end_by why
+end_of None asked.Stop = Some line_end.Asked
+end_of None _ = None
+
+-- of what was left to write and these bytes some went to a writer, and the rest is left
+pub record Gives (old new : Option (List ℕ)) (left rest bytes : List ℕ) : Type 0 where
+  pub went : List ℕ
+  pub wrote : Appends old new went
+  pub whole : left ++ bytes ≡ went ++ rest

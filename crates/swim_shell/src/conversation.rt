@@ -1,0 +1,238 @@
+//! A control connection.
+
+ghost use Rattle.std.specs.Prelude.{◌≡◌, []};
+ghost use Rattle.swim_shell.specs.Answers.{Answers, Calls, ShowsStatus, end_of};
+ghost use Rattle.swim_shell.specs.Control.{carried};
+
+use crate::answer_writer::{AnswerWriter, Sent};
+use crate::answers::{Answer, AnswerTo, Joined, Left, Shown, add_refusal, add_status, add_text};
+use crate::caller::{Observer, Refusal};
+use crate::lines::{LineReader, NoLine};
+use crate::request::{Request, understand};
+use crate::worker::Worker;
+use arrayvec::ArrayString;
+use std::io::{Read, Write};
+use swim_member::Event;
+use thiserror::Error;
+
+/// How a conversation ended itself.
+#[derive(Clone, Copy, Debug, PartialEq, Eq, Error)]
+pub enum ControlEnd {
+    /// Its input ended.
+    #[error("Closed")]
+    Closed,
+    /// The line `stop` was answered.
+    #[error("Asked")]
+    Asked,
+    /// A read failed.
+    #[error("ReadFault")]
+    ReadFault,
+    /// An answer was not written.
+    #[error("WriteFault")]
+    WriteFault,
+    /// The call of its last line was refused, or there was no status to show.
+    #[error("{0}")]
+    Refused(Refusal),
+}
+
+/// How a line ends a conversation, once it is answered.
+#[derive(Clone, Copy, Debug, PartialEq, Eq)]
+enum LineEnd {
+    /// It is `stop`.
+    Asked,
+    /// Its call was refused, or there was no status to show.
+    Refused(Refusal),
+}
+
+/// Answers the control lines of one connection, at most one a turn. A line that the end of input cuts is not answered.
+///
+/// The reader and the writer may answer `WouldBlock`: the turn ends then, and later turns go on with the part of a line
+/// that was read, and with what is left of an answer. So a conversation may also be run again, with another caller, after
+/// its gate stopped it or a call was refused. An end comes once all answers are written; one that is due for a refused call
+/// is forgotten where another caller comes first.
+#[derive(Drop)]
+pub struct Conversation<Rd: Read + Drop, Wr: Write + Drop> {
+    lines: LineReader<Rd>,
+    answers: AnswerWriter<Wr>,
+    /// How the last line ends it.
+    due: Option<LineEnd>,
+}
+
+/// Makes the call of a line, and writes what came of it. Says why it was refused, if it was.
+fn call<C: Observer, A: AnswerTo + Copy>(
+    caller: &mut C,
+    answer: &mut Answer,
+    event: Event,
+    answers: A,
+) -> Option<Refusal>
+    requires { answer.old.bytes ≡ [] }
+    ensures { Calls C.limit event A.writes (C.known caller.old) (C.known caller.new) result
+        answer.new.bytes }
+{
+    match caller.call(event) {
+        Ok(reply) => {
+            answers.write(answer, &reply);
+            None
+        }
+        Err(why) => {
+            add_refusal(answer, why);
+            Some(why)
+        }
+    }
+}
+
+/// Writes the status. Says why it could not, if there is no reading of it.
+fn show_status<C: Observer>(caller: &mut C, answer: &mut Answer) -> Option<Refusal>
+    requires { answer.old.bytes ≡ [] }
+    ensures { ShowsStatus (C.known caller.old) (C.known caller.new) result answer.new.bytes }
+{
+    match caller.status() {
+        Some(status) => {
+            add_status(answer, &status);
+            None
+        }
+        None => {
+            add_refusal(answer, Refusal::Unread);
+            Some(Refusal::Unread)
+        }
+    }
+}
+
+/// Does what is asked, and writes the answer. Says why its call was refused, if it was.
+fn respond<C: Observer>(caller: &mut C, answer: &mut Answer, asked: Request) -> Option<Refusal>
+    requires { answer.old.bytes ≡ [] }
+    ensures { Answers C.limit asked (C.known caller.old) (C.known caller.new) result
+        answer.new.bytes }
+{
+    let text = match asked {
+        Request::Status => return show_status(caller, answer),
+        Request::Members(after) => return call(caller, answer, Event::Members { after }, Shown),
+        Request::Join(peer) => return call(caller, answer, Event::Join { peer }, Joined),
+        Request::Leave => return call(caller, answer, Event::Leave, Left),
+        Request::Stop => "ok stopping\n",
+        Request::Unknown => "error 1 unknown\n",
+        Request::Address => "error 2 address\n",
+        Request::TooLong => "error 3 too long\n",
+    };
+    add_text(answer, text);
+    None
+}
+
+/// How a line ends a conversation, if it does.
+fn end_of(refused: Option<Refusal>, asked: &Request) -> Option<LineEnd>
+    ensures { result ≡ end_of refused asked.now }
+{
+    match (refused, asked) {
+        (Some(Refusal::Memory), _) => None,
+        (Some(why), _) => Some(LineEnd::Refused(why)),
+        (None, Request::Stop) => Some(LineEnd::Asked),
+        (None, _) => None,
+    }
+}
+
+/// The end that stays due with another caller. That for a call which the former one refused does not.
+fn carried(due: Option<LineEnd>) -> Option<LineEnd>
+    ensures { result ≡ carried due }
+{
+    match due {
+        Some(LineEnd::Refused(_)) => None,
+        _ => due,
+    }
+}
+
+impl<Rd: Read + Drop, Wr: Write + Drop> Conversation<Rd, Wr> {
+    ghost use Rattle.std.specs.Prelude.{◌≡◌, false, [], None, OnOk, OnErr, IfErr};
+    ghost use Rattle.swim_shell.specs.Views.{left_of, view_of};
+    ghost use Rattle.swim_shell.specs.Control.{HearsLine, HearsNone, Sends};
+
+    /// The conversation of a new connection, of which nothing was read or written.
+    pub fn new(reader: Rd, writer: Wr) -> Conversation<Rd, Wr>
+        ensures { view_of Rd.remaining Wr.contents result ≡ record {
+          comes = Rd.remaining reader;
+          kept = [];
+          gone = Wr.contents writer;
+          left = [];
+          due = None;
+          waits = false;
+        } }
+    {
+        Conversation {
+            lines: LineReader::new(reader),
+            answers: AnswerWriter::new(writer),
+            due: None,
+        }
+    }
+
+    /// Whether an answer is on its way.
+    fn is_waiting(&self) -> bool
+        ensures value { result ≡ (view_of Rd.remaining Wr.contents self.now).waits }
+        ensures left { result ≡ false → left_of self.now.answers ≡ [] }
+        ensures due { result ≡ false → self.now.due ≡ None }
+    {
+        self.due.is_some() || !self.answers.is_out()
+    }
+
+    /// Hears the next line, and has its answer to write.
+    fn hear<C: Observer>(&mut self, caller: &mut C) -> Result<(), NoLine>
+        requires { left_of self.old.answers ≡ [] }
+        ensures line { OnOk result (HearsLine C.limit (view_of Rd.remaining Wr.contents self.old)
+            (C.known caller.old) (view_of Rd.remaining Wr.contents self.new)
+            (C.known caller.new)) }
+        ensures none { IfErr result (HearsNone (view_of Rd.remaining Wr.contents self.old)
+            (view_of Rd.remaining Wr.contents self.new)) }
+        ensures same { OnErr result (C.known caller.new ≡ C.known caller.old) }
+    {
+        let line = self.lines.next_line()?;
+        let mut answer = ArrayString::new();
+        let asked = understand(&line);
+        let refused = respond(caller, &mut answer, asked);
+        self.due = end_of(refused, &asked);
+        self.answers.put(answer);
+        Ok(())
+    }
+
+    /// Writes what is left, and then ends the conversation if that is due.
+    fn send(&mut self) -> Option<ControlEnd>
+        ensures { Sends (view_of Rd.remaining Wr.contents self.old)
+            (view_of Rd.remaining Wr.contents self.new) result }
+    {
+        match self.answers.send() {
+            Sent::Out => match self.due.take()? {
+                LineEnd::Asked => Some(ControlEnd::Asked),
+                LineEnd::Refused(why) => Some(ControlEnd::Refused(why)),
+            },
+            Sent::NotYet => None,
+            Sent::Failed => Some(ControlEnd::WriteFault),
+        }
+    }
+}
+
+impl<C: Observer, Rd: Read + Drop, Wr: Write + Drop> Worker<C> for Conversation<Rd, Wr> {
+    ghost use Rattle.swim_shell.specs.Views.{view_of};
+    ghost use Rattle.swim_shell.specs.Control.{Converses, ConversedBy};
+
+    type End = ControlEnd;
+
+    ghost worked = { λ a p b q n. Converses C.limit (view_of Rd.remaining Wr.contents a) p
+        (view_of Rd.remaining Wr.contents b) q n };
+
+    ghost ended = { λ end a p b q n. ConversedBy end C.limit
+        (view_of Rd.remaining Wr.contents a) p (view_of Rd.remaining Wr.contents b) q n };
+
+    #[tactic(auto, using(crate::proofs::Talking::converses_start))]
+    fn begin(&mut self) {
+        self.due = carried(self.due);
+    }
+
+    fn turn(&mut self, caller: &mut C) -> Option<ControlEnd> {
+        if self.is_waiting() {
+            return self.send();
+        }
+        match self.hear(caller) {
+            Ok(()) => self.send(),
+            Err(NoLine::NotYet) => None,
+            Err(NoLine::Ended) => Some(ControlEnd::Closed),
+            Err(NoLine::Failed) => Some(ControlEnd::ReadFault),
+        }
+    }
+}

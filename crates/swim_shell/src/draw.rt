@@ -1,0 +1,47 @@
+//! Which member is drawn.
+
+ghost use Rattle.std.specs.Prelude.{IfSome, IsTrue, ◌≢◌};
+ghost use Rattle.swim_wire.specs.declared.update.UpdateKind.TheVariants.{Confirm};
+ghost use Rattle.swim_shell.specs.Joins.{IsDrawnFrom};
+
+use swim_wire::{Endpoint, Update, UpdateKind};
+
+/// Whether the row shows another member as Alive or Suspect.
+fn is_eligible(row: &Update, me: Endpoint) -> bool
+    ensures kind { IsTrue result → row.now.kind ≢ Confirm }
+    ensures other { IsTrue result → row.now.who ≢ me }
+{
+    row.kind != UpdateKind::Confirm && row.who != me
+}
+
+/// How many other members are eligible.
+fn count_eligible(rows: &[Update], me: Endpoint) -> usize {
+    rows.iter().filter(|row| is_eligible(row, me)).count()
+}
+
+/// The member of the eligible row after so many others, itself left out.
+fn nth_eligible(rows: &[Update], me: Endpoint, nth: usize) -> Option<Endpoint>
+    ensures { IfSome result (IsDrawnFrom me rows.now) }
+{
+    let mut left = nth;
+    for row in rows {
+        if is_eligible(row, me) {
+            if left == 0 {
+                return Some(row.who);
+            }
+            left -= 1;
+        }
+    }
+    None
+}
+
+/// The eligible member that a random word draws from these rows, itself left out; none if there is none.
+pub(crate) fn draw(rows: &[Update], me: Endpoint, word: u32) -> Option<Endpoint>
+    ensures { IfSome result (IsDrawnFrom me rows.now) }
+{
+    let count = count_eligible(rows, me);
+    if count == 0 {
+        return None;
+    }
+    nth_eligible(rows, me, word as usize % count)
+}

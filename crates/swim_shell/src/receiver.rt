@@ -1,0 +1,121 @@
+//! The worker that receives.
+
+ghost use Rattle.std.specs.Prelude.{◌≡◌, None};
+ghost use Rattle.swim_shell.specs.Inbounds.{receiver_view, Takes, kept_after};
+
+use crate::arrival::Arrival;
+use crate::caller::{Caller, Refusal};
+use crate::inbound::Inbound;
+use crate::worker::{Worker, WorkerEnd};
+use arrayvec::ArrayVec;
+
+/// A receiver ends after so many failed receives in a row.
+pub const FAILURES_MAX: u8 = 16;
+
+/// Enters each datagram of an inbound by one call, and each failure of it by one. What finds the era full is kept, and is
+/// the first that it enters in the next one.
+#[derive(Drop)]
+pub struct Receiver<I: Inbound> {
+    inbound: I,
+    /// How many receives in a row have failed, counted up to 16.
+    failed: u8,
+    /// What came and found the era full.
+    kept: Option<Arrival>,
+}
+
+/// What waits for the next era after a call for this was refused so.
+fn kept_after(why: Refusal, arrival: Arrival) -> Option<Arrival>
+    ensures { result ≡ kept_after why arrival }
+{
+    match why {
+        Refusal::EraFull => Some(arrival),
+        Refusal::Memory | Refusal::Unread => None,
+    }
+}
+
+impl<I: Inbound> Receiver<I> {
+    /// A receiver of what comes.
+    pub fn new(inbound: I) -> Receiver<I>
+        ensures inbound { result.inbound ≡ inbound }
+        ensures nothing { (result.failed ≡ 0) × (result.kept ≡ None) }
+    {
+        Receiver {
+            inbound,
+            failed: 0,
+            kept: None,
+        }
+    }
+
+    /// What the inbound gives next; none where nothing came.
+    #[tactic(auto, using(crate::proofs::Receiving::takes_answer))]
+    fn receive(&mut self) -> Option<Arrival>
+        requires { self.old.kept ≡ None }
+        ensures takes { Takes I.tells (receiver_view (I.came self.old.inbound)
+            (I.failures self.old.inbound) self.old.failed self.old.kept) (receiver_view
+            (I.came self.new.inbound) (I.failures self.new.inbound) self.new.failed
+            self.new.kept) result }
+        ensures kept { self.new.kept ≡ None }
+    {
+        let mut bytes = ArrayVec::new();
+        match self.inbound.receive(&mut bytes) {
+            Ok(Some(from)) => {
+                self.failed = 0;
+                Some(Arrival::Datagram { from, bytes })
+            }
+            Ok(None) => {
+                self.failed = 0;
+                None
+            }
+            Err(_) => {
+                self.failed = self.failed.saturating_add(1).min(FAILURES_MAX);
+                Some(Arrival::Failure)
+            }
+        }
+    }
+
+    /// What is entered next: what waits, or else what the inbound gives; none where nothing came.
+    #[tactic(auto, using(crate::proofs::Receiving::takes_kept))]
+    fn take(&mut self) -> Option<Arrival>
+        ensures takes { Takes I.tells (receiver_view (I.came self.old.inbound)
+            (I.failures self.old.inbound) self.old.failed self.old.kept) (receiver_view
+            (I.came self.new.inbound) (I.failures self.new.inbound) self.new.failed
+            self.new.kept) result }
+        ensures kept { self.new.kept ≡ None }
+    {
+        match self.kept.take() {
+            Some(arrival) => Some(arrival),
+            None => self.receive(),
+        }
+    }
+}
+
+impl<C: Caller, I: Inbound> Worker<C> for Receiver<I> {
+    ghost use Rattle.swim_shell.specs.Work.{LastOf};
+    ghost use Rattle.swim_shell.specs.Inbounds.{receiver_view, Receiving, ReceivesLast};
+
+    type End = WorkerEnd;
+
+    ghost worked = { λ a p b q n. Receiving I.tells (receiver_view (I.came a.inbound)
+        (I.failures a.inbound) a.failed a.kept) p (receiver_view (I.came b.inbound)
+        (I.failures b.inbound) b.failed b.kept) q n };
+
+    ghost ended = { λ end a p b q n. LastOf (Receiving I.tells) (ReceivesLast I.tells C.limit end)
+        (receiver_view (I.came a.inbound) (I.failures a.inbound) a.failed a.kept) p
+        (receiver_view (I.came b.inbound) (I.failures b.inbound) b.failed b.kept) q n };
+
+    #[tactic(auto, using(crate::proofs::Receiving::receiving_start))]
+    fn begin(&mut self) {}
+
+    #[tactic(auto, using(crate::proofs::Receiving::receiving_nothing, crate::proofs::Receiving::receiving_turn))]
+    fn turn(&mut self, caller: &mut C) -> Option<WorkerEnd> {
+        let arrival = self.take()?;
+        match caller.call(arrival.event()) {
+            Ok(_) if self.failed >= FAILURES_MAX => Some(WorkerEnd::Fault),
+            Ok(_) => None,
+            Err(refusal) => {
+                self.kept = kept_after(refusal, arrival);
+                Some(WorkerEnd::Refused(refusal))
+            }
+        }
+    }
+}
