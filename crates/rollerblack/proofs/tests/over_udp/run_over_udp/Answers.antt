@@ -1,0 +1,10 @@
+use denote.Param.Send.{sendable}
+use Rattle.std.proofs.Crossing.{crosses}
+use Rattle.swim_net.proofs.Crosses.{UdpInbound-send, UdpLink-send}
+use Rattle.rollerblack.proofs.tests.over_udp.run_over_udp.Goals as goal
+
+pub run_member-requires-send-I : goal.run_member-requires-send-I
+run_member-requires-send-I g c κs within = search (sendable, crosses, UdpInbound-send) depth 30
+
+pub run_member-requires-send-M : goal.run_member-requires-send-M
+run_member-requires-send-M g c κs within = search (sendable, crosses, UdpLink-send) depth 30

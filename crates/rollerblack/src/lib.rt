@@ -1,0 +1,230 @@
+//! A member of a SWIM group that no restart harms, for programs that embed one: every name that such a program needs, from the
+//! crates that have them. Their contracts say what is promised; docs/NODE.md has the rules of a call, of eras and of lives.
+//!
+//! The code below stands in `src/tests`, where it is compiled and run, but for the last program.
+//!
+//! # Driven by hand
+//!
+//! A member is a value. It is on a state file, takes one event a call, and hands what it sends to a link. Here the file is on a
+//! disk in memory, the link keeps what it takes, and another member suspects this one. So it takes a number that is in the file
+//! before it is sent, and the next life, as after a crash, begins above that.
+//!
+//! ```text
+//! /// A ping by which a member tells another one that it is suspected with this number; none if there is no such number.
+//! fn suspicion(from: Endpoint, to: Endpoint, number: u64) -> Option<Event> {
+//!     let mut updates = ArrayVec::new();
+//!     updates.push(Update {
+//!         kind: UpdateKind::Suspect,
+//!         who: to,
+//!         number,
+//!     });
+//!     let ping = Datagram {
+//!         version: Rules::One,
+//!         kind: Kind::Ping,
+//!         group: 7,
+//!         seq: 1,
+//!         sender: from,
+//!         subject: Cursor::at(to),
+//!         updates,
+//!     };
+//!     if !ping.is_encodable() {
+//!         return None;
+//!     }
+//!     let mut bytes: ArrayVec<u8, RECEIVED_MAX> = ArrayVec::new();
+//!     let _ = bytes.try_extend_from_slice(&encode(&ping));
+//!     Some(Event::Datagram { from, bytes })
+//! }
+//!
+//! /// The next call of the one caller.
+//! fn call<L: Link>(
+//!     node: &mut Node<MemDisk>,
+//!     link: &mut L,
+//!     event: Event,
+//! ) -> Result<Reply, ApplyFault> {
+//!     let turn = node.turns(0) + 1;
+//!     node.apply(link, Tag { caller: 0, turn }, event)
+//! }
+//!
+//! /// What is left of a life.
+//! #[derive(Drop)]
+//! struct Lived {
+//!     disk: MemDisk,
+//!     first: u64,
+//!     last: u64,
+//! }
+//!
+//! /// A life of the member: it ticks, another member suspects it, and it refutes that by a number that is in its state file.
+//! fn live(alloc: Global, disk: MemDisk, me: Endpoint, peer: Endpoint) -> Result<Lived, &'static str> {
+//!     let opened = Node::open(alloc, disk, Settings::usual(7, me), LIMIT);
+//!     let mut node = opened.map_err(|_| "an opening")?;
+//!     let mut link = MemoryLink::new(alloc, 1);
+//!     let tick = Event::Tick {
+//!         deal: Deal::from_first(0),
+//!     };
+//!     call(&mut node, &mut link, tick).map_err(|_| "a tick")?;
+//!     let suspected = suspicion(peer, me, node.first()).ok_or("a number")?;
+//!     let reply = call(&mut node, &mut link, suspected).map_err(|_| "a datagram")?;
+//!     Ok(Lived {
+//!         first: node.first(),
+//!         last: reply.status.number,
+//!         disk: node.into_disk(),
+//!     })
+//! }
+//!
+//! /// Each life begins above the numbers of the one before.
+//! #[test]
+//! fn lives_by_hand(rt: HostRuntime) -> Result<(), Fail> {
+//!     let alloc = rt.alloc();
+//!     let me = Endpoint::new(0x0a00_0001, 7000).ok_or("an endpoint")?;
+//!     let peer = Endpoint::new(0x0a00_0002, 7000).ok_or("an endpoint")?;
+//!     let mut disk = MemDisk::new(alloc, 1, Vec::new(alloc));
+//!     init(&mut disk, Owner { group: 7, me }, 0).map_err(|_| "a state file")?;
+//!     let one = live(alloc, disk, me, peer)?;
+//!     assert_eq!(&rt; (one.first, one.last), (1, 2));
+//!     let two = live(alloc, one.disk, me, peer)?;
+//!     assert_eq!(&rt; (two.first, two.last), (3, 4));
+//!     Ok(())
+//! }
+//! ```
+//!
+//! A call that is refused as `EraFull` wants `Node::rebase` first, which begins the next era: a journal grows no further than its
+//! limit. Threads of one's own call a member by `Shared`; `two-callers` of `crates/swim_under_lock` is such a program.
+//!
+//! # Over UDP
+//!
+//! `run_member` gives a member workers on threads of their own: one takes datagrams, one ticks, one sends, and one answers control
+//! lines and joins other members. It ends by the control line `stop`, or by a fault.
+//!
+//! ```text
+//! /// Runs a member until a control connection says `stop`. An error is what was refused. Its datagrams come in at the
+//! /// address `at`, by which the others have to know it: that of `settings.me`.
+//! fn run_over_udp<D, R, T>(
+//!     rt: &R,
+//!     logged: &T,
+//!     disk: D,
+//!     settings: Settings,
+//!     at: SocketAddr,
+//!     control: TcpListener,
+//! ) -> Result<(), &'static str>
+//! where
+//!     D: Disk + Send + Drop,
+//!     R: Net<Listener = TcpListener, Stream = TcpStream> + RandomSource + AllocGlobal,
+//!     T: Threads + Wait + Log + Clock + Send + Sync + Copy + Drop,
+//! {
+//!     let alloc = rt.alloc();
+//!     let tick = Duration::from_millis(TICK_MILLIS);
+//!     let bound = bind_datagrams(rt, logged, alloc, at, tick);
+//!     let (inbound, link, datagrams) = bound.map_err(|_| "a socket")?;
+//!     let (waits, connections) = Waits::new(rt, alloc).map_err(|_| "waits")?;
+//!     let doors = TcpDoors::new(control, &waits, logged, tick).map_err(|_| "control")?;
+//!     settings.check().map_err(|_| "settings")?;
+//!     let node = Node::open(alloc, disk, settings, LIMIT).map_err(|_| "a state file")?;
+//!     let mut key = [0; 32];
+//!     rt.fill_bytes(&mut key).map_err(|_| "a random key")?;
+//!     let rng = ChaCha20Rng::from_seed(key);
+//!     let mut draws = ChaCha20Rng::from_seed(key);
+//!     draws.set_stream(1);
+//!     let paces = Paces {
+//!         answer: tick.saturating_mul(3),
+//!         period: tick.saturating_mul(10),
+//!         rejoin: None,
+//!     };
+//!     let peers = ArrayVec::new();
+//!     let joiner = Joiner::new(settings.me, settings.rules_of(), peers, paces, draws);
+//!     let outside = Outside {
+//!         receiver: Receiver::new(inbound),
+//!         ticker: Ticker { rng },
+//!         beat: Beat::new(tick, settings.period.saturating_mul(2)),
+//!         link,
+//!         owed: 0,
+//!         desk: Desk::new(*logged, joiner, doors),
+//!         logs: Logs::new(settings.me, node.first()),
+//!     };
+//!     run_member(logged, alloc, node, outside, &[datagrams, connections]).map_err(|_| "a worker")
+//! }
+//! ```
+//!
+//! With this it is a whole program, on a state file that `swim init` or `init` has made. Only one process may have that file.
+//!
+//! ```text
+//! /// The state file as a disk, which this process has locked until it ends.
+//! fn locked_disk<R: Files<File = File> + AllocGlobal>(
+//!     rt: &R,
+//!     path: &str,
+//! ) -> Result<FileDisk, &'static str> {
+//!     let mut options = OpenOptions::new();
+//!     options.read(true).write(true);
+//!     let file = options.open(rt, path).map_err(|_| "a state file")?;
+//!     file.try_lock().map_err(|_| "a lock")?;
+//!     FileDisk::load(rt.alloc(), file).map_err(|_| "a state file")
+//! }
+//!
+//! /// Runs the member 127.0.0.1:7000 of group 7. An error is what was refused.
+//! fn run<T: Threads + Wait + Log + Clock + Send + Sync + Copy + Drop>(
+//!     rt: &HostRuntime,
+//!     logged: &T,
+//! ) -> Result<(), &'static str> {
+//!     let me = Endpoint::new(0x7f00_0001, 7000).ok_or("an endpoint")?;
+//!     let disk = locked_disk(rt, "member.state")?;
+//!     let control = TcpListener::bind(rt, "127.0.0.1:7001").map_err(|_| "a control socket")?;
+//!     run_over_udp(rt, logged, disk, Settings::usual(7, me), address_of(me), control)
+//! }
+//!
+//! fn main(rt: HostRuntime) -> ExitCode {
+//!     let logged = Logged::new(rt, LevelFilter::Warn, Console(rt));
+//!     match run(&rt, &logged) {
+//!         Ok(()) => ExitCode::SUCCESS,
+//!         Err(refused) => {
+//!             let _ = eprintln!(rt; "refused: {refused}");
+//!             ExitCode::FAILURE
+//!         }
+//!     }
+//! }
+//! ```
+//!
+//! What takes the place of the sockets is a type of one's own: an `Inbound` that is `Alarmed` gives datagrams, a `Link` takes them,
+//! and `Doors` give control connections. A check asks that the disk, the inbound and the link may go to another thread: for these
+//! sockets `proofs/tests/over_udp` has the answers, and for a `FileDisk` `proofs/running` of `swim_cli`.
+//!
+//! A program names this crate in its line of `crates.txt`, and no other for what stands here.
+#![tactic(auto)]
+
+// Whom a datagram names, and what it says of them.
+pub use swim_wire::{
+    Cursor, Datagram, Endpoint, Kind, NUMBER_MAX, Rules, Update, UpdateKind, WireFault, decode,
+    encode,
+};
+
+// What happens to a member, and what it answers.
+pub use swim_member::{Deal, Event, Note, Phase, RECEIVED_MAX, Settings, SettingsFault};
+
+// Where its state file is, and how it is made.
+pub use swim_disk::{Choice, Disk, DiskFault, FileDisk, MOST_BYTES, MemDisk};
+pub use swim_state::{InitFault, Owner, PEERS_MAX, Peers, RecoverFault, SaveFault, init};
+
+// The member on its state file, one call at a time.
+pub use swim_node::{
+    ApplyFault, Entry, Era, LIMIT_MAX, Link, LinkFault, MemoryLink, Node, OpenFault, Outcome,
+    Reply, Save, Status, Tag, Taken,
+};
+
+// The member behind a lock, for threads of one's own.
+pub use swim_shared::{CallFault, Closed, ClosedSent, Name, Outbox, Parts, Pass, Shared, Watch};
+
+// The workers of a member that runs, and what they ask of their surroundings.
+pub use swim_serve::{Beat, Desk, Fault, Logs, Outside, run_member};
+pub use swim_shell::{
+    Alarm, Alarmed, Caller, ControlEnd, Doors, Inbound, Joiner, LIST_MAX, Observer, Paces,
+    ReceiveFault, Receiver, Refusal, Ticker, WorkerEnd,
+};
+
+// The sockets that it usually has.
+pub use swim_net::{SocketAlarm, TcpDoors, UdpInbound, UdpLink, Waits, address_of, bind_datagrams};
+
+// What some of these are made of.
+pub use arrayvec::ArrayVec;
+pub use rand_chacha::ChaCha20Rng;
+pub use rand_core::SeedableRng;
+
+#[cfg(test)]
+mod tests;

@@ -1,0 +1,91 @@
+//! A member that runs over UDP.
+
+use crate::{
+    ArrayVec, Beat, ChaCha20Rng, Desk, Disk, Endpoint, Joiner, Logs, MemDisk, Node, Outside, Owner,
+    Paces, Receiver, SeedableRng, Settings, TcpDoors, Ticker, Waits, bind_datagrams, init,
+    run_member,
+};
+use log::Log;
+use std::io::{Read, Write};
+use std::net::{Ipv4Addr, Net, SocketAddr, SocketAddrV4, TcpListener, TcpStream};
+use std::random::RandomSource;
+use std::sync::Wait;
+use std::test::Fail;
+use std::thread::Threads;
+use std::time::{Clock, Duration};
+
+/// How many entries an era has at most.
+const LIMIT: u32 = 4096;
+
+/// How long a tick lasts, in milliseconds. No socket waits longer.
+const TICK_MILLIS: u64 = 100;
+
+/// Runs a member until a control connection says `stop`. An error is what was refused. Its datagrams come in at the
+/// address `at`, by which the others have to know it: that of `settings.me`.
+fn run_over_udp<D, R, T>(
+    rt: &R,
+    logged: &T,
+    disk: D,
+    settings: Settings,
+    at: SocketAddr,
+    control: TcpListener,
+) -> Result<(), &'static str>
+where
+    D: Disk + Send + Drop,
+    R: Net<Listener = TcpListener, Stream = TcpStream> + RandomSource + AllocGlobal,
+    T: Threads + Wait + Log + Clock + Send + Sync + Copy + Drop,
+{
+    let alloc = rt.alloc();
+    let tick = Duration::from_millis(TICK_MILLIS);
+    let bound = bind_datagrams(rt, logged, alloc, at, tick);
+    let (inbound, link, datagrams) = bound.map_err(|_| "a socket")?;
+    let (waits, connections) = Waits::new(rt, alloc).map_err(|_| "waits")?;
+    let doors = TcpDoors::new(control, &waits, logged, tick).map_err(|_| "control")?;
+    settings.check().map_err(|_| "settings")?;
+    let node = Node::open(alloc, disk, settings, LIMIT).map_err(|_| "a state file")?;
+    let mut key = [0; 32];
+    rt.fill_bytes(&mut key).map_err(|_| "a random key")?;
+    let rng = ChaCha20Rng::from_seed(key);
+    let mut draws = ChaCha20Rng::from_seed(key);
+    draws.set_stream(1);
+    let paces = Paces {
+        answer: tick.saturating_mul(3),
+        period: tick.saturating_mul(10),
+        rejoin: None,
+    };
+    let peers = ArrayVec::new();
+    let joiner = Joiner::new(settings.me, settings.rules_of(), peers, paces, draws);
+    let outside = Outside {
+        receiver: Receiver::new(inbound),
+        ticker: Ticker { rng },
+        beat: Beat::new(tick, settings.period.saturating_mul(2)),
+        link,
+        owed: 0,
+        desk: Desk::new(*logged, joiner, doors),
+        logs: Logs::new(settings.me, node.first()),
+    };
+    run_member(logged, alloc, node, outside, &[datagrams, connections]).map_err(|_| "a worker")
+}
+
+/// An address of this machine with a port that is free.
+fn free_address() -> SocketAddrV4 {
+    SocketAddrV4::new(Ipv4Addr::new(127, 0, 0, 1), 0)
+}
+
+/// A member shows itself over the control connection, and ends.
+#[test]
+fn runs_until_stopped(rt: HostRuntime) -> Result<(), Fail> {
+    let me = Endpoint::new(0x7f00_0001, 7000).ok_or("an endpoint")?;
+    let mut disk = MemDisk::new(rt.alloc(), 1, Vec::new(rt.alloc()));
+    init(&mut disk, Owner { group: 7, me }, 0).map_err(|_| "a state file")?;
+    let control = TcpListener::bind(&rt, free_address())?;
+    let mut asks = TcpStream::connect(&rt, control.local_addr()?)?;
+    asks.write_all(b"members\nstop\n")?;
+    let at = SocketAddr::V4(free_address());
+    run_over_udp(&rt, &rt, disk, Settings::usual(7, me), at, control)?;
+    let mut answer = Vec::new(rt.alloc());
+    asks.read_to_end(&mut answer)?;
+    let want = b"ok 1\nalive 127.0.0.1:7000 1\nok stopping\n";
+    assert_eq!(&rt; answer.as_slice(), want.as_slice());
+    Ok(())
+}
