@@ -1,0 +1,74 @@
+"""What a test starts: the program, with a folder for its files. In the end no process and no file of it is left."""
+
+import subprocess
+from contextlib import contextmanager, suppress
+from types import SimpleNamespace
+from typing import NamedTuple
+
+from lib.trials import Wrong, folder_for, undisturbed
+
+LONGEST = 300  # seconds that what ends by itself may take, as a long script in a program without proof
+PLACE = SimpleNamespace(program=None, folder=None, is_over=False)
+STARTED = []
+
+
+class Ran(NamedTuple):
+    """How a program ended, and what it printed."""
+
+    status: int
+    out: str
+    err: str
+
+
+@contextmanager
+def place_for(program, keep=None):
+    """Which program it is and where its files lie: in a folder to keep, or one that is gone in the end."""
+    with folder_for(keep) as folder:
+        PLACE.program, PLACE.folder, PLACE.is_over = str(program), folder, False
+        try:
+            yield
+        finally:
+            with undisturbed():
+                PLACE.is_over = True
+                end_started()
+
+
+def start(command, **more):
+    """A process that is ended with the test."""
+    with undisturbed():
+        if PLACE.is_over:
+            raise Wrong("the test is over")
+        process = subprocess.Popen(list(map(as_word, command)), **more)
+        STARTED.append(process)
+    return process
+
+
+def as_word(word):
+    return word if isinstance(word, bytes) else str(word)
+
+
+def run_to_its_end(command, input=None, **more):
+    """What a command prints, and its status."""
+    streams = {"stdin": subprocess.DEVNULL if input is None else subprocess.PIPE, "stdout": subprocess.PIPE}
+    with start(command, **{**streams, "stderr": subprocess.PIPE, **more}) as process:
+        try:
+            out, err = process.communicate(input, LONGEST)
+        except BaseException:
+            process.kill()
+            raise
+        with suppress(ValueError):  # it is being ended
+            STARTED.remove(process)
+    return Ran(process.returncode, (out or b"").decode(), (err or b"").decode())
+
+
+def swim(*words, **more):
+    return run_to_its_end([PLACE.program, *words], **more)
+
+
+def end_started():
+    """Ends each process that is still there, by its id."""
+    while STARTED:
+        process = STARTED.pop()
+        if process.poll() is None:
+            process.kill()
+            process.wait()

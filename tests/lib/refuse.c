@@ -1,0 +1,73 @@
+/* Refuses memory to the program that it is loaded before (LD_PRELOAD). tests/refuse builds it.
+
+   REFUSE_AT=N     refuses the N-th allocation, and that one alone
+   REFUSE_FROM=N   refuses the N-th allocation and each one after it
+   REFUSE_TOLD=FD  writes one byte to this descriptor at the first refusal */
+
+#include <errno.h>
+#include <stdatomic.h>
+#include <stddef.h>
+#include <stdlib.h>
+#include <unistd.h>
+
+extern void *__libc_malloc(size_t);
+extern void *__libc_calloc(size_t, size_t);
+extern void *__libc_realloc(void *, size_t);
+extern void *__libc_memalign(size_t, size_t);
+
+static _Atomic long made;
+static _Atomic int told;
+
+static long number_in(const char *name)
+{
+    const char *text = getenv(name);
+    return text ? atol(text) : 0;
+}
+
+static int is_refused(void)
+{
+    static _Atomic int is_read;
+    static long at, from, descriptor;
+    if (!is_read) {
+        at = number_in("REFUSE_AT");
+        from = number_in("REFUSE_FROM");
+        descriptor = number_in("REFUSE_TOLD");
+        is_read = 1;
+    }
+    long number = ++made;
+    if (number != at && (!from || number < from))
+        return 0;
+    if (descriptor && !atomic_exchange(&told, 1) && write((int)descriptor, "r", 1) < 0)
+        abort();
+    errno = ENOMEM;
+    return 1;
+}
+
+void *malloc(size_t size)
+{
+    return is_refused() ? NULL : __libc_malloc(size);
+}
+
+void *calloc(size_t count, size_t size)
+{
+    return is_refused() ? NULL : __libc_calloc(count, size);
+}
+
+void *realloc(void *old, size_t size)
+{
+    return is_refused() ? NULL : __libc_realloc(old, size);
+}
+
+void *aligned_alloc(size_t alignment, size_t size)
+{
+    return is_refused() ? NULL : __libc_memalign(alignment, size);
+}
+
+int posix_memalign(void **place, size_t alignment, size_t size)
+{
+    void *made_here = is_refused() ? NULL : __libc_memalign(alignment, size);
+    if (!made_here)
+        return ENOMEM;
+    *place = made_here;
+    return 0;
+}
