@@ -1,0 +1,153 @@
+//! What happens to a member of a group: an event, or a datagram that is delivered.
+
+ghost use Rattle.std.specs.Prelude.{◌≡◌, ◌+◌, ◌≤◌, ◌<◌, ◌↔◌, ◌++◌, length, take, vec_len, IsTrue, Some, Err, OnOk, OnErr};
+ghost use Rattle.std.specs.Vec.{vec_capacity};
+ghost use Rattle.swim_wire.specs.Spelling.{HasText};
+ghost use Rattle.swim_member.specs.declared.answer.TheConstants.{OUTS_MAX};
+ghost use Rattle.swim_group.specs.declared.fault.GroupFault.TheVariants as fault;
+ghost use Rattle.swim_group.specs.Network.{IsNotInvented};
+ghost use Rattle.swim_group.specs.Real.{HasRun, HasSoundRun, IsReadable, Arrives, Delivers, after_event};
+
+use crate::fault::GroupFault;
+use crate::group::Group;
+use arrayvec::ArrayVec;
+use swim_member::{Event, Member, OUTS_MAX, Out};
+use swim_wire::{decode, encode};
+
+/// Keeps datagrams as far as there is room. The rest is lost.
+fn keep(kept: &mut Vec<Out>, room: usize, outs: ArrayVec<Out, OUTS_MAX>)
+    requires within { length kept.old.items ≤ room }
+    requires memory { vec_len kept.old + OUTS_MAX ≤ vec_capacity kept.old }
+    ensures kept { kept.new.items ≡ take room (kept.old.items ++ outs.items) }
+    ensures within { length kept.new.items ≤ room }
+{
+    let mut left = outs;
+    let count = left.len().min(room - kept.len());
+    for i in 0..count {
+        kept.push_reserved(left.remove(0));
+    }
+}
+
+/// An event comes to a member, with the ceiling that is granted, or with its own number if that is above.
+fn happen(
+    members: &mut Vec<Member>,
+    kept: &mut Vec<Out>,
+    room: usize,
+    member: usize,
+    event: &Event,
+    granted: u64,
+)
+    requires there { member < length members.old.items }
+    requires sent { IsNotInvented kept.old.items event.now }
+    requires within { length kept.old.items ≤ room }
+    requires memory { vec_len kept.old + OUTS_MAX ≤ vec_capacity kept.old }
+    ensures run { HasRun members.old.items kept.old.items
+        → HasRun members.new.items kept.new.items }
+    ensures event { after_event
+        record { members = members.old.items; kept = kept.old.items; room = room }
+        member event.now granted
+        ≡ Some (record { members = members.new.items; kept = kept.new.items; room = room }) }
+    ensures within { length kept.new.items ≤ room }
+{
+    let ceiling = granted.max(members[member].number());
+    // a history may go on from the state as it is
+    let _ = members[member].base();
+    let answer = members[member].step(event, ceiling);
+    keep(kept, room, answer.outs);
+}
+
+/// Whether what comes is a datagram.
+fn is_readable(event: &Event) -> bool
+    ensures { IsTrue result ↔ IsReadable event.now }
+{
+    match event {
+        Event::Datagram { bytes, .. } => decode(bytes.as_slice()).is_ok(),
+        _ => false,
+    }
+}
+
+/// A datagram as it arrives: its text, from its sender.
+fn arrival(out: &Out) -> Event
+    requires { HasText out.now.datagram }
+    ensures { Arrives out.now result }
+{
+    let text = encode(&out.datagram);
+    let mut bytes = ArrayVec::new();
+    if bytes.try_extend_from_slice(text.as_slice()).is_err() {
+        unreachable!()
+    }
+    // the text is read as this datagram
+    let _ = decode(bytes.as_slice());
+    Event::Datagram {
+        from: out.datagram.sender,
+        bytes,
+    }
+}
+
+impl Group {
+    /// An event comes to a member, with the ceiling `granted`, or with its own number if that is above: any event but a
+    /// datagram that can be read, which `deliver` brings. What the member sends is kept as far as there is room.
+    pub fn step(&mut self, member: usize, event: &Event, granted: u64) -> Result<(), GroupFault>
+        // the member goes on by this event, no other changes, and nothing but what it sends is kept
+        ensures ok { OnOk result (after_event self.old member event.now granted ≡ Some self.new) }
+        ensures missing { (result ≡ Err fault.NoMember) ↔ (length self.old.members ≤ member) }
+        ensures readable { result ≡ Err fault.Readable → IsReadable event.now }
+        ensures err { OnErr result (self.new ≡ self.old) }
+        // these are the members and datagrams of a run in which nothing is invented and no number is passed
+        ensures run { HasSoundRun self.new }
+    {
+        if self.members.len() <= member {
+            return Err(GroupFault::NoMember);
+        }
+        if is_readable(event) {
+            return Err(GroupFault::Readable);
+        }
+        if self.kept.reserve(OUTS_MAX).is_err() {
+            return Err(GroupFault::NoMemory);
+        }
+        happen(
+            &mut self.members,
+            &mut self.kept,
+            self.room,
+            member,
+            event,
+            granted,
+        );
+        Ok(())
+    }
+
+    /// A datagram that is kept comes to a member, whomever it was sent to, with the ceiling `granted`, or with the
+    /// member's own number if that is above. It stays, and may come again.
+    pub fn deliver(
+        &mut self,
+        member: usize,
+        datagram: usize,
+        granted: u64,
+    ) -> Result<(), GroupFault>
+        ensures ok { OnOk result (Delivers self.old self.new member datagram granted) }
+        ensures missing { (result ≡ Err fault.NoMember) ↔ (length self.old.members ≤ member) }
+        ensures no_datagram { result ≡ Err fault.NoDatagram → length self.old.kept ≤ datagram }
+        ensures err { OnErr result (self.new ≡ self.old) }
+        ensures run { HasSoundRun self.new }
+    {
+        if self.members.len() <= member {
+            return Err(GroupFault::NoMember);
+        }
+        if self.kept.len() <= datagram {
+            return Err(GroupFault::NoDatagram);
+        }
+        if self.kept.reserve(OUTS_MAX).is_err() {
+            return Err(GroupFault::NoMemory);
+        }
+        let event = arrival(&self.kept[datagram]);
+        happen(
+            &mut self.members,
+            &mut self.kept,
+            self.room,
+            member,
+            &event,
+            granted,
+        );
+        Ok(())
+    }
+}
