@@ -12,9 +12,9 @@ use Rattle.swim_member.specs.Checks.{AreSound, fault_of}
 use Rattle.swim_member.specs.Events.{state_of, answer}
 use Rattle.swim_member.specs.Member.{new_state}
 use Rattle.swim_member.specs.State.{State}
-use Rattle.swim_group.specs.Group.{Group, Move, Begins, IsRun, after_moves, state_at}
+use Rattle.swim_group.specs.Group.{Group, Move, Begins, IsRunOf, after_moves, state_at}
 use Rattle.swim_group.specs.Network.{WasSent}
-use Rattle.swim_group.specs.Numbers.{IsTold, IsWithin}
+use Rattle.swim_group.specs.Numbers.{IsTold, IsUnpassed}
 use Rattle.swim_group.specs.declared.fault.GroupFault.{GroupFault}
 use Rattle.swim_group.specs.declared.fault.GroupFault.TheVariants.{OtherName, Unsound, NoNumberLeft}
 use Rattle.swim_member.specs.declared.event.Event.TheVariants as event
@@ -32,16 +32,17 @@ pub record HasRun (members : List State) (kept : List Out) : Type 0 where
   pub group : Group
   pub moves : List Move
   pub begins : Begins group
-  pub run : IsRun group moves
+  pub run : IsRunOf group moves
   pub states : map state_at (after_moves group moves).places ≡ members
-  pub sent : AllByRecursion (λ (out : Out). WasSent (after_moves group moves).sent out.datagram) kept
+  pub sent : AllByRecursion (λ (out : Out).
+      WasSent (after_moves group moves).sent out.datagram) kept
   pub fit : AllByRecursion (λ (out : Out). HasText out.datagram) kept
 
 -- and in this run nothing is invented, and no number is passed
 pub record HasSoundRun (view : RealGroup) : Type 0 where
   pub ran : HasRun view.members view.kept
   pub told : IsTold (after_moves ran.group ran.moves)
-  pub within : AllByRecursion (IsWithin (after_moves ran.group ran.moves))
+  pub within : AllByRecursion (IsUnpassed (after_moves ran.group ran.moves))
       (after_moves ran.group ran.moves).places
 
 -- the names in these settings
