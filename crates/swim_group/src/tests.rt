@@ -1,0 +1,155 @@
+//! Small groups, by tables of what happens. What each row expects was written by hand.
+
+ghost use Rattle.std.specs.Prelude.{◌≡◌, ◌+◌, ◌*◌, ◌<◌};
+ghost use Rattle.swim_member.specs.Checks.{AreSound};
+
+use super::*;
+use std::alloc::{AllocError, Global};
+use std::process::Abort;
+use swim_member::{Event, Settings};
+use swim_wire::Endpoint;
+
+/// The endpoint 10.0.0.`last`:7000.
+fn endpoint(last: u32) -> Endpoint
+    requires { last < 65536 }
+    ensures { result ≡ (0x0a00_0000 + last) * 65536 + 7000 }
+{
+    Endpoint::new(0x0a00_0000 + last, 7000).unwrap()
+}
+
+/// The settings of 10.0.0.`last`:7000.
+fn settings(last: u32) -> Settings
+    requires { last < 65536 }
+    ensures sound { AreSound result }
+    ensures name { result.me ≡ (0x0a00_0000 + last) * 65536 + 7000 }
+{
+    Settings::usual(7, endpoint(last))
+}
+
+/// Three members, with room for 8 datagrams.
+fn three(alloc: Global) -> Result<Group, AllocError> {
+    let all = [settings(1), settings(2), settings(3)];
+    Group::new(alloc, &all, 8)
+}
+
+/// What happens to a group. The members are counted from 0, and so are the datagrams.
+#[derive(Clone, Copy, Debug)]
+enum Happening {
+    /// A member asks the one with the endpoint 10.0.0.`peer`:7000 for all that it knows.
+    Join { member: usize, peer: u32 },
+    /// A kept datagram comes to a member.
+    Deliver { member: usize, datagram: usize },
+    /// A member begins anew.
+    Restart { member: usize, last: u32 },
+    /// A kept datagram is lost.
+    Lose { datagram: usize },
+}
+
+use Happening::{Deliver, Join, Lose, Restart};
+
+/// Does it.
+fn apply(group: &mut Group, happening: Happening) -> Result<(), GroupFault> {
+    match happening {
+        Join { member, peer } => {
+            let peer = endpoint(peer % 256);
+            group.step(member, &Event::Join { peer }, 0)
+        }
+        Deliver { member, datagram } => group.deliver(member, datagram, 0),
+        Restart { member, last } => group.restart(member, settings(last % 256)),
+        Lose { datagram } => group.lose(datagram),
+    }
+}
+
+/// The number of a member, and how many datagrams are kept.
+fn number(group: &Group, member: usize) -> Option<u64> {
+    group.members().get(member).map(|one| one.number())
+}
+
+/// The number in a member's first row, if it has a row.
+fn row(group: &Group, member: usize) -> Option<u64> {
+    let one = group.members().get(member)?;
+    one.eligible(0).map(|row| row.update.number)
+}
+
+#[test]
+fn begins_anew_and_is_believed(rt: HostRuntime) {
+    let mut group = three(rt.alloc()).ok().expect(&rt, "memory");
+    // what happens; then how many datagrams are kept, the number of the second member, and the first member's row of it
+    let rows = [
+        (Join { member: 1, peer: 1 }, 1, Some(1), None),
+        (
+            Deliver {
+                member: 0,
+                datagram: 0,
+            },
+            2,
+            Some(1),
+            Some(1),
+        ),
+        (
+            Deliver {
+                member: 1,
+                datagram: 1,
+            },
+            2,
+            Some(1),
+            Some(1),
+        ),
+        (Restart { member: 1, last: 2 }, 2, Some(2), Some(1)),
+        (Join { member: 1, peer: 1 }, 3, Some(2), Some(1)),
+        (
+            Deliver {
+                member: 0,
+                datagram: 2,
+            },
+            4,
+            Some(2),
+            Some(2),
+        ),
+        // the join of its earlier life comes once more
+        (
+            Deliver {
+                member: 0,
+                datagram: 0,
+            },
+            5,
+            Some(2),
+            Some(2),
+        ),
+        (Lose { datagram: 4 }, 4, Some(2), Some(2)),
+    ];
+    for (happening, kept, second, first) in rows {
+        assert_eq!(rt; apply(&mut group, happening), Ok(()), "{happening:?}");
+        assert_eq!(rt; group.kept().len(), kept, "{happening:?}");
+        assert_eq!(rt; number(&group, 1), second, "{happening:?}");
+        assert_eq!(rt; row(&group, 0), first, "{happening:?}");
+    }
+}
+
+#[test]
+fn refuses(rt: HostRuntime) {
+    let mut group = three(rt.alloc()).ok().expect(&rt, "memory");
+    let rows = [
+        (Join { member: 3, peer: 1 }, GroupFault::NoMember),
+        (
+            Deliver {
+                member: 3,
+                datagram: 0,
+            },
+            GroupFault::NoMember,
+        ),
+        (
+            Deliver {
+                member: 0,
+                datagram: 0,
+            },
+            GroupFault::NoDatagram,
+        ),
+        (Restart { member: 3, last: 3 }, GroupFault::NoMember),
+        (Restart { member: 1, last: 3 }, GroupFault::OtherName),
+        (Lose { datagram: 0 }, GroupFault::NoDatagram),
+    ];
+    for (happening, fault) in rows {
+        assert_eq!(rt; apply(&mut group, happening), Err(fault), "{happening:?}");
+    }
+}
