@@ -60,7 +60,7 @@ fn apply(group: &mut Group, happening: Happening) -> Result<(), GroupFault> {
     }
 }
 
-/// The number of a member, and how many datagrams are kept.
+/// The number of a member.
 fn number(group: &Group, member: usize) -> Option<u64> {
     group.members().get(member).map(|one| one.number())
 }
