@@ -1,5 +1,7 @@
 -- What changed from one list of rows to a later one.
-use Rattle.std.specs.Prelude.{◌≡◌, ◌≢◌, ℕ, ◌+◌, ◌≤◌, List, [], ◌∷◌, ◌++◌}
+use Rattle.std.specs.Prelude.{◌≡◌, ◌≢◌, ℕ, ◌+◌, ◌-◌, ◌≤◌, List, []}
+use Rattle.std.specs.Prelude.{◌∷◌, ◌++◌, length, slice_get, Option}
+use Rattle.std.specs.Option.{option_map}
 use Rattle.swim_wire.specs.declared.update.Update.{Update}
 use Rattle.swim_news.specs.declared.change.Change.{Change}
 use Rattle.swim_news.specs.declared.change.Change.TheVariants.{New, Changed, Gone}
@@ -8,6 +10,10 @@ use Rattle.swim_news.specs.declared.change.Change.TheVariants.{New, Changed, Gon
 abbrev pub AreFrom : ℕ → List Update → Type 0
 AreFrom x [] = Unit {0}
 AreFrom x (r ∷ rows) = (x ≤ r.who) × AreFrom (r.who + 1) rows
+
+-- the member of the last row, if there is one
+abbrev pub last_of : List Update → Option ℕ
+last_of rows = option_map (λ (r : Update). r.who) (slice_get rows (length rows - 1))
 
 -- what became of a member's row: it is as it was, or it changed
 pub data Became : Type 0 where

@@ -1,7 +1,7 @@
 //! Rows of all members at one time.
 
-ghost use Rattle.std.specs.Prelude.{◌≡◌, ◌≤◌, ◌++◌, ◌∷◌, [], length, IsTrue, IsFalse};
-ghost use Rattle.swim_news.specs.News.{AreFrom};
+ghost use Rattle.std.specs.Prelude.{◌≡◌, ◌↔◌, ◌<◌, ◌≤◌, ◌++◌, ◌∷◌, [], length, IsTrue, IsFalse};
+ghost use Rattle.swim_news.specs.News.{AreFrom, last_of};
 
 use arrayvec::ArrayVec;
 use std::marker::Model;
@@ -11,10 +11,9 @@ use swim_wire::{Endpoint, MEMBERS_MAX, UPDATES_MAX, Update};
 pub const PAGES_MAX: usize = MEMBERS_MAX / UPDATES_MAX + 1;
 
 /// Whether the row's member comes after those of the rows.
-#[tactic(auto, using(crate::proofs::Order::after_none, crate::proofs::Order::after_last))]
 fn comes_after(rows: &[Update], row: &Update) -> bool
     requires { AreFrom 0 rows.now }
-    ensures { IsTrue result → AreFrom 0 (rows.now ++ row.now ∷ []) }
+    ensures { IsTrue result ↔ AreFrom 0 (rows.now ++ row.now ∷ []) }
 {
     match rows.last() {
         Some(last) => last.who < row.who,
@@ -60,7 +59,9 @@ impl Rows {
     }
 
     /// The member of the last row.
-    pub fn last(&self) -> Option<Endpoint> {
+    pub fn last(&self) -> Option<Endpoint>
+        ensures { result ≡ last_of self.now }
+    {
         match self.items.last() {
             Some(row) => Some(row.who),
             None => None,
@@ -70,6 +71,8 @@ impl Rows {
     /// Adds a row after all others, and says so. It is refused if its member does not come after theirs, or if there are
     /// `MEMBERS_MAX` rows.
     pub fn add(&mut self, row: Update) -> bool
+        ensures fits { IsTrue result ↔ AreFrom 0 (self.old ++ row ∷ [])
+            × (length self.old < MEMBERS_MAX) }
         ensures added { IsTrue result → self.new ≡ self.old ++ row ∷ [] }
         ensures refused { IsFalse result → self.new ≡ self.old }
     {
