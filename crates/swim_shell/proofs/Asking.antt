@@ -1,14 +1,19 @@
 -- What a joiner asked, put together.
-use Rattle.std.proofs.Common.{◌≡◌, ◌≢◌, ◌⊎◌, inl, inr, ℕ, ◌+◌, List, [], ◌∷◌, ◌++◌, length, refl, ap, sym, subst, ◌∙◌, slice_index_or, zero, suc, ◌<◌, Bool, true, false, IsTrue, IsFalse, take, arith}
+use Rattle.std.proofs.Common.{◌≡◌, ◌≢◌, ◌⊎◌, inl, inr, ℕ, ◌+◌, List, [], ◌∷◌, ◌++◌, length, refl, ap, sym, subst, ◌∙◌, slice_index_or, zero, suc, ◌<◌, Bool, true, false, IsTrue, IsFalse, take, arith, rules, tests, length-append, ◌↔◌, ◌≤◌, ◌-◌, ◌==◌}
 use Rattle.std.proofs.lemmas.List.{append-nil}
 use Rattle.swim_wire.specs.declared.update.Update.{Update}
 use Rattle.swim_wire.specs.declared.update.UpdateKind.TheVariants.{Confirm}
 use Rattle.swim_member.specs.declared.event.Event.TheVariants.{Join, Members}
+use Rattle.std.proofs.lemmas.Bool.Decides.{nat_tests}
+use Rattle.swim_wire.specs.declared.datagram.TheConstants.{UPDATES_MAX}
+use Rattle.swim_wire.specs.declared.update.TheConstants.{MEMBERS_MAX}
+use Rattle.swim_news.specs.declared.rows.TheConstants.{PAGES_MAX}
+use Rattle.swim_news.specs.News.{AreFrom}
 use Rattle.swim_node.specs.declared.entry.Entry.{Entry}
 use Rattle.swim_node.specs.declared.entry.Reply.{Reply}
 use Rattle.swim_shell.specs.declared.caller.Refusal.{Refusal}
 use Rattle.swim_shell.specs.Calls.{CallerView, events_of, NewCall, Refuses}
-use Rattle.swim_shell.specs.Joins.{JoinerView, IsNext, IsPeer, IsEligibleIn, IsDrawnFrom, IsAsked, AreAsked, Asks, AsksInVain, pages_of, AreLooks, Looks, LooksInVain}
+use Rattle.swim_shell.specs.Joins.{JoinerView, IsNext, IsPeer, IsEligibleIn, IsDrawnFrom, IsAsked, AreAsked, Asks, AsksInVain, pages_of, AreWhole, AreFull, AreConsecutive, AreAllPages, AreLooks, Looks, LooksAll, LooksInVain, ReadsPage, place_after}
 use Rattle.swim_shell.proofs.News.{assoc, events_of-append, no_gain, more_gains}
 
 -- Rows.
@@ -69,7 +74,7 @@ pub asks_looks : (j : JoinerView) (p q : CallerView) (rows : List Update) → Lo
 asks_looks j p q rows l = record { entries = l.entries; gains = l.gains; asked = l.asked; are_asked = looks_asked j [] l.entries l.looks }
 
 pub looks_in_vain : (limit : ℕ) (why : Refusal) (j : JoinerView) (p q : CallerView) → LooksInVain limit why p q → AsksInVain limit why j p q
-looks_in_vain limit why j p q l = record { between = l.between; asks = asks_looks j p l.between l.rows l.looks; last = Members l.after; is_asked = tt; refused = l.refused }
+looks_in_vain limit why j p q l = record { between = l.between; asks = asks_looks j p l.between l.rows l.looks; last = Members (place_after l.rows); is_asked = tt; refused = l.refused }
 
 -- a peer of the list, or another member that a page showed
 shown : {A B : Type 0} (j : JoinerView) (p q : CallerView) (rows : List Update) (x : ℕ) → (l : Looks p q rows) → (IsNext j.peers x × A) ⊎ (IsDrawnFrom j.me rows x × B) → IsPeer j.peers.list x ⊎ IsDrawnFrom j.me (pages_of l.entries) x
@@ -89,27 +94,111 @@ pub drawn_in_vain : {A B : Type 0} (limit : ℕ) (why : Refusal) (j : JoinerView
 unfolding asks_looks
 drawn_in_vain limit why j p q r rows x l known refused = record { between = q; asks = asks_looks j p q rows l; last = Join x; is_asked = shown j p q rows x l known; refused = refused }
 
+-- Pages.
+
+from-left : (x : ℕ) (rows more : List Update) → AreFrom x (rows ++ more) → AreFrom x rows
+from-left x [] more all = tt
+from-left x (r ∷ rows) more all = (all.0, from-left (r.who + 1) rows more all.1)
+
+whole-left : (rows more : List Update) → AreWhole (rows ++ more) → AreWhole rows
+whole-left rows more all = (from-left 0 rows more all.0, let most = all.1 in omega (arith, simp length-append at most))
+
+-- a row of a page that is in order was added
+pub all_added : (old rows new page : List Update) (i : ℕ) (row : Update) (added : Bool) → (AreWhole (old ++ take i page) → rows ≡ old ++ take i page) → (IsTrue added → new ≡ rows ++ row ∷ []) → IsTrue added ↔ AreFrom 0 (rows ++ row ∷ []) × (length rows < MEMBERS_MAX) → take (i + 1) page ≡ take i page ++ row ∷ [] → AreWhole (old ++ take (i + 1) page) → new ≡ old ++ take (i + 1) page
+all_added old rows new page i row added so_far more fits next whole =
+    let grown : old ++ take (i + 1) page ≡ (old ++ take i page) ++ row ∷ [] = ap (λ w. old ++ w) next ∙ sym (assoc old (take i page) (row ∷ [])) in
+    let all : AreWhole ((old ++ take i page) ++ row ∷ []) = subst AreWhole grown whole in
+    let same : rows ≡ old ++ take i page = so_far (whole-left (old ++ take i page) (row ∷ []) all) in
+    let now : AreWhole (rows ++ row ∷ []) = subst (λ w. AreWhole (w ++ row ∷ [])) (sym same) all in
+    let most : length (rows ++ row ∷ []) ≤ MEMBERS_MAX = now.1 in
+    let room : length rows < MEMBERS_MAX = omega (arith, simp length-append at most) in
+    more (fits.1 (now.0, room)) ∙ (ap (λ w. w ++ row ∷ []) same ∙ sym grown)
+
 -- Looks.
 
-pub looks_none : (p : CallerView) → Looks p p []
-looks_none p = record { entries = []; gains = no_gain p; asked = sym (append-nil p.asked); looks = tt; read = λ x is. absurd is }
+-- so many full pages so far
+pub record LooksSoFar (p q : CallerView) (rows : List Update) (pages : ℕ) : Type 0 where
+  pub looks : Looks p q rows
+  pub full : AreFull looks.entries
+  pub count : length looks.entries ≡ pages
 
-pub looks_refused : (limit : ℕ) (why : Refusal) (p q r : CallerView) (rows : List Update) (after : ℕ) → Looks p q rows → Refuses limit why q r (Members after) → LooksInVain limit why p r
-looks_refused limit why p q r rows after l refused = record { between = q; rows = rows; looks = l; after = after; refused = refused }
+pub looks_none : (p : CallerView) → LooksSoFar p p [] 0
+looks_none p = record {
+  looks = record { entries = []; gains = no_gain p; asked = sym (append-nil p.asked); looks = tt; read = λ x is. absurd is; all = λ _. (refl, tt) };
+  full = tt;
+  count = refl;
+}
+
+pub looks_refused : (limit : ℕ) (why : Refusal) (p q r : CallerView) (rows : List Update) (pages : ℕ) → LooksSoFar p q rows pages → pages < PAGES_MAX → Refuses limit why q r (Members (place_after rows)) → LooksInVain limit why p r
+looks_refused limit why p q r rows pages l less refused = record { between = q; rows = rows; looks = l.looks; full = l.full; fewer = omega (arith, l.count, less); refused = refused }
 
 looks_append : (es : List Entry) (e : Entry) (after : ℕ) → AreLooks es → e.event ≡ Members after → AreLooks (es ++ e ∷ [])
 looks_append [] e after l is = ((after, is), tt)
 looks_append (f ∷ es) e after l is = (l.0, looks_append es e after l.1 is)
 
+turn_append : (rows : List Update) (es : List Entry) (e : Entry) → AreConsecutive rows es → e.event ≡ Members (place_after (rows ++ pages_of es)) → AreConsecutive rows (es ++ e ∷ [])
+turn_append rows [] e l is = (subst (λ w. e.event ≡ Members (place_after w)) (append-nil rows) is, tt)
+turn_append rows (f ∷ es) e l is = (l.0, turn_append (rows ++ f.reply.page.items) es e l.1 (subst (λ w. e.event ≡ Members (place_after w)) (sym (assoc rows f.reply.page.items (pages_of es))) is))
+
+full_append : (es : List Entry) (e : Entry) → AreFull es → length e.reply.page.items ≡ UPDATES_MAX → AreFull (es ++ e ∷ [])
+full_append [] e l is = (is, tt)
+full_append (f ∷ es) e l is = (l.0, full_append es e l.1 is)
+
 pages_append : (es : List Entry) (e : Entry) → pages_of (es ++ e ∷ []) ≡ pages_of es ++ e.reply.page.items
 pages_append [] e = append-nil e.reply.page.items
 pages_append (f ∷ es) e = ap (λ w. f.reply.page.items ++ w) (pages_append es e) ∙ sym (assoc f.reply.page.items (pages_of es) e.reply.page.items)
 
-pub looks_more : (p q r : CallerView) (rows more : List Update) (after : ℕ) (reply : Reply) → Looks p q rows → NewCall q r (Members after) reply → ((x : ℕ) → IsEligibleIn more x → IsEligibleIn rows x ⊎ IsEligibleIn reply.page.items x) → Looks p r more
-looks_more p q r rows more after reply l n add = record {
-  entries = l.entries ++ n.entry ∷ [];
-  gains = more_gains p q r l.entries (n.entry ∷ []) l.gains n.gains;
-  asked = n.asked ∙ (ap (λ w. w ++ Members after ∷ []) l.asked ∙ (assoc p.asked (events_of l.entries) (Members after ∷ []) ∙ ap (λ w. p.asked ++ w) (ap (λ e. events_of l.entries ++ e ∷ []) (sym n.event_is) ∙ sym (events_of-append l.entries (n.entry ∷ [])))));
-  looks = looks_append l.entries n.entry after l.looks n.event_is;
-  read = λ x is. subst (λ w. IsEligibleIn w x) (sym (pages_append l.entries n.entry)) (elim (add x is) [ inl a ↦ eligible-left (pages_of l.entries) n.entry.reply.page.items x (l.read x a) | inr b ↦ eligible-right (pages_of l.entries) n.entry.reply.page.items x (subst (λ w. IsEligibleIn w.page.items x) (sym n.reply_is) b) ]);
+-- the rows of one page more, where all are in order
+all_more : (es : List Entry) (e : Entry) (rows new : List Update) → (AreWhole (pages_of es) → (rows ≡ pages_of es) × AreConsecutive [] es) → e.event ≡ Members (place_after rows) → (AreWhole (rows ++ e.reply.page.items) → new ≡ rows ++ e.reply.page.items) → AreWhole (pages_of (es ++ e ∷ [])) → (new ≡ pages_of (es ++ e ∷ [])) × AreConsecutive [] (es ++ e ∷ [])
+all_more es e rows new so_far is add whole =
+    let all : AreWhole (pages_of es ++ e.reply.page.items) = subst AreWhole (pages_append es e) whole in
+    let before = so_far (whole-left (pages_of es) e.reply.page.items all) in
+    let same : rows ≡ pages_of es = before.0 in
+    let now : AreWhole (rows ++ e.reply.page.items) = subst (λ w. AreWhole (w ++ e.reply.page.items)) (sym same) all in
+    (add now ∙ (ap (λ w. w ++ e.reply.page.items) same ∙ sym (pages_append es e)), turn_append [] es e before.1 (is ∙ ap (λ w. Members (place_after w)) same))
+
+abbrev looks_more : (p q r : CallerView) (rows more : List Update) (full : Bool) → Looks p q rows → ReadsPage q r rows more full → Looks p r more
+looks_more p q r rows more full l n = let after = place_after rows in record {
+  entries = l.entries ++ n.call.entry ∷ [];
+  gains = more_gains p q r l.entries (n.call.entry ∷ []) l.gains n.call.gains;
+  asked = n.call.asked ∙ (ap (λ w. w ++ Members after ∷ []) l.asked ∙ (assoc p.asked (events_of l.entries) (Members after ∷ []) ∙ ap (λ w. p.asked ++ w) (ap (λ e. events_of l.entries ++ e ∷ []) (sym n.call.event_is) ∙ sym (events_of-append l.entries (n.call.entry ∷ [])))));
+  looks = looks_append l.entries n.call.entry after l.looks n.call.event_is;
+  read = λ x is. subst (λ w. IsEligibleIn w x) (sym (pages_append l.entries n.call.entry)) (elim (n.shown x is) [ inl a ↦ eligible-left (pages_of l.entries) n.call.entry.reply.page.items x (l.read x a) | inr b ↦ eligible-right (pages_of l.entries) n.call.entry.reply.page.items x (subst (λ w. IsEligibleIn w.page.items x) (sym n.call.reply_is) b) ]);
+  all = all_more l.entries n.call.entry rows more l.all n.call.event_is (subst (λ w. AreWhole (rows ++ w.page.items) → more ≡ rows ++ w.page.items) (sym n.call.reply_is) n.all);
 }
+
+counted : (es : List Entry) (e : Entry) (pages : ℕ) → length es ≡ pages → length (es ++ e ∷ []) ≡ pages + 1
+counted es e pages count = simp length-append (omega (arith, count))
+
+full_size : (n : ℕ) → true ≡ (n == UPDATES_MAX) → n ≡ UPDATES_MAX
+full_size n is = search (rules, tests)
+
+-- one more full page
+pub looks_on : (p q r : CallerView) (rows more : List Update) (pages : ℕ) → LooksSoFar p q rows pages → ReadsPage q r rows more true → LooksSoFar p r more (pages + 1)
+looks_on p q r rows more pages l n = record {
+  looks = looks_more p q r rows more true l.looks n;
+  full = full_append l.looks.entries n.call.entry l.full (ap (λ (w : Reply). length w.page.items) n.call.reply_is ∙ full_size (length n.reply.page.items) n.full_is);
+  count = counted l.looks.entries n.call.entry pages l.count;
+}
+
+ends_short : (most : ℕ) (es : List Entry) (e : Entry) → AreFull es → length es < most → length e.reply.page.items < UPDATES_MAX → AreAllPages most (es ++ e ∷ [])
+ends_short most [] e full less short = (less, inl (short, refl))
+ends_short most (f ∷ es) e full less short = (omega (arith, less), inr (full.0, ends_short (most - 1) es e full.1 (omega (arith, less)) short))
+
+ends_whole : (most : ℕ) (es : List Entry) → AreFull es → length es ≡ most → AreAllPages most es
+ends_whole most [] full is = sym is
+ends_whole most (e ∷ es) full is = (omega (arith, is), inr (full.0, ends_whole (most - 1) es full.1 (omega (arith, is))))
+
+short_size : (n : ℕ) → n ≤ UPDATES_MAX → false ≡ (n == UPDATES_MAX) → n < UPDATES_MAX
+short_size n most is = grind (arith, nat_tests)
+
+-- the last page
+pub looks_short : (p q r : CallerView) (rows more : List Update) (pages : ℕ) → LooksSoFar p q rows pages → pages < PAGES_MAX → ReadsPage q r rows more false → LooksAll p r more
+looks_short p q r rows more pages l less n = record {
+  looks = looks_more p q r rows more false l.looks n;
+  pages = ends_short PAGES_MAX l.looks.entries n.call.entry l.full (omega (arith, l.count, less)) (subst (λ (w : Reply). length w.page.items < UPDATES_MAX) (sym n.call.reply_is) (short_size (length n.reply.page.items) n.most n.full_is));
+}
+
+-- as many as there can be
+pub looks_whole : (p q : CallerView) (rows : List Update) → LooksSoFar p q rows PAGES_MAX → LooksAll p q rows
+looks_whole p q rows l = record { looks = l.looks; pages = ends_whole PAGES_MAX l.looks.entries l.full l.count }

@@ -11,3 +11,4 @@ pub mod Ticking
 pub mod Losing
 pub mod Dealing
 pub mod Asking
+mod Examples

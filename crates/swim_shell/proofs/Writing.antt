@@ -1,9 +1,10 @@
 -- Answers that are written.
-use Rattle.std.proofs.Common.{◌≡◌, ℕ, ◌+◌, ◌-◌, List, [], ◌++◌, length, take, drop, refl, subst, ap, sym, ◌∙◌}
-use Rattle.std.specs.Prelude.{Option, Some, None}
+use Rattle.std.proofs.Common.{◌≡◌, ℕ, ◌+◌, ◌-◌, List, [], ◌∷◌, ◌++◌, codes, length, take, drop, refl, subst, ap, sym, ◌∙◌}
+use Rattle.std.specs.Prelude.{Option, Some, None, Result, Ok, Err, OnOk}
 use Rattle.std.specs.Io.KnownBytes.{Appends, Keeps}
 use Rattle.std.proofs.lemmas.List.{append-nil, drop-drop, take-append-drop, take_rest}
-use Rattle.swim_shell.specs.Answers.{Gives}
+use Rattle.swim_wire.specs.declared.update.Update.{Update}
+use Rattle.swim_shell.specs.Answers.{Gives, row_text, rows_text}
 use Rattle.swim_shell.proofs.News.{assoc}
 
 appends_none : (u v : Option (List ℕ)) → Keeps u v → Appends u v []
@@ -46,3 +47,20 @@ gives_more u v w k l m xs ys s t = record {
 
 pub gives_on : (u v w : Option (List ℕ)) (k l m : List ℕ) → Gives u v k l [] → Gives v w l m [] → Gives u w k m []
 gives_on u v w k l m s t = gives_more u v w k l m [] [] s t
+
+-- what follows where all went well
+pub on_ok : {A E : Type 0} (r : Result A E) (P Q : Type 0) → OnOk r P → (P → Q) → OnOk r Q
+on_ok (Ok x) P Q h f = f h
+on_ok (Err e) P Q h f = h
+
+rows_text-append : (rows : List Update) (row : Update) → rows_text (rows ++ row ∷ []) ≡ rows_text rows ++ row_text row
+rows_text-append [] row = append-nil (row_text row)
+rows_text-append (r ∷ rows) row = ap (λ w. row_text r ++ w) (rows_text-append rows row) ∙ sym (assoc (row_text r) (rows_text rows) (row_text row))
+
+-- the line of one row more
+pub row_written : (old text new : List ℕ) (rows more : List Update) (row : Update) → text ≡ old ++ rows_text rows → new ≡ text ++ row_text row → more ≡ rows ++ row ∷ [] → new ≡ old ++ rows_text more
+row_written old text new rows more row so_far is next = is ∙ (ap (λ w. w ++ row_text row) so_far ∙ (assoc old (rows_text rows) (row_text row) ∙ (ap (λ w. old ++ w) (sym (rows_text-append rows row)) ∙ ap (λ w. old ++ rows_text w) (sym next))))
+
+-- a head, and the lines of all rows
+pub members_written : (old head new : List ℕ) (count : List ℕ) (rows : List Update) → head ≡ old ++ (codes "ok " ++ (count ++ codes "\n")) → new ≡ head ++ rows_text rows → new ≡ old ++ (codes "ok " ++ (count ++ (codes "\n" ++ rows_text rows)))
+members_written old head new count rows is then = then ∙ (ap (λ w. w ++ rows_text rows) is ∙ (assoc old (codes "ok " ++ (count ++ codes "\n")) (rows_text rows) ∙ ap (λ w. old ++ (codes "ok " ++ w)) (assoc count (codes "\n") (rows_text rows))))

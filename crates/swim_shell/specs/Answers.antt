@@ -1,13 +1,18 @@
 -- What a control line makes of a caller, and what is answered.
 use Rattle.std.specs.Prelude.{◌≡◌, ℕ, nat_lt, Bool, true, false, if◌then◌else◌}
-use Rattle.std.specs.Prelude.{List, ◌++◌, codes, Option, Some, None}
+use Rattle.std.specs.Prelude.{List, [], ◌∷◌, ◌++◌, length, codes, Option, Some, None}
 use Rattle.std.specs.List.{list_any}
+use Rattle.std.specs.Fmt.{decimal}
 use Rattle.std.specs.Io.KnownBytes.{Appends}
 use Rattle.swim_member.specs.declared.event.Event.{Event}
 use Rattle.swim_member.specs.declared.event.Event.TheVariants as event
 use Rattle.swim_member.specs.declared.note.Note.{Note}
 use Rattle.swim_member.specs.declared.note.Note.TheVariants as note
+use Rattle.swim_member.specs.Texts.{phase_word}
 use Rattle.swim_node.specs.declared.entry.Reply.{Reply}
+use Rattle.swim_node.specs.declared.entry.Status.{Status}
+use Rattle.swim_wire.specs.Text.{endpoint_text, kind_word}
+use Rattle.swim_wire.specs.declared.update.Update.{Update}
 use Rattle.swim_shell.specs.declared.caller.Refusal.{Refusal}
 use Rattle.swim_shell.specs.declared.caller.Refusal.TheVariants as refusal
 use Rattle.swim_shell.specs.declared.request.Request.{Request}
@@ -21,6 +26,41 @@ abbrev pub refusal_text : Refusal → List ℕ
 refusal_text refusal.Memory = codes "error 4 memory\n"
 refusal_text refusal.EraFull = codes "error 5 era full\n"
 refusal_text refusal.Unread = codes "error 6 unread\n"
+
+-- the line of a member: its kind, who it is, and its number
+abbrev pub row_text : Update → List ℕ
+row_text r =
+    kind_word r.kind ++ (codes " " ++ (endpoint_text r.who ++ (codes " " ++ (decimal r.number
+    ++ codes "\n"))))
+
+-- the lines of members, in order
+abbrev pub rows_text : List Update → List ℕ
+rows_text [] = []
+rows_text (r ∷ rows) = row_text r ++ rows_text rows
+
+-- how many members follow, and their lines
+abbrev pub members_text : List Update → List ℕ
+members_text rows = codes "ok " ++ (decimal (length rows) ++ (codes "\n" ++ rows_text rows))
+
+-- a name and a number
+abbrev pub counted : List ℕ → ℕ → List ℕ
+counted name n = name ++ decimal n
+
+-- the line of a status up to the members that are held for alive
+abbrev pub status_head : Status → List ℕ
+status_head s =
+    codes "ok " ++ (phase_word s.phase ++ (counted (codes " number ") s.number
+    ++ counted (codes " alive ") s.alive))
+
+-- the rest of it
+abbrev pub status_rest : Status → List ℕ
+status_rest s =
+    counted (codes " suspect ") s.suspect ++ (counted (codes " confirmed ") s.confirmed
+    ++ (counted (codes " length ") s.length ++ codes "\n"))
+
+-- the line of a status
+abbrev pub status_text : Status → List ℕ
+status_text s = status_head s ++ status_rest s
 
 -- the member takes no part
 abbrev pub is_stopped : Note → Bool

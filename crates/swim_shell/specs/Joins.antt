@@ -1,13 +1,28 @@
 -- What a joiner asks.
-use Rattle.std.specs.Prelude.{◌≡◌, ◌≢◌, ◌⊎◌, ℕ, ◌+◌, nat_lt, if◌then◌else◌, Bool, true}
-use Rattle.std.specs.Prelude.{List, [], ◌∷◌, ◌++◌, length, Some, slice_get}
+use Rattle.std.specs.Prelude.{◌≡◌, ◌≢◌, ◌⊎◌, ℕ, ◌<◌, ◌≤◌, ◌+◌, ◌-◌, ◌*◌, ◌%◌, ◌==◌, nat_lt, min}
+use Rattle.std.specs.Prelude.{if◌then◌else◌, unwrap_or}
+use Rattle.std.specs.Prelude.{Bool, true, false, not, Option, Some, None}
+use Rattle.std.specs.Prelude.{List, [], ◌∷◌, ◌++◌, length, slice_get}
+use Rattle.std.specs.Option.{option_map}
+use Rattle.std.specs.List.{filter, list_any}
+use Rattle.swim_wire.specs.declared.rules.Rules.{Rules}
+use Rattle.swim_wire.specs.declared.rules.Rules.TheVariants.{Two}
 use Rattle.swim_wire.specs.declared.update.Update.{Update}
+use Rattle.swim_wire.specs.declared.update.UpdateKind.{UpdateKind}
 use Rattle.swim_wire.specs.declared.update.UpdateKind.TheVariants.{Confirm}
 use Rattle.swim_member.specs.declared.event.Event.{Event}
 use Rattle.swim_member.specs.declared.event.Event.TheVariants.{Join, Members}
+use Rattle.swim_wire.specs.declared.datagram.TheConstants.{UPDATES_MAX}
+use Rattle.swim_wire.specs.declared.update.TheConstants.{MEMBERS_MAX}
+use Rattle.swim_news.specs.declared.rows.TheConstants.{PAGES_MAX}
+use Rattle.swim_news.specs.News.{AreFrom, last_of}
 use Rattle.swim_node.specs.declared.entry.Entry.{Entry}
+use Rattle.swim_node.specs.declared.entry.Reply.{Reply}
 use Rattle.swim_shell.specs.declared.caller.Refusal.{Refusal}
-use Rattle.swim_shell.specs.Calls.{CallerView, events_of, Gains, Refuses}
+use Rattle.std.specs.Duration.{as_nanos, max_nanos}
+use Rattle.swim_shell.specs.declared.joiner.Paces.{Paces}
+use Rattle.swim_shell.specs.declared.joiner.TheConstants.{ALONE_PERIODS, EARLY_JOINS}
+use Rattle.swim_shell.specs.Calls.{CallerView, events_of, Gains, NewCall, Refuses}
 
 -- what a contract sees of peers: the list, the place of the one that comes next, and whether each
 -- was joined once
@@ -27,10 +42,30 @@ stepped p =
 abbrev pub IsNext : PeersView → ℕ → Type 0
 IsNext p x = slice_get p.list p.next ≡ Some x
 
--- what a contract sees of a joiner: whose it is, and its peers
+-- what a contract sees of a joiner: whose it is, by which rules that one lives, its peers, how many
+-- of these were joined, the rows that it compared last, and whether it told of an unknown peer
 pub record JoinerView : Type 0 where
   pub me : ℕ
+  pub rules : Rules
   pub peers : PeersView
+  pub joins : ℕ
+  pub rows : List Update
+  pub has_told : Bool
+
+-- how long after so many joins the next peer is joined, if it is, by whether all were and whether
+-- the member is alone
+abbrev pub rest_after : Paces → ℕ → Bool → Bool → Option ℕ
+rest_after paces joins false true = Some (as_nanos paces.answer)
+rest_after paces joins false false = Some (as_nanos paces.period)
+rest_after paces joins true true =
+    if nat_lt joins EARLY_JOINS then Some (as_nanos paces.period) else
+    Some (min (as_nanos paces.period * ALONE_PERIODS) max_nanos)
+rest_after paces joins true false = None
+
+-- the drawn one, if there is one and it may be, and else the peer of the list
+abbrev pub chosen : Option ℕ → ℕ → Bool → ℕ
+chosen (Some drawn) peer true = drawn
+chosen _ peer _ = peer
 
 -- the member is one of the list
 abbrev pub IsPeer : List ℕ → ℕ → Type 0
@@ -41,13 +76,51 @@ abbrev pub IsEligibleIn : List Update → ℕ → Type 0
 IsEligibleIn [] x = ⊥
 IsEligibleIn (r ∷ rows) x = ((r.who ≡ x) × (r.kind ≢ Confirm)) ⊎ IsEligibleIn rows x
 
+-- the kind is Alive or Suspect
+abbrev pub is_held : UpdateKind → Bool
+is_held Confirm = false
+is_held _ = true
+
+-- the row shows another member as Alive or Suspect
+abbrev pub may_be_drawn : ℕ → Update → Bool
+may_be_drawn me r = if is_held r.kind then not (r.who == me) else false
+
+-- the rows that do, in order
+abbrev pub eligible_in : ℕ → List Update → List Update
+eligible_in me rows = filter (may_be_drawn me) rows
+
+-- the member of the eligible row after so many others, if there is one
+abbrev pub nth_eligible : ℕ → List Update → ℕ → Option ℕ
+nth_eligible me rows n = option_map (λ (r : Update). r.who) (slice_get (eligible_in me rows) n)
+
+-- the member that a word draws: of so many eligible rows the one at its remainder
+abbrev pub drawn_by : ℕ → List Update → ℕ → Option ℕ
+drawn_by me rows word = nth_eligible me rows (word % length (eligible_in me rows))
+
 -- another member that the rows show as Alive or Suspect
 abbrev pub IsDrawnFrom : ℕ → List Update → ℕ → Type 0
 IsDrawnFrom me rows x = IsEligibleIn rows x × (x ≢ me)
 
+-- a row shows the member
+abbrev pub has_row : List Update → ℕ → Bool
+has_row rows x = list_any (λ (r : Update). r.who == x) rows
+
+-- who is joined where a member is to be drawn: the peer of the list that comes next, if no row
+-- shows it or it is the list's turn; and else the member that a word draws, if there is one
+abbrev pub due_by : ℕ → List Update → Option ℕ → ℕ → Bool → Option ℕ
+due_by me rows None word turn = drawn_by me rows word
+due_by me rows (Some peer) word turn =
+    Some (chosen (drawn_by me rows word) peer (if has_row rows peer then not turn else false))
+
+-- the member is such by some word; the list has a turn by rules 2 alone
+pub record IsDue (j : JoinerView) (rows : List Update) (x : ℕ) : Type 0 where
+  pub word : ℕ
+  pub turn : Bool
+  pub is : due_by j.me rows (slice_get j.peers.list j.peers.next) word turn ≡ Some x
+  pub by_rules : turn ≡ true → j.rules ≡ Two
+
 -- a call asks for members, or it joins a peer of the list, or another member that is eligible by
--- the
--- rows
+-- these rows
 abbrev pub IsAsked : JoinerView → List Update → Event → Type 0
 IsAsked j rows (Members after) = Unit {0}
 IsAsked j rows (Join x) = IsPeer j.peers.list x ⊎ IsDrawnFrom j.me rows x
@@ -78,23 +151,67 @@ pub record AsksInVain (limit : ℕ) (why : Refusal) (j : JoinerView) (p q : Call
   pub is_asked : IsAsked j (pages_of asks.entries) last
   pub refused : Refuses limit why between q last
 
+-- the rows are in order, and no more than there can be
+abbrev pub AreWhole : List Update → Type 0
+AreWhole rows = AreFrom 0 rows × (length rows ≤ MEMBERS_MAX)
+
+-- the place after these rows, from which the next page is asked for
+abbrev pub place_after : List Update → ℕ
+place_after rows = unwrap_or (last_of rows) 0
+
 -- each call asks for members
 abbrev pub AreLooks : List Entry → Type 0
 AreLooks [] = Unit {0}
 AreLooks (e ∷ es) = ((after : ℕ) × (e.event ≡ Members after)) × AreLooks es
 
--- the new calls ask for members, and the rows show no member as eligible that a page did not
+-- each call asks for those after these rows and those of the pages before it
+abbrev pub AreConsecutive : List Update → List Entry → Type 0
+AreConsecutive rows [] = Unit {0}
+AreConsecutive rows (e ∷ es) =
+    (e.event ≡ Members (place_after rows)) × AreConsecutive (rows ++ e.reply.page.items) es
+
+-- each page is full
+abbrev pub AreFull : List Entry → Type 0
+AreFull [] = Unit {0}
+AreFull (e ∷ es) = (length e.reply.page.items ≡ UPDATES_MAX) × AreFull es
+
+-- the pages end with the first that is not full, or after so many
+abbrev pub AreAllPages : ℕ → List Entry → Type 0
+AreAllPages most [] = most ≡ 0
+AreAllPages most (e ∷ es) =
+    (0 < most) × (((length e.reply.page.items < UPDATES_MAX) × (es ≡ []))
+    ⊎ ((length e.reply.page.items ≡ UPDATES_MAX) × AreAllPages (most - 1) es))
+
+-- a page was read, which was or was not full; its rows come after these, all of them where they are
+-- in order
+pub record ReadsPage (p q : CallerView) (old new : List Update) (full : Bool) : Type 0 where
+  pub reply : Reply
+  pub call : NewCall p q (Members (place_after old)) reply
+  pub shown : (x : ℕ) → IsEligibleIn new x → IsEligibleIn old x ⊎ IsEligibleIn reply.page.items x
+  pub all : AreWhole (old ++ reply.page.items) → new ≡ old ++ reply.page.items
+  pub most : length reply.page.items ≤ UPDATES_MAX
+  pub full_is : full ≡ (length reply.page.items == UPDATES_MAX)
+
+-- the new calls ask for members; the rows show no member as eligible that a page did not, and are
+-- those of the pages where these are in order, each asked for after the one before
 pub record Looks (p q : CallerView) (rows : List Update) : Type 0 where
   pub entries : List Entry
   pub gains : Gains p q entries
   pub asked : q.asked ≡ p.asked ++ events_of entries
   pub looks : AreLooks entries
   pub read : (x : ℕ) → IsEligibleIn rows x → IsEligibleIn (pages_of entries) x
+  pub all : AreWhole (pages_of entries) → (rows ≡ pages_of entries) × AreConsecutive [] entries
 
--- the same, and then one that was refused
+-- the same of all pages
+pub record LooksAll (p q : CallerView) (rows : List Update) : Type 0 where
+  pub looks : Looks p q rows
+  pub pages : AreAllPages PAGES_MAX looks.entries
+
+-- the same of pages that were all full, and then a call for the next that was refused
 pub record LooksInVain (limit : ℕ) (why : Refusal) (p q : CallerView) : Type 0 where
   pub between : CallerView
   pub rows : List Update
   pub looks : Looks p between rows
-  pub after : ℕ
-  pub refused : Refuses limit why between q (Members after)
+  pub full : AreFull looks.entries
+  pub fewer : length looks.entries < PAGES_MAX
+  pub refused : Refuses limit why between q (Members (place_after rows))

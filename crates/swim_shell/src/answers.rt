@@ -1,12 +1,13 @@
 //! What control answers.
 
-ghost use Rattle.std.specs.Prelude.{◌≡◌, ◌+◌, ◌≤◌, ◌++◌, [], length};
+ghost use Rattle.std.specs.Prelude.{◌≡◌, ◌+◌, ◌≤◌, ◌++◌, [], length, codes, OnOk};
+ghost use Rattle.std.specs.Fmt.{decimal};
 ghost use Rattle.std.specs.List.{list_any};
-ghost use Rattle.swim_shell.specs.Answers.{is_misdirected, is_stopped, joined_text, left_text, refusal_text};
+ghost use Rattle.swim_shell.specs.Answers.{is_misdirected, is_stopped, joined_text, left_text, members_text, refusal_text, row_text, status_head, status_rest, status_text};
 
 use crate::caller::Refusal;
 use arrayvec::{ArrayString, ArrayVec};
-use std::fmt::Write;
+use std::fmt::{self, Write};
 use swim_member::{NOTES_MAX, Note};
 use swim_node::{Reply, Status};
 use swim_wire::Update;
@@ -26,26 +27,69 @@ pub(crate) fn add_text(answer: &mut Answer, text: &str)
     let _ = answer.try_push_str(text);
 }
 
-/// The line of a status.
-pub(crate) fn add_status(answer: &mut Answer, status: &Status) {
+/// Adds the line of a status up to the members that are held for alive, where it fits.
+fn write_head(answer: &mut Answer, status: &Status) -> fmt::Result
+    ensures { OnOk result (answer.new.bytes ≡ answer.old.bytes ++ status_head status.now) }
+{
     let phase = status.phase.name();
     let number = status.number;
     let alive = status.alive;
+    write!(answer, "ok {phase} number {number} alive {alive}")
+}
+
+/// Adds the rest of it, where it fits.
+fn write_rest(answer: &mut Answer, status: &Status) -> fmt::Result
+    ensures { OnOk result (answer.new.bytes ≡ answer.old.bytes ++ status_rest status.now) }
+{
     let suspect = status.suspect;
     let confirmed = status.confirmed;
     let length = status.length;
-    let _ = writeln!(
+    writeln!(
         answer,
-        "ok {phase} number {number} alive {alive} suspect {suspect} confirmed {confirmed} length {length}"
-    );
+        " suspect {suspect} confirmed {confirmed} length {length}"
+    )
 }
 
-/// The line of a member.
-fn add_row(answer: &mut Answer, row: &Update) {
+/// Adds the line of a status, where it fits.
+fn write_status(answer: &mut Answer, status: &Status) -> fmt::Result
+    ensures { OnOk result (answer.new.bytes ≡ answer.old.bytes ++ status_text status.now) }
+{
+    write_head(answer, status)?;
+    write_rest(answer, status)
+}
+
+/// The line of a status, which fits.
+pub(crate) fn add_status(answer: &mut Answer, status: &Status) {
+    let _ = write_status(answer, status);
+}
+
+/// Adds the line of a member, where it fits.
+fn add_row(answer: &mut Answer, row: &Update) -> fmt::Result
+    ensures { OnOk result (answer.new.bytes ≡ answer.old.bytes ++ row_text row.now) }
+{
     let kind = row.kind.name();
     let who = row.who;
     let number = row.number;
-    let _ = writeln!(answer, "{kind} {who} {number}");
+    writeln!(answer, "{kind} {who} {number}")
+}
+
+/// Adds how many members a page has.
+fn write_count(answer: &mut Answer, rows: usize) -> fmt::Result
+    ensures { OnOk result (answer.new.bytes ≡ answer.old.bytes ++ (codes "ok " ++ (decimal rows
+        ++ codes "\n"))) }
+{
+    writeln!(answer, "ok {rows}")
+}
+
+/// Adds how many members a page has, and their lines, where they fit.
+fn write_members(answer: &mut Answer, page: &[Update]) -> fmt::Result
+    ensures { OnOk result (answer.new.bytes ≡ answer.old.bytes ++ members_text page.now) }
+{
+    write_count(answer, page.len())?;
+    for row in page {
+        add_row(answer, row)?;
+    }
+    Ok(())
 }
 
 /// What is written where a call was answered.
@@ -70,11 +114,7 @@ impl AnswerTo for Shown {
     ghost writes = { λ reply text. Unit {0} };
 
     fn write(self, answer: &mut Answer, reply: &Reply) {
-        let rows = reply.page.len();
-        let _ = writeln!(answer, "ok {rows}");
-        for row in reply.page.as_slice() {
-            add_row(answer, row);
-        }
+        let _ = write_members(answer, reply.page.as_slice());
     }
 }
 

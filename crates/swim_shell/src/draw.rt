@@ -1,13 +1,14 @@
 //! Which member is drawn.
 
-ghost use Rattle.std.specs.Prelude.{IfSome, IsTrue, ◌≢◌};
+ghost use Rattle.std.specs.Prelude.{◌≡◌, IfSome, IsTrue, ◌≢◌, length};
 ghost use Rattle.swim_wire.specs.declared.update.UpdateKind.TheVariants.{Confirm};
-ghost use Rattle.swim_shell.specs.Joins.{IsDrawnFrom};
+ghost use Rattle.swim_shell.specs.Joins.{IsDrawnFrom, drawn_by, eligible_in, may_be_drawn, nth_eligible};
 
 use swim_wire::{Endpoint, Update, UpdateKind};
 
 /// Whether the row shows another member as Alive or Suspect.
 fn is_eligible(row: &Update, me: Endpoint) -> bool
+    ensures value { result ≡ may_be_drawn me row.now }
     ensures kind { IsTrue result → row.now.kind ≢ Confirm }
     ensures other { IsTrue result → row.now.who ≢ me }
 {
@@ -15,13 +16,16 @@ fn is_eligible(row: &Update, me: Endpoint) -> bool
 }
 
 /// How many other members are eligible.
-fn count_eligible(rows: &[Update], me: Endpoint) -> usize {
+fn count_eligible(rows: &[Update], me: Endpoint) -> usize
+    ensures { result ≡ length (eligible_in me rows.now) }
+{
     rows.iter().filter(|row| is_eligible(row, me)).count()
 }
 
 /// The member of the eligible row after so many others, itself left out.
 fn nth_eligible(rows: &[Update], me: Endpoint, nth: usize) -> Option<Endpoint>
-    ensures { IfSome result (IsDrawnFrom me rows.now) }
+    ensures value { result ≡ nth_eligible me rows.now nth }
+    ensures drawn { IfSome result (IsDrawnFrom me rows.now) }
 {
     let mut left = nth;
     for row in rows {
@@ -37,7 +41,8 @@ fn nth_eligible(rows: &[Update], me: Endpoint, nth: usize) -> Option<Endpoint>
 
 /// The eligible member that a random word draws from these rows, itself left out; none if there is none.
 pub(crate) fn draw(rows: &[Update], me: Endpoint, word: u32) -> Option<Endpoint>
-    ensures { IfSome result (IsDrawnFrom me rows.now) }
+    ensures value { result ≡ drawn_by me rows.now word }
+    ensures drawn { IfSome result (IsDrawnFrom me rows.now) }
 {
     let count = count_eligible(rows, me);
     if count == 0 {

@@ -1,10 +1,15 @@
 //! The worker that joins, and logs the news of members.
 
-ghost use Rattle.std.specs.Prelude.{◌≡◌, ◌⊎◌, ◌↔◌, IsTrue, IfSome, IfOk, IfErr, OnOk, OnErr};
+ghost use Rattle.std.specs.Prelude.{◌≡◌, ◌⊎◌, ◌↔◌, ◌+◌, ◌-◌, ◌^◌, ◌≤◌, ◌==◌, min, [], true, false, None};
+ghost use Rattle.std.specs.Prelude.{IsTrue, IfSome, IfOk, IfErr, OnOk, OnErr};
+ghost use Rattle.std.specs.List.{list_any};
+ghost use Rattle.std.specs.Option.{option_map};
+ghost use Rattle.std.specs.Time.{instant_nanos};
+ghost use Rattle.std.specs.Duration.{as_nanos};
 ghost use Rattle.swim_member.specs.declared.event.Event.TheVariants.{Join};
 ghost use Rattle.swim_member.specs.declared.state.Phase.TheVariants.{Running};
 ghost use Rattle.swim_shell.specs.Calls.{NewCall, Refuses};
-ghost use Rattle.swim_shell.specs.Joins.{Asks, AsksInVain, IsDrawnFrom, IsNext, IsPeer, stepped};
+ghost use Rattle.swim_shell.specs.Joins.{Asks, AsksInVain, IsDrawnFrom, IsDue, IsNext, IsPeer, chosen, rest_after, stepped};
 
 use crate::caller::{Caller, Observer, Refusal};
 use crate::draw::draw;
@@ -42,12 +47,9 @@ impl Paces {
     /// How long after its last join a member joins the next peer of its list, after so many joins; none if it does not. At
     /// first each peer is joined once: soon, while nobody has answered, and else after the time in which the pages of rows
     /// come, since a join ends the paging of the one before. Then only a lone member joins them again.
-    pub(crate) fn until_next(
-        &self,
-        joins: u32,
-        were_all: bool,
-        is_alone: bool,
-    ) -> Option<Duration> {
+    pub(crate) fn until_next(&self, joins: u32, were_all: bool, is_alone: bool) -> Option<Duration>
+        ensures { option_map as_nanos result ≡ rest_after self.now joins were_all is_alone }
+    {
         match (were_all, is_alone) {
             (false, true) => Some(self.answer),
             (false, false) => Some(self.period),
@@ -60,7 +62,7 @@ impl Paces {
 
 /// Whom a member joins, and when: all peers of its list in order, one after the other; one of them every few periods while
 /// it holds nobody for alive or suspected, since a lost join would leave it alone for ever; and now and then a member that
-/// it draws, since gossip or a page that was lost leaves a hole for ever. Contracts see whose it is and the list.
+/// it draws, since gossip or a page that was lost leaves a hole for ever. Contracts see it as `JoinerView`.
 #[derive(Drop)]
 pub struct Joiner {
     me: Endpoint,
@@ -86,7 +88,14 @@ impl Model for Joiner {
 
     ghost Value = { JoinerView };
 
-    ghost view = { λ j. record { me = j.me; peers = j.peers } };
+    ghost view = { λ j. record {
+      me = j.me;
+      rules = j.rules;
+      peers = j.peers;
+      joins = j.joins;
+      rows = j.rows;
+      has_told = j.has_told;
+    } };
 }
 
 /// Whether the member takes part, and holds nobody for alive or suspected.
@@ -97,17 +106,38 @@ fn is_alone(status: &Status) -> bool
     status.phase == Phase::Running && status.alive == 0 && status.suspect == 0
 }
 
+/// Whether it is so long from the one time to the other.
+fn is_apart(since: Instant, now: Instant, time: Duration) -> bool
+    ensures { IsTrue result ↔ (as_nanos time ≤ instant_nanos now - instant_nanos since) }
+{
+    now.duration_since(since).as_nanos() >= time.as_nanos()
+}
+
 /// Whether so long has passed since then. A clock that cannot be read says no.
-fn has_passed<C: Clock>(clock: &C, since: &Option<Instant>, time: Duration) -> bool {
+fn has_passed<C: Clock>(clock: &C, since: &Option<Instant>, time: Duration) -> bool
+    ensures never { since.now ≡ None → IsTrue result }
+{
     match since {
-        Some(since) => matches!(since.elapsed(clock), Ok(passed) if passed >= time),
+        Some(since) => matches!(Instant::now(clock), Ok(now) if is_apart(*since, now, time)),
         None => true,
     }
 }
 
 /// Whether a row shows the member.
-fn has_row(rows: &[Update], who: Endpoint) -> bool {
+fn has_row(rows: &[Update], who: Endpoint) -> bool
+    ensures { result ≡ list_any (λ (row : Update). row.who == who) rows.now }
+{
     rows.iter().any(|row| row.who == who)
+}
+
+/// Which of the two is joined: the drawn one, if there is one and it may be, or the peer of the list.
+fn chosen(drawn: Option<Endpoint>, peer: Endpoint, is_drawns_turn: bool) -> Endpoint
+    ensures { result ≡ chosen drawn peer is_drawns_turn }
+{
+    match drawn {
+        Some(drawn) if is_drawns_turn => drawn,
+        _ => peer,
+    }
 }
 
 /// Logs what changed from the rows before.
@@ -130,6 +160,7 @@ impl Joiner {
         rng: ChaCha20Rng,
     ) -> Joiner
         ensures me { result.me ≡ me }
+        ensures first { (result.joins ≡ 0) × (result.rows ≡ []) × (result.has_told ≡ false) }
         ensures list { (result.peers.list ≡ peers.items) × (result.peers.next ≡ 0) }
     {
         Joiner {
@@ -184,6 +215,7 @@ impl Joiner {
     /// Whether it is the list's turn: by rules 2 one time in two. Two parts of a group that hold each other for failed find
     /// each other again so, since a drawn member is never one of the other part.
     fn is_list_turn(&mut self) -> bool
+        ensures rules { IsTrue result → self.old.rules ≡ Rules.Two }
         ensures same { self.new ≡ self.old }
     {
         self.rules == Rules::Two && self.rng.next_word() % 2 == 1
@@ -191,7 +223,7 @@ impl Joiner {
 
     /// Says once that a listed member is not known.
     fn tell_missing<W: Log>(&mut self, rt: &W, peer: Endpoint)
-        ensures same { self.new ≡ self.old }
+        ensures told { self.new ≡ record self.old { has_told = true } }
     {
         if self.has_told {
             return;
@@ -208,6 +240,7 @@ impl Joiner {
             × (self.new.peers ≡ stepped self.old.peers)) ⊎ (IsDrawnFrom self.old.me rows.now peer
             × ((self.new.peers ≡ self.old.peers)
             ⊎ (self.new.peers ≡ stepped self.old.peers)))) }
+        ensures due { IfSome result (IsDue self.old rows.now) }
         ensures me { self.new.me ≡ self.old.me }
         ensures list { self.new.peers.list ≡ self.old.peers.list }
     {
@@ -222,25 +255,28 @@ impl Joiner {
         };
         self.peers.step();
         let is_known = has_row(rows.as_slice(), peer);
-        if drawn.is_some() && is_known && !is_list_turn {
-            return drawn;
-        }
         if !is_known {
             self.tell_missing(rt, peer);
         }
-        Some(peer)
+        Some(chosen(drawn, peer, is_known && !is_list_turn))
     }
 
-    /// Logs what changed from the rows before to these, which are kept, if it is time.
-    fn tell_due<W: Log + Clock>(&mut self, rt: &W, rows: Rows)
-        ensures same { self.new ≡ self.old }
+    /// Logs what changed from the rows before to these, which are kept.
+    fn tell<W: Log + Clock>(&mut self, rt: &W, rows: Rows)
+        ensures { self.new ≡ record self.old { rows = rows } }
     {
-        if !self.is_news_due(rt) {
-            return;
-        }
         log_news(rt, &self.rows, &rows);
         self.rows = rows;
         self.compared = Instant::now(rt).ok();
+    }
+
+    /// The same, if it is time.
+    fn tell_due<W: Log + Clock>(&mut self, rt: &W, rows: Rows)
+        ensures { (self.new ≡ self.old) ⊎ (self.new ≡ record self.old { rows = rows }) }
+    {
+        if self.is_news_due(rt) {
+            self.tell(rt, rows);
+        }
     }
 
     /// Joins the peer.
@@ -275,6 +311,7 @@ impl Joiner {
         ensures in_vain { IfErr result (λ why. AsksInVain C.limit why self.old
             (C.known caller.old) (C.known caller.new)) }
         ensures stepped { OnOk result (self.new.peers ≡ stepped self.old.peers) }
+        ensures counted { OnOk result (self.new.joins ≡ min (self.old.joins + 1) (2 ^ 32 - 1)) }
         ensures same { OnErr result (self.new ≡ self.old) }
         ensures me { self.new.me ≡ self.old.me }
     {
@@ -285,7 +322,7 @@ impl Joiner {
     }
 
     /// Reads all rows, tells their news if these are due, and joins a drawn member if that is due.
-    #[tactic(auto, using(crate::proofs::Asking::asks_looks, crate::proofs::Asking::looks_in_vain))]
+    #[tactic(auto, using(crate::proofs::Asking::looks_in_vain))]
     fn look_round<C: Caller, W: Log + Clock>(
         &mut self,
         rt: &W,

@@ -1,8 +1,9 @@
 //! All rows, page by page.
 
-ghost use Rattle.std.specs.Prelude.{◌≡◌, ◌⊎◌, ℕ, [], IfOk, IfErr};
-ghost use Rattle.swim_shell.specs.Calls.{CallerView};
-ghost use Rattle.swim_shell.specs.Joins.{IsEligibleIn, Looks, LooksInVain};
+ghost use Rattle.std.specs.Prelude.{◌≡◌, ◌↔◌, ◌⊎◌, ◌++◌, ℕ, [], length, IsTrue, IfOk, IfErr};
+ghost use Rattle.swim_member.specs.declared.event.Event.TheVariants.{Members};
+ghost use Rattle.swim_shell.specs.Calls.{Refuses};
+ghost use Rattle.swim_shell.specs.Joins.{AreWhole, IsEligibleIn, LooksAll, LooksInVain, ReadsPage, place_after};
 
 use crate::caller::{Caller, Refusal};
 use swim_member::Event;
@@ -11,8 +12,9 @@ use swim_wire::{Cursor, UPDATES_MAX, Update};
 
 /// Adds the rows of a page. A row that is not in order is left out, which does not come.
 fn add_page(rows: &mut Rows, page: &[Update])
-    ensures { (x : ℕ) → IsEligibleIn rows.new x
+    ensures shown { (x : ℕ) → IsEligibleIn rows.new x
         → IsEligibleIn rows.old x ⊎ IsEligibleIn page.now x }
+    ensures all { AreWhole (rows.old ++ page.now) → rows.new ≡ rows.old ++ page.now }
 {
     for row in page {
         rows.add(*row);
@@ -20,12 +22,11 @@ fn add_page(rows: &mut Rows, page: &[Update])
 }
 
 /// Reads the next page, and says whether it is full.
-#[tactic(auto, using(crate::proofs::Asking::looks_refused, crate::proofs::Asking::looks_more))]
 fn read_page<C: Caller>(caller: &mut C, rows: &mut Rows) -> Result<bool, Refusal>
-    ensures ok { IfOk result (λ _. (p : CallerView) → Looks p (C.known caller.old) rows.old
-        → Looks p (C.known caller.new) rows.new) }
-    ensures err { IfErr result (λ why. (p : CallerView) → Looks p (C.known caller.old) rows.old
-        → LooksInVain C.limit why p (C.known caller.new)) }
+    ensures ok { IfOk result (ReadsPage (C.known caller.old) (C.known caller.new) rows.old
+        rows.new) }
+    ensures err { IfErr result (λ why. Refuses C.limit why (C.known caller.old)
+        (C.known caller.new) (Members (place_after rows.old))) }
 {
     let after = match rows.last() {
         Some(last) => Cursor::at(last),
@@ -45,7 +46,7 @@ fn read_page<C: Caller>(caller: &mut C, rows: &mut Rows) -> Result<bool, Refusal
 #[tactic(auto, using(crate::proofs::Asking::looks_none))]
 pub(crate) fn look<C: Caller>(caller: &mut C, rows: &mut Rows) -> Result<(), Refusal>
     requires { rows.old ≡ [] }
-    ensures ok { IfOk result (λ _. Looks (C.known caller.old) (C.known caller.new) rows.new) }
+    ensures ok { IfOk result (λ _. LooksAll (C.known caller.old) (C.known caller.new) rows.new) }
     ensures err { IfErr result (λ why. LooksInVain C.limit why (C.known caller.old)
         (C.known caller.new)) }
 {

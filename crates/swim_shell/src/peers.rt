@@ -1,6 +1,6 @@
 //! The peers that a member is told to join, and those that its state file kept.
 
-ghost use Rattle.std.specs.Prelude.{◌≡◌, IfSome};
+ghost use Rattle.std.specs.Prelude.{◌≡◌, ◌↔◌, [], IfSome, IsTrue, slice_get};
 ghost use Rattle.swim_shell.specs.Joins.{IsNext, stepped};
 
 use arrayvec::ArrayVec;
@@ -33,6 +33,7 @@ impl Peers {
     pub(crate) fn new(list: ArrayVec<Endpoint, LIST_MAX>) -> Peers
         ensures list { result.list ≡ list.items }
         ensures first { result.next ≡ 0 }
+        ensures all { IsTrue result.were_all ↔ (list.items ≡ []) }
     {
         let was_all = list.is_empty();
         Peers {
@@ -51,7 +52,8 @@ impl Peers {
 
     /// The peer that comes next; none if the list is empty.
     pub(crate) fn next(&self) -> Option<Endpoint>
-        ensures { IfSome result (IsNext self.now) }
+        ensures next { IfSome result (IsNext self.now) }
+        ensures value { result ≡ slice_get self.now.list self.now.next }
     {
         self.list.get(self.next).copied()
     }

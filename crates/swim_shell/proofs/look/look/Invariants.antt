@@ -1,6 +1,6 @@
-use Rattle.swim_shell.specs.Joins.{Looks}
+use Rattle.swim_shell.proofs.Asking.{LooksSoFar}
 use Rattle.swim_shell.proofs.look.look.Given as goal
 
 -- the pages so far
 abbrev pub invariant-loop : goal.invariant-loop
-invariant-loop g l = let known = g.C.Caller.known in Looks (known l.initial.caller) (known l.caller) l.rows
+invariant-loop g l = let known = g.C.Caller.known in LooksSoFar (known l.initial.caller) (known l.caller) l.rows l.counter
