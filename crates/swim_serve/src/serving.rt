@@ -6,6 +6,7 @@ ghost use Rattle.swim_node.specs.Node.{next_base};
 ghost use Rattle.swim_shell.specs.Ticks.{answers};
 ghost use Rattle.swim_serve.specs.Desks.{Tended, desk_of};
 ghost use Rattle.swim_serve.specs.Eras.{EraOf, SendsAll, Serves};
+ghost use Rattle.swim_serve.specs.Faults.{by_desk, by_receiver, by_refusal, fault_by, fault_of};
 ghost use Rattle.swim_serve.specs.Views.{new_caller};
 ghost use Rattle.swim_serve.specs.Works.{Received, Ticked, receiver_of};
 
@@ -18,7 +19,7 @@ use std::thread::Threads;
 use std::time::Clock;
 use swim_disk::Disk;
 use swim_node::{Link, Node};
-use swim_shared::{Outbox, Parts};
+use swim_shared::{Outbox, Parts, Sender as Ring};
 use swim_shell::{Alarmed, ControlEnd, Doors, Refusal, WorkerEnd};
 
 /// How many datagrams wait at most until the sender takes them.
@@ -34,32 +35,60 @@ pub enum Fault {
 }
 
 /// What a refusal of an era's beginning comes to.
-fn fault_by(why: Refusal) -> Fault {
+fn fault_by(why: Refusal) -> Fault
+    ensures { result ≡ fault_by why }
+{
     match why {
         Refusal::Memory => Fault::Memory,
         why => Fault::Worker(WorkerEnd::Refused(why)),
     }
 }
 
-/// The end of the desk, as that of a worker: none where it was told to stop, or its gate stopped it.
-fn end_of(end: Option<ControlEnd>) -> Option<WorkerEnd> {
+/// How a worker that a refused call ended ends the member, if it does: a full era does not.
+fn by_refusal(end: Option<Refusal>) -> Option<Fault>
+    ensures { result ≡ by_refusal end }
+{
     match end {
-        Some(ControlEnd::Refused(why)) => Some(WorkerEnd::Refused(why)),
+        None | Some(Refusal::EraFull) => None,
+        Some(why) => Some(Fault::Worker(WorkerEnd::Refused(why))),
+    }
+}
+
+/// How the receiver ends the member, if it does.
+fn by_receiver(end: Option<WorkerEnd>) -> Option<Fault>
+    ensures { result ≡ by_receiver end }
+{
+    match end {
+        None => None,
+        Some(WorkerEnd::Refused(why)) => by_refusal(Some(why)),
+        Some(WorkerEnd::Fault) => Some(Fault::Worker(WorkerEnd::Fault)),
+    }
+}
+
+/// How the desk ends the member, if it does: neither where it was told to stop, nor where its gate stopped it.
+fn by_desk(end: Option<ControlEnd>) -> Option<Fault>
+    ensures { result ≡ by_desk end }
+{
+    match end {
+        Some(ControlEnd::Refused(why)) => by_refusal(Some(why)),
         _ => None,
     }
 }
 
-/// The end of a worker, if it ends the member: each does but a full era.
-fn fault_of(ends: &EraEnds) -> Option<Fault> {
-    let all = [
-        ends.receiver,
-        ends.ticker.map(WorkerEnd::Refused),
-        ends.sender.map(WorkerEnd::Refused),
-        end_of(ends.control),
-    ];
-    let full = WorkerEnd::Refused(Refusal::EraFull);
-    let found = all.into_iter().flatten().find(|end| *end != full);
-    found.map(Fault::Worker)
+/// The fault that ends the member, if one does: the first in the order of the workers.
+fn fault_of(ends: &EraEnds) -> Option<Fault>
+    ensures { result ≡ fault_of ends.now }
+{
+    if let Some(fault) = by_receiver(ends.receiver) {
+        return Some(fault);
+    }
+    if let Some(fault) = by_refusal(ends.ticker) {
+        return Some(fault);
+    }
+    if let Some(fault) = by_refusal(ends.sender) {
+        return Some(fault);
+    }
+    by_desk(ends.control)
 }
 
 /// Ends an era of a node, and keeps the peers that the member knows then, if they are others than those that stand in the
@@ -77,6 +106,15 @@ fn end_era<D: Disk, T: Log>(rt: &T, node: &mut Node<D>)
     if let Err(fault) = node.keep_peers() {
         warn!(rt; "keep refused {fault}");
     }
+}
+
+/// An outbox with its ring, in which nothing waits.
+fn outbox_of(alloc: Global) -> Result<(Outbox, Ring), Fault>
+    ensures ring { IfOk result (λ made. made.0.ring ≡ made.1.ring) }
+    ensures put { IfOk result (λ made. made.0.put ≡ []) }
+    ensures got { IfOk result (λ made. made.1.got ≡ []) }
+{
+    Outbox::new(alloc, OUTBOX_PLACES).ok().ok_or(Fault::Memory)
 }
 
 /// What is left of an era, at the beginning of the next.
@@ -110,11 +148,11 @@ fn one_era<
         (SendsAll M.tells M.took M.failures node.base.limit outside.owed left.1.owed
         outside.link left.1.link)
         (Serves (Tended O.Reader.remaining O.Writer.contents node.base.limit)
-        (desk_of outside.desk.joiner outside.desk.conversation) (new_caller 3)
-        (desk_of left.1.desk.joiner left.1.desk.conversation)))) }
+        (desk_of outside.desk.joiner outside.desk.conversation outside.desk.others)
+        (new_caller 3)
+        (desk_of left.1.desk.joiner left.1.desk.conversation left.1.desk.others)))) }
 {
-    let made = Outbox::new(alloc, OUTBOX_PLACES);
-    let (outbox, ring) = made.ok().ok_or(Fault::Memory)?;
+    let (outbox, ring) = outbox_of(alloc)?;
     let parts = Parts::new(node, outbox, CALLERS, WATCHES);
     let ended = run_era::<Brand, _, _, _, _, _>(rt, alloc, parts, ring, outside, alarms);
     let EraEnd {

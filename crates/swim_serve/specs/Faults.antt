@@ -1,0 +1,49 @@
+-- How the ends of an era's workers end the member.
+use Rattle.std.specs.Prelude.{Option, Some, None}
+use Rattle.swim_shell.specs.declared.caller.Refusal.{Refusal}
+use Rattle.swim_shell.specs.declared.caller.Refusal.TheVariants as refusal
+use Rattle.swim_shell.specs.declared.conversation.ControlEnd.{ControlEnd}
+use Rattle.swim_shell.specs.declared.conversation.ControlEnd.TheVariants as control
+use Rattle.swim_shell.specs.declared.worker.WorkerEnd.{WorkerEnd}
+use Rattle.swim_shell.specs.declared.worker.WorkerEnd.TheVariants as worker
+use Rattle.swim_serve.specs.declared.serving.Fault.{Fault}
+use Rattle.swim_serve.specs.declared.serving.Fault.TheVariants as fault
+use Rattle.swim_serve.specs.declared.era.EraEnds.{EraEnds}
+
+-- an era could not begin: for want of memory, or as a call was refused
+abbrev pub fault_by : Refusal → Fault
+fault_by refusal.Memory = fault.Memory
+fault_by refusal.EraFull = fault.Worker (worker.Refused refusal.EraFull)
+fault_by refusal.Unread = fault.Worker (worker.Refused refusal.Unread)
+
+-- a refused call ends the member, but where the era is full
+abbrev pub by_refusal : Option Refusal → Option Fault
+by_refusal None = None
+by_refusal (Some refusal.EraFull) = None
+by_refusal (Some refusal.Memory) = Some (fault.Worker (worker.Refused refusal.Memory))
+by_refusal (Some refusal.Unread) = Some (fault.Worker (worker.Refused refusal.Unread))
+
+-- the receiver ends the member by its own fault too
+abbrev pub by_receiver : Option WorkerEnd → Option Fault
+by_receiver None = None
+by_receiver (Some worker.Fault) = Some (fault.Worker worker.Fault)
+by_receiver (Some (worker.Refused why)) = by_refusal (Some why)
+
+-- and the desk by no end of a connection, nor by `stop`
+abbrev pub by_desk : Option ControlEnd → Option Fault
+by_desk None = None
+by_desk (Some control.Closed) = None
+by_desk (Some control.Asked) = None
+by_desk (Some control.ReadFault) = None
+by_desk (Some control.WriteFault) = None
+by_desk (Some (control.Refused why)) = by_refusal (Some why)
+
+-- the first fault there is
+abbrev pub first_of : Option Fault → Option Fault → Option Fault
+first_of (Some why) _ = Some why
+first_of None next = next
+
+-- the fault that is told: the receiver's, or else the ticker's, the sender's or the desk's
+abbrev pub fault_of : EraEnds → Option Fault
+fault_of ends = first_of (by_receiver ends.receiver) (first_of (by_refusal ends.ticker)
+    (first_of (by_refusal ends.sender) (by_desk ends.control)))
