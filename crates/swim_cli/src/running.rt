@@ -166,6 +166,7 @@ where
     let peers = peers_of(settings.me, join.as_slice(), node.peers().as_slice());
     let paces = paces_of(&settings, rejoin, tick_ms);
     let joiner = Joiner::new(settings.me, settings.rules_of(), peers, paces, draws);
+    let desk = Desk::new(rt.alloc(), *logged, joiner, doors);
     let outside = Outside {
         receiver: Receiver::new(inbound),
         ticker: Ticker { rng },
@@ -175,7 +176,7 @@ where
         ),
         link,
         owed: 0,
-        desk: Desk::new(*logged, joiner, doors),
+        desk: desk.map_err(|_| Ending::Memory)?,
         logs: Logs::new(settings.me, number),
     };
     let alarms = [datagrams, connections];

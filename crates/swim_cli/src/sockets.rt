@@ -10,6 +10,9 @@ use swim_wire::Endpoint;
 /// No socket waits longer, in milliseconds.
 const WAIT_MAX_MILLIS: u64 = 1000;
 
+/// The control socket waits no longer, in milliseconds, so that a connection whose second is over ends soon.
+const DOORS_WAIT_MAX_MILLIS: u64 = 250;
+
 /// How long a socket waits at most: one tick, or a second if that is less.
 pub(crate) fn wait_of(tick_millis: u64) -> Duration {
     Duration::from_millis(tick_millis.min(WAIT_MAX_MILLIS))
@@ -35,6 +38,7 @@ pub(crate) fn bind_doors<'a, R: Net<Listener = TcpListener, Stream = TcpStream>,
 ) -> Result<TcpDoors<'a, C>, Ending> {
     let bound = TcpListener::bind(rt, address_of(control));
     let listener = bound.map_err(|error| Ending::of(&error, Ending::Socket))?;
+    let wait = wait.min(Duration::from_millis(DOORS_WAIT_MAX_MILLIS));
     let doors = TcpDoors::new(listener, waits, clock, wait);
     doors.map_err(|error| Ending::of(&error, Ending::Socket))
 }

@@ -1,7 +1,7 @@
 -- What is read and written is what the stream below gives and takes.
-use Rattle.std.proofs.Common.{◌≡◌, ℕ, List, refl, ◌∙◌, subst}
+use Rattle.std.proofs.Common.{ℕ, List, refl, ◌∙◌, subst}
 use Rattle.std.specs.Prelude.{Option, Some, None, Result, Ok, Err}
-use Rattle.std.specs.Io.KnownBytes.{Keeps, ReadConsumes, WriteAppends}
+use Rattle.std.specs.Io.KnownBytes.{Keeps, WriteAppends}
 
 -- known bytes that stay twice stay
 pub keeps_on : (a b c : Option (List ℕ)) → Keeps a b → Keeps b c → Keeps a c
@@ -14,13 +14,6 @@ keeps_on (Some xs) (Some ys) (Some zs) h k = k ∙ h
 pub keeps_same : (a : Option (List ℕ)) → Keeps a a
 keeps_same None = tt
 keeps_same (Some xs) = refl
-
--- a read after one that brought nothing is the one read
-pub reads_after : {E : Type 0} (a b c : Option (List ℕ)) (r : Result ℕ E) (buf : List ℕ) → Keeps a b → ReadConsumes b c r buf → ReadConsumes a c r buf
-reads_after a b c (Err e) buf h k = keeps_on a b c h k
-reads_after None b c (Ok n) buf h k = (tt, k.1)
-reads_after (Some xs) None c (Ok n) buf h k = absurd h
-reads_after {E} (Some xs) (Some ys) c (Ok n) buf h k = subst (λ w. ReadConsumes {E = E} (Some w) c (Ok n) buf) h k
 
 -- a write after those that took nothing is the one write
 pub writes_after : {E : Type 0} (a b c : Option (List ℕ)) (r : Result ℕ E) (buf : List ℕ) → Keeps a b → WriteAppends b c r buf → WriteAppends a c r buf

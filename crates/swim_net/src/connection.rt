@@ -12,9 +12,6 @@ use std::time::{Clock, Duration, Instant};
 /// The most that a connection may take for all its lines, in milliseconds.
 const CONNECTION_MILLIS: u64 = 1000;
 
-/// After so many reads a reader gives way once, so that bytes without end do not hold up its thread.
-const READS_MAX: u8 = 200;
-
 /// The waits of a connection, for a second and no longer: so nobody holds up the others by a line that never ends or by
 /// lines without end.
 #[derive(Drop)]
@@ -54,8 +51,6 @@ impl<'a, C: Clock> Patience<'a, C> {
 pub struct ConnectionReader<'a, S: Read + Drop, C: Clock> {
     stream: S,
     patience: Patience<'a, C>,
-    /// How many reads there were since it gave way.
-    reads: u8,
 }
 
 impl<'a, S: Read + Drop, C: Clock> ConnectionReader<'a, S, C> {
@@ -63,41 +58,16 @@ impl<'a, S: Read + Drop, C: Clock> ConnectionReader<'a, S, C> {
     pub(crate) fn new(stream: S, patience: Patience<'a, C>) -> ConnectionReader<'a, S, C>
         ensures { result.stream ≡ stream }
     {
-        ConnectionReader {
-            stream,
-            patience,
-            reads: 0,
-        }
-    }
-
-    /// Counts a read, and says whether the reader gives way in its place.
-    fn gives_way(&mut self) -> bool
-        ensures { self.new.stream ≡ self.old.stream }
-    {
-        if self.reads >= READS_MAX {
-            self.reads = 0;
-            return true;
-        }
-        self.reads += 1;
-        false
+        ConnectionReader { stream, patience }
     }
 }
 
 impl<'a, S: Read + Drop, C: Clock> Read for ConnectionReader<'a, S, C> {
     ghost remaining = { λ r. S.remaining r.stream };
 
-    /// Waits once if nothing has come. Gives `WouldBlock` if nothing has come after that, if the alarm was rung, or if there
-    /// were many reads, so that other things can be done before the next one; and `TimedOut` if the second is over.
-    #[tactic(auto, using(crate::proofs::Passing::reads_after))]
+    /// Gives `WouldBlock` if nothing has come, and `TimedOut` if the second is over.
     fn read(&mut self, buf: &mut [u8]) -> io::Result<usize> {
         self.patience.left()?;
-        if self.gives_way() {
-            return Err(io::Error::from(ErrorKind::WouldBlock));
-        }
-        match self.stream.read(buf) {
-            Err(error) if error.kind() == ErrorKind::WouldBlock => self.patience.wait()?,
-            read => return read,
-        }
         self.stream.read(buf)
     }
 }

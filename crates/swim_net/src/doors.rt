@@ -25,9 +25,9 @@ type Ends<'a, C> = (
 );
 
 impl<'a, C: Clock> TcpDoors<'a, C> {
-    /// Doors over a bound listener, which wait as long as `wait` at most for a connection, and a second at most for one that
-    /// came. The waits are those of the thread that calls them, and it waits in none beside them. An error is the system's:
-    /// it watches too many sockets.
+    /// Doors over a bound listener, which wait as long as `wait` at most; an open connection whose second is over is found so
+    /// soon after it. The waits are those of the thread that calls them, and it waits in none beside them. An error is the
+    /// system's: it watches too many sockets.
     pub fn new(
         listener: TcpListener,
         waits: &'a Waits,
@@ -73,15 +73,13 @@ impl<'a, C: Clock> Doors for TcpDoors<'a, C> {
 
     type Writer = ConnectionWriter<'a, Stream, C>;
 
-    /// Waits where none has come, and where the system refuses one that has.
     fn next(&mut self) -> Option<Ends<'a, C>> {
-        let (stream, _) = match self.listener.accept() {
-            Ok(accepted) => accepted,
-            Err(_) => {
-                self.waits.wait(self.clock, self.wait);
-                self.listener.accept().ok()?
-            }
-        };
+        let (stream, _) = self.listener.accept().ok()?;
         self.ends_of(stream).ok()
+    }
+
+    /// One that the system refused to give is asked for again after the wait.
+    fn wait(&mut self) {
+        self.waits.wait(self.clock, self.wait);
     }
 }

@@ -2,7 +2,7 @@
 use Rattle.std.proofs.Common.{◌≡◌, ℕ, ◌+◌, ◌==◌, ◌&&◌, ◌||◌, leb, Bool, true, false, true≢false, List, [], ◌∷◌, ◌++◌, length, refl, ap, sym, subst, ◌∙◌, arith, inl, inr, ⊎_elim, length-append}
 use Rattle.std.proofs.lemmas.List.{append-nil}
 use Rattle.std.proofs.lemmas.Bool.Decides.{nat_tests}
-use Rattle.std.specs.Prelude.{Option}
+use Rattle.std.specs.Prelude.{Option, Some, IfSome}
 use mathlib.Core.List.{IsPrefix}
 use Rattle.swim_member.specs.declared.event.Event.{Event}
 use Rattle.swim_node.specs.declared.entry.Entry.{Entry}
@@ -18,6 +18,9 @@ use Rattle.swim_serve.specs.Eras.{HasCalls, Knows, ByPass, Served, SendsBy, Send
 use Rattle.swim_serve.specs.Views.{view_of}
 use Rattle.swim_serve.specs.Works.{Sent}
 use Rattle.swim_serve.proofs.Fitting.{Fits}
+
+pub of_some : {A : Type 0} (P : A → Type 0) (o : Option A) (x : A) → o ≡ Some x → IfSome o P → P x
+of_some P o x is h = subst (λ w. IfSome w P) is h
 
 both : (a b : Bool) → (a && b) ≡ true → b ≡ true
 both true b h = h

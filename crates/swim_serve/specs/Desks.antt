@@ -1,5 +1,5 @@
 -- What a desk does with its caller.
-use Rattle.std.specs.Prelude.{◌≡◌, ℕ, ◌+◌, List, [], ◌∷◌, Option, Some, None}
+use Rattle.std.specs.Prelude.{◌≡◌, ℕ, ◌+◌, List, [], ◌∷◌, ◌++◌, ◌⊎◌, Option, Some, None}
 use Rattle.swim_shell.specs.declared.caller.Refusal.{Refusal}
 use Rattle.swim_shell.specs.declared.conversation.Conversation.{Conversation}
 use Rattle.swim_shell.specs.declared.conversation.ControlEnd.{ControlEnd}
@@ -10,22 +10,26 @@ use Rattle.swim_shell.specs.Views.{ConversationView, view_of}
 use Rattle.swim_shell.specs.Control.{Converses, ConversedBy}
 use Rattle.swim_serve.specs.Works.{Worked}
 
--- what a contract sees of a desk: its joiner, and the conversation that is open
+-- what a contract sees of a desk: its joiner, the conversation that has the turns, and those that
+-- are open beside it, the next one first
 pub record DeskView (S : Type 0) : Type 0 where
   pub joiner : JoinerView
   pub conversation : Option S
+  pub others : List S
 
 -- the same of these parts
-abbrev pub desk_of : {S : Type 0} → JoinerView → Option S → DeskView S
-desk_of joiner conversation = record { joiner = joiner; conversation = conversation }
+abbrev pub desk_of : {S : Type 0} → JoinerView → Option S → List S → DeskView S
+desk_of joiner conversation others =
+    record { joiner = joiner; conversation = conversation; others = others }
 
--- what a desk does next: its joiner asks; a conversation is opened; or the open one comes to its
--- end
--- after so many turns
+-- what a desk does next: its joiner asks; a conversation is opened, or the next one goes on; and
+-- the one that has the turns stands aside after so many of them, or comes to its end
 pub data Step (S : Type 0) : Type 0 where
   Asking : Step S
   Opening : S → Step S
-  Serving : S → ControlEnd → (turns : ℕ) → Step S
+  Resuming : S → Step S
+  Pausing : S → (turns : ℕ) → Step S
+  Ending : S → ControlEnd → (turns : ℕ) → Step S
 
 -- the end of the connection alone
 abbrev pub OfConnection : ControlEnd → Type 0
@@ -43,35 +47,46 @@ OfMember ends.WriteFault = ⊥
 OfMember ends.Asked = Unit {0}
 OfMember (ends.Refused why) = Unit {0}
 
+-- the conversation whose turn is next: a new one, or the first of the others
+abbrev pub IsTurnIn : {S : Type 0} → (S → Type 0) → S → List S → List S → Type 0
+IsTurnIn fresh c os us = (fresh c × (us ≡ os)) ⊎ (os ≡ c ∷ us)
+
 -- conversations begin so, and have turns and ends so
 module _ {S : Type 0} (fresh : S → Type 0) (worked : S → CallerView → S → CallerView → ℕ → Type 0)
     (ended : ControlEnd → S → CallerView → S → CallerView → ℕ → Type 0) (limit : ℕ) where
-  -- these steps, one after another, from where this conversation is open: the joiner asks and a
-  -- conversation is opened only where none is
-  abbrev pub Steps : JoinerView → Option S → CallerView → List (Step S) → Option S
-      → CallerView → Type 0
-  Steps j from p [] to q = (to ≡ from) × (q ≡ p)
-  Steps j from p (Asking ∷ ss) to q =
-      (from ≡ None) × (then : CallerView) × Asks j p then × Steps j None then ss to q
-  Steps j from p (Opening c ∷ ss) to q = (from ≡ None) × fresh c × Steps j (Some c) p ss to q
-  Steps j from p (Serving d end n ∷ ss) to q =
+  -- these steps, one after another, from this conversation and these others: the joiner asks, and a
+  -- conversation is opened or goes on, only where none has the turns; one that stands aside is the
+  -- last of the others, as it is then
+  abbrev pub Steps : JoinerView → Option S → List S → CallerView → List (Step S) → Option S
+      → List S → CallerView → Type 0
+  Steps j from os p [] to us q = (to ≡ from) × (us ≡ os) × (q ≡ p)
+  Steps j from os p (Asking ∷ ss) to us q =
+      (from ≡ None) × (then : CallerView) × Asks j p then × Steps j None os then ss to us q
+  Steps j from os p (Opening c ∷ ss) to us q =
+      (from ≡ None) × fresh c × Steps j (Some c) os p ss to us q
+  Steps j from os p (Resuming c ∷ ss) to us q =
+      (from ≡ None) × (rest : List S) × (os ≡ c ∷ rest) × Steps j (Some c) rest p ss to us q
+  Steps j from os p (Pausing d n ∷ ss) to us q =
+      (c : S) × (then : CallerView) × (from ≡ Some c) × worked c p d then n
+      × Steps j None (os ++ d ∷ []) then ss to us q
+  Steps j from os p (Ending d end n ∷ ss) to us q =
       (c : S) × (then : CallerView) × (from ≡ Some c) × OfConnection end × ended end c p d then n
-      × Steps j None then ss to q
+      × Steps j None os then ss to us q
 
-  -- the conversation that was opened has had turns since
+  -- the conversation that got the turns has had some since
   abbrev pub IsOpen : Option S → CallerView → Option S → CallerView → Type 0
   IsOpen None then now q = (now ≡ None) × (q ≡ then)
   IsOpen (Some c) then now q =
       (d : S) × (n : ℕ) × (now ≡ Some d) × worked c then d q n
 
-  -- the turns of a desk: all calls are the joiner's or of conversations, one at a time, and the one
-  -- that was open at the start goes on
+  -- the turns of a desk: all calls are the joiner's or of conversations, one at a time, and those
+  -- that were open at the start go on
   pub record Tending (a : DeskView S) (p : CallerView) (b : DeskView S) (q : CallerView) (turns : ℕ)
       : Type 0 where
     pub steps : List (Step S)
     pub since : Option S
     pub then : CallerView
-    pub done : Steps a.joiner a.conversation p steps since then
+    pub done : Steps a.joiner a.conversation a.others p steps since b.others then
     pub goes_on : IsOpen since then b.conversation q
     pub me : b.joiner.me ≡ a.joiner.me
     pub list : b.joiner.peers.list ≡ a.joiner.peers.list
@@ -84,40 +99,48 @@ module _ {S : Type 0} (fresh : S → Type 0) (worked : S → CallerView → S �
   EndsDesk end j (Some c) then now q =
       (d : S) × (n : ℕ) × (now ≡ Some d) × OfMember end × ended end c then d q n
 
-  -- the turns of a desk that ended so; the conversation that ended it stays open
+  -- the turns of a desk that ended so; the conversation that ended it keeps the turns
   pub record TendedBy (end : ControlEnd) (a : DeskView S) (p : CallerView) (b : DeskView S)
       (q : CallerView) (turns : ℕ)
       : Type 0 where
     pub steps : List (Step S)
     pub since : Option S
     pub then : CallerView
-    pub done : Steps a.joiner a.conversation p steps since then
+    pub done : Steps a.joiner a.conversation a.others p steps since b.others then
     pub ends_by : EndsDesk end a.joiner since then b.conversation q
     pub me : b.joiner.me ≡ a.joiner.me
     pub list : b.joiner.peers.list ≡ a.joiner.peers.list
 
   -- ---- parts of a turn
 
-  -- a conversation was opened that has had no turn yet, if one was
-  abbrev pub Opened : CallerView → Option S → Type 0
-  Opened p None = Unit {0}
-  Opened p (Some c) = (first : S) × fresh first × worked first p c p 0
+  -- it has the turns now and had none yet; or no conversation has them, and the others are the same
+  abbrev pub Opened : CallerView → List S → Option S → List S → Type 0
+  Opened p os None us = us ≡ os
+  Opened p os (Some c) us = (first : S) × IsTurnIn fresh first os us × worked first p c p 0
 
-  -- whatever the turns of a conversation before, it goes on after one turn more, or its connection
-  -- ended with it
-  abbrev pub ServedOn : S → CallerView → Option S → CallerView → Type 0
-  ServedOn a p None q =
-      (d : S) × (end : ControlEnd) × OfConnection end
-      × ((s : S) → (r : CallerView) → (n : ℕ) → worked s r a p n → ended end s r d q (n + 1))
-  ServedOn a p (Some b) q =
+  -- whatever the turns of a conversation before, one turn more and it goes on so
+  abbrev pub GoesOn : S → CallerView → S → CallerView → Type 0
+  GoesOn a p b q =
       (s : S) → (r : CallerView) → (n : ℕ) → worked s r a p n → worked s r b q (n + 1)
 
+  -- or that turn ended it so
+  abbrev pub EndsWith : ControlEnd → S → CallerView → S → CallerView → Type 0
+  EndsWith end a p b q =
+      (s : S) → (r : CallerView) → (n : ℕ) → worked s r a p n → ended end s r b q (n + 1)
+
+  -- after one turn more a conversation keeps the turns; or it stands aside, or its connection has
+  -- ended
+  abbrev pub ServedOn : S → CallerView → List S → Option S → List S → CallerView → Type 0
+  ServedOn a p os (Some b) us q = (us ≡ os) × GoesOn a p b q
+  ServedOn a p os None us q =
+      ((b : S) × (us ≡ os ++ b ∷ []) × GoesOn a p b q)
+      ⊎ ((b : S) × (end : ControlEnd) × (us ≡ os) × OfConnection end × EndsWith end a p b q)
+
   -- or the turn ended the worker
-  abbrev pub ServedTo : ControlEnd → S → CallerView → Option S → CallerView → Type 0
-  ServedTo end a p None q = ⊥
-  ServedTo end a p (Some b) q =
-      OfMember end
-      × ((s : S) → (r : CallerView) → (n : ℕ) → worked s r a p n → ended end s r b q (n + 1))
+  abbrev pub ServedTo : ControlEnd → S → CallerView → List S → Option S → List S → CallerView
+      → Type 0
+  ServedTo end a p os None us q = ⊥
+  ServedTo end a p os (Some b) us q = (us ≡ os) × OfMember end × EndsWith end a p b q
 
 -- of a connection that is new nothing was heard, and nothing is left to write
 pub record IsNew (c : ConversationView) : Type 0 where
@@ -126,11 +149,13 @@ pub record IsNew (c : ConversationView) : Type 0 where
   pub due : c.due ≡ None
 
 -- a reader tells what is to come, a writer what it has
-module _ {Rd Wr : Type 0} (remaining : Rd → Option (List ℕ)) (contents : Wr → Option (List ℕ))
-    (limit : ℕ) where
+module _ {Rd Wr : Type 0} (remaining : Rd → Option (List ℕ)) (contents : Wr → Option (List ℕ)) where
   abbrev pub IsNewTalk : Conversation Rd Wr → Type 0
   IsNewTalk c = IsNew (view_of remaining contents c)
 
+-- the turns of a caller of so many calls
+module _ {Rd Wr : Type 0} (remaining : Rd → Option (List ℕ)) (contents : Wr → Option (List ℕ))
+    (limit : ℕ) where
   abbrev pub TalkGoes : Conversation Rd Wr → CallerView → Conversation Rd Wr → CallerView → ℕ
       → Type 0
   TalkGoes a p b q n = Converses limit (view_of remaining contents a) p
@@ -144,24 +169,26 @@ module _ {Rd Wr : Type 0} (remaining : Rd → Option (List ℕ)) (contents : Wr 
   -- the turns of a desk whose conversations are with such readers and writers
   abbrev pub Tends : DeskView (Conversation Rd Wr) → CallerView → DeskView (Conversation Rd Wr)
       → CallerView → ℕ → Type 0
-  Tends = Tending IsNewTalk TalkGoes TalkEnds limit
+  Tends = Tending (IsNewTalk remaining contents) TalkGoes TalkEnds limit
 
   abbrev pub TendsTo : ControlEnd → DeskView (Conversation Rd Wr) → CallerView
       → DeskView (Conversation Rd Wr) → CallerView → ℕ → Type 0
-  TendsTo = TendedBy IsNewTalk TalkGoes TalkEnds limit
+  TendsTo = TendedBy (IsNewTalk remaining contents) TalkGoes TalkEnds limit
 
   -- a desk had some turns, and the last of them ended it so, if one did
   abbrev pub Tended : DeskView (Conversation Rd Wr) → CallerView → DeskView (Conversation Rd Wr)
       → CallerView → Option ControlEnd → Type 0
   Tended = Worked Tends TendsTo
 
-  abbrev pub Opens : CallerView → Option (Conversation Rd Wr) → Type 0
-  Opens = Opened IsNewTalk TalkGoes TalkEnds limit
+  abbrev pub Opens : CallerView → List (Conversation Rd Wr) → Option (Conversation Rd Wr)
+      → List (Conversation Rd Wr) → Type 0
+  Opens = Opened (IsNewTalk remaining contents) TalkGoes TalkEnds limit
 
-  abbrev pub ServesOn : Conversation Rd Wr → CallerView → Option (Conversation Rd Wr)
-      → CallerView → Type 0
-  ServesOn = ServedOn IsNewTalk TalkGoes TalkEnds limit
+  abbrev pub ServesOn : Conversation Rd Wr → CallerView → List (Conversation Rd Wr)
+      → Option (Conversation Rd Wr) → List (Conversation Rd Wr) → CallerView → Type 0
+  ServesOn = ServedOn (IsNewTalk remaining contents) TalkGoes TalkEnds limit
 
-  abbrev pub ServesTo : ControlEnd → Conversation Rd Wr → CallerView → Option (Conversation Rd Wr)
+  abbrev pub ServesTo : ControlEnd → Conversation Rd Wr → CallerView
+      → List (Conversation Rd Wr) → Option (Conversation Rd Wr) → List (Conversation Rd Wr)
       → CallerView → Type 0
-  ServesTo = ServedTo IsNewTalk TalkGoes TalkEnds limit
+  ServesTo = ServedTo (IsNewTalk remaining contents) TalkGoes TalkEnds limit

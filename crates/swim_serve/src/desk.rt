@@ -1,23 +1,34 @@
 //! The worker that answers control lines and joins members.
 
-ghost use Rattle.std.specs.Prelude.{◌≡◌, None, IfNone, IfSome, IfOk, IfErr, OnErr, IsTrue, false};
+ghost use Rattle.std.specs.Prelude.{◌≡◌, ◌<◌, ◌≤◌, [], ◌∷◌, ◌++◌, None, IfNone, IfSome, IfOk, IfErr};
+ghost use Rattle.std.specs.Prelude.{OnErr, IsSome, IsTrue, false, ◌+◌, length, option_to_list};
+ghost use Rattle.swim_serve.specs.declared.aside.TheConstants.{OPEN_MAX};
 ghost use Rattle.swim_shell.specs.Joins.{Asks, AsksInVain};
 ghost use Rattle.swim_shell.specs.Calls.{CallerView};
-ghost use Rattle.swim_serve.specs.Desks.{OfConnection, OfMember, Opens, ServesOn, ServesTo};
+ghost use Rattle.swim_serve.specs.Desks.{ServesOn, ServesTo, TalkGoes};
+ghost use Rattle.swim_serve.specs.Desks.{OfConnection, OfMember, Opens};
 
+use crate::aside::{Aside, OPEN_MAX};
 use log::Log;
+use std::alloc::{AllocError, Global};
 use std::time::Clock;
 use swim_shell::{ControlEnd, Conversation, Doors, Joiner, Observer, Refusal, Worker};
 
-/// Serves one control connection after the other, a line a turn, and gives the joiner a turn where none is open. A connection
-/// that is open at the end of an era stays so, and goes on in the next one.
+/// Serves control connections, a line a turn: the one that has the turns keeps them until its answer is written, and then stands
+/// aside for the next. Between two of them the joiner has a turn. It waits only when none of them has anything to say.
+/// Connections that are open at the end of an era stay so, and go on in the next one.
 #[derive(Drop)]
 pub struct Desk<W: Log + Clock + Drop, O: Doors + Drop> {
     rt: W,
     joiner: Joiner,
     doors: O,
-    /// The connection that is served.
+    /// The connection that has the turns.
     conversation: Option<Conversation<O::Reader, O::Writer>>,
+    /// Those that are open beside it, the next one first.
+    others: Aside<Conversation<O::Reader, O::Writer>>,
+    /// To how many of them in a row nothing had come, since the last wait.
+    silent: usize,
+    ghost room: { length (option_to_list conversation) + length others ≤ OPEN_MAX },
 }
 
 /// Whether only the connection ends so.
@@ -33,16 +44,36 @@ fn is_of_connection(end: ControlEnd) -> bool
 
 impl<W: Log + Clock + Drop, O: Doors + Drop> Desk<W, O> {
     /// A desk at these doors, with no connection open.
-    pub fn new(rt: W, joiner: Joiner, doors: O) -> Desk<W, O>
-        ensures joiner { result.joiner ≡ joiner }
-        ensures nobody { result.conversation ≡ None }
+    pub fn new(alloc: Global, rt: W, joiner: Joiner, doors: O) -> Result<Desk<W, O>, AllocError>
+        ensures joiner { IfOk result (λ desk. desk.joiner ≡ joiner) }
+        ensures nobody { IfOk result (λ desk. desk.conversation ≡ None) }
+        ensures none { IfOk result (λ desk. desk.others ≡ []) }
     {
-        Desk {
+        let others = Aside::new(alloc)?;
+        Ok(Desk {
             rt,
             joiner,
             doors,
             conversation: None,
-        }
+            others,
+            silent: 0,
+        })
+    }
+
+    /// Has the conversation stand aside, behind all others.
+    fn set_aside(&mut self, conversation: Conversation<O::Reader, O::Writer>)
+        requires nobody { self.old.conversation ≡ None }
+        requires room { length self.old.others < OPEN_MAX }
+        ensures last { self.new.others ≡ self.old.others ++ conversation ∷ [] }
+        ensures same { (self.new.conversation ≡ self.old.conversation)
+            × (self.new.joiner ≡ self.old.joiner) }
+    {
+        self.silent = if conversation.is_silent() {
+            self.silent.saturating_add(1)
+        } else {
+            0
+        };
+        self.others.push(conversation);
     }
 
     /// Gives the open conversation a turn. Says how it ended the worker, if it did; where only the connection ended, none is
@@ -52,16 +83,22 @@ impl<W: Log + Clock + Drop, O: Doors + Drop> Desk<W, O> {
         caller: &mut C,
         mut conversation: Conversation<O::Reader, O::Writer>,
     ) -> Option<ControlEnd>
-        requires { self.old.conversation ≡ None }
+        requires nobody { self.old.conversation ≡ None }
+        requires room { length self.old.others < OPEN_MAX }
         ensures on { IfNone result (ServesOn O.Reader.remaining O.Writer.contents C.limit
-            conversation (C.known caller.old) self.new.conversation (C.known caller.new)) }
+            conversation (C.known caller.old) self.old.others self.new.conversation
+            self.new.others (C.known caller.new)) }
         ensures end { IfSome result (λ end. ServesTo O.Reader.remaining O.Writer.contents
-            C.limit end conversation (C.known caller.old) self.new.conversation
-            (C.known caller.new)) }
+            C.limit end conversation (C.known caller.old) self.old.others
+            self.new.conversation self.new.others (C.known caller.new)) }
         ensures joiner { self.new.joiner ≡ self.old.joiner }
     {
         match conversation.turn(caller) {
             Some(end) if is_of_connection(end) => None,
+            None if !conversation.is_waiting() => {
+                self.set_aside(conversation);
+                None
+            }
             end => {
                 self.conversation = Some(conversation);
                 end
@@ -69,24 +106,62 @@ impl<W: Log + Clock + Drop, O: Doors + Drop> Desk<W, O> {
         }
     }
 
-    /// Lets the joiner ask, and opens the next connection if one comes.
+    /// The first of the others, which has the turns next. None where none of them has anything to say, after a wait.
+    fn resumed(&mut self) -> Option<Conversation<O::Reader, O::Writer>>
+        requires { self.old.conversation ≡ None }
+        ensures next { IfSome result (λ next. self.old.others
+            ≡ next ∷ self.new.others) }
+        ensures none { IfNone result (self.new.others ≡ self.old.others) }
+        ensures room { IfSome result (λ _. length self.new.others < OPEN_MAX) }
+        ensures same { (self.new.conversation ≡ self.old.conversation)
+            × (self.new.joiner ≡ self.old.joiner) }
+    {
+        if self.silent >= self.others.len() {
+            self.doors.wait();
+            self.silent = 0;
+            return None;
+        }
+        self.others.next()
+    }
+
+    /// Gives the turns to a conversation.
+    fn begin_turns<C: Observer>(&mut self, mut conversation: Conversation<O::Reader, O::Writer>)
+        requires { length self.old.others < OPEN_MAX }
+        ensures begun { IfSome self.new.conversation (λ begun. (p : CallerView)
+            → TalkGoes O.Reader.remaining O.Writer.contents C.limit conversation p begun p 0) }
+        ensures some { IsSome self.new.conversation }
+        ensures same { (self.new.others ≡ self.old.others)
+            × (self.new.joiner ≡ self.old.joiner) }
+    {
+        Worker::<C>::begin(&mut conversation);
+        self.conversation = Some(conversation);
+    }
+
+    /// Lets the joiner ask, and gives the turns to the next conversation, if there is one.
     fn stand_by<C: Observer>(&mut self, caller: &mut C) -> Result<(), Refusal>
         requires { self.old.conversation ≡ None }
         ensures asks { IfOk result (λ _. Asks self.old.joiner (C.known caller.old)
             (C.known caller.new)) }
         ensures opens { IfOk result (λ _. Opens O.Reader.remaining O.Writer.contents C.limit
-            (C.known caller.new) self.new.conversation) }
+            (C.known caller.new) self.old.others self.new.conversation
+            self.new.others) }
         ensures in_vain { IfErr result (λ why. AsksInVain C.limit why self.old.joiner
             (C.known caller.old) (C.known caller.new)) }
         ensures me { self.new.joiner.me ≡ self.old.joiner.me }
-        ensures nobody { OnErr result (self.new.conversation ≡ None) }
+        ensures nobody { OnErr result ((self.new.conversation ≡ None)
+            × (self.new.others ≡ self.old.others)) }
         ensures list { self.new.joiner.peers.list ≡ self.old.joiner.peers.list }
     {
         self.joiner.turn(&self.rt, caller)?;
-        if let Some((reader, writer)) = self.doors.next() {
-            let mut conversation = Conversation::new(reader, writer);
-            Worker::<C>::begin(&mut conversation);
-            self.conversation = Some(conversation);
+        if self.others.len() < OPEN_MAX {
+            if let Some((reader, writer)) = self.doors.next() {
+                self.silent = 0;
+                self.begin_turns::<C>(Conversation::new(reader, writer));
+                return Ok(());
+            }
+        }
+        if let Some(conversation) = self.resumed() {
+            self.begin_turns::<C>(conversation);
         }
         Ok(())
     }
@@ -98,10 +173,12 @@ impl<C: Observer, W: Log + Clock + Drop, O: Doors + Drop> Worker<C> for Desk<W, 
     type End = ControlEnd;
 
     ghost worked = { λ a p b q n. Tends O.Reader.remaining O.Writer.contents C.limit
-        (desk_of a.joiner a.conversation) p (desk_of b.joiner b.conversation) q n };
+        (desk_of a.joiner a.conversation a.others) p
+        (desk_of b.joiner b.conversation b.others) q n };
 
     ghost ended = { λ end a p b q n. TendsTo O.Reader.remaining O.Writer.contents C.limit end
-        (desk_of a.joiner a.conversation) p (desk_of b.joiner b.conversation) q n };
+        (desk_of a.joiner a.conversation a.others) p
+        (desk_of b.joiner b.conversation b.others) q n };
 
     #[tactic(auto, using(crate::proofs::Tending::tending_none, crate::proofs::Tending::tending_begun))]
     fn begin(&mut self) {

@@ -307,9 +307,10 @@ fn work<
         ring outside.link back.ring back.outside.link back.passes.sender back.ends.sender) }
     ensures control { IfOk result (λ back. ByPass (Tended O.Reader.remaining O.Writer.contents
         N.base.limit) N.base
-        (desk_of outside.desk.joiner outside.desk.conversation) (new_caller 3)
-        (desk_of back.outside.desk.joiner back.outside.desk.conversation)
-        back.passes.control back.ends.control) }
+        (desk_of outside.desk.joiner outside.desk.conversation outside.desk.others)
+        (new_caller 3)
+        (desk_of back.outside.desk.joiner back.outside.desk.conversation
+        back.outside.desk.others) back.passes.control back.ends.control) }
     ensures room { IfOk result (λ back. back.room.items ≡ []) }
 {
     let (mut passes, mut watches) = held;
@@ -365,6 +366,30 @@ pub struct EraEnd<
     pub ends: EraEnds,
 }
 
+/// A node that is shared, with the passes and the watches of all who call.
+type Sharing<N, D, R> = (Shared<N, D, Outbox, R>, (Vec<Pass<N>>, Vec<Watch<N>>));
+
+/// Shares a node with the workers of an era. An error is Memory where there is none.
+fn share<N: Name, D: Disk + Drop, R: Wait + Copy + Drop>(
+    rt: &R,
+    alloc: Global,
+    parts: Parts<D, Outbox>,
+) -> Result<Sharing<N, D, R>, Refusal>
+    requires book { parts.book ≡ N.book }
+    requires base { parts.node.base ≡ N.base }
+    requires disk { (D.state parts.node.disk).name ≡ N.disk }
+    requires owner { parts.node.owner ≡ N.owner }
+    requires first { parts.node.first ≡ N.first }
+    requires link { parts.link.ring ≡ N.link }
+    requires start { parts.link.put ≡ N.start }
+    requires callers { parts.callers ≡ CALLERS }
+    ensures passes { IfOk result (λ made. made.1.0.items ≡ new_passes CALLERS) }
+{
+    let made = Shared::<N, D, Outbox, R>::new(alloc, *rt, parts);
+    let (shared, passes, watches) = made.ok().ok_or(Refusal::Memory)?;
+    Ok((shared, (passes, watches)))
+}
+
 /// One era of a shared node, from its beginning to its end: its workers, which one of these alarms wakes where they wait at
 /// sockets. An error is Memory where there is none or no thread for a worker, or why the call was refused that was to tell
 /// what the era before owed.
@@ -409,16 +434,17 @@ pub fn run_era<
         outside.owed ring outside.link end.outside.link end.ends.sender
         end.odd end.outside.owed end.node.entries) }
     ensures control { IfOk result (λ end. Served (Tended O.Reader.remaining O.Writer.contents
-        N.base.limit) (desk_of outside.desk.joiner outside.desk.conversation) (new_caller 3)
-        (desk_of end.outside.desk.joiner end.outside.desk.conversation) end.ends.control
-        end.odd end.node.entries) }
+        N.base.limit)
+        (desk_of outside.desk.joiner outside.desk.conversation outside.desk.others)
+        (new_caller 3)
+        (desk_of end.outside.desk.joiner end.outside.desk.conversation
+        end.outside.desk.others) end.ends.control end.odd end.node.entries) }
 {
-    let made = Shared::<N, D, Outbox, R>::new(alloc, *rt, parts);
-    let (shared, passes, watches) = made.ok().ok_or(Refusal::Memory)?;
+    let (shared, held) = share::<N, D, R>(rt, alloc, parts)?;
     let pace = Pace::new();
     let ending = Ending::new(&pace, alarms);
     let ring = RingSender::<N>::new(ring);
-    let back = work(rt, &shared, (passes, watches), ring, outside, &ending)?;
+    let back = work(rt, &shared, held, ring, outside, &ending)?;
     let Back {
         passes,
         room,

@@ -1,6 +1,7 @@
 //! Where the workers of a member meet its lock and its threads.
 #![tactic(auto)]
 
+mod aside;
 mod attending;
 mod beat;
 mod bell;

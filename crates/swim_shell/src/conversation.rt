@@ -56,6 +56,8 @@ pub struct Conversation<Rd: Read + Drop, Wr: Write + Drop> {
     answers: AnswerWriter<Wr>,
     /// How the last line ends it.
     due: Option<LineEnd>,
+    /// Whether nothing had come in its last turn.
+    is_silent: bool,
 }
 
 /// Makes the call of a line, and writes what came of it. Says why it was refused, if it was.
@@ -160,11 +162,17 @@ impl<Rd: Read + Drop, Wr: Write + Drop> Conversation<Rd, Wr> {
             lines: LineReader::new(reader),
             answers: AnswerWriter::new(writer),
             due: None,
+            is_silent: false,
         }
     }
 
+    /// Whether nothing had come in its last turn, neither a whole line nor its end.
+    pub fn is_silent(&self) -> bool {
+        self.is_silent
+    }
+
     /// Whether an answer is on its way.
-    fn is_waiting(&self) -> bool
+    pub fn is_waiting(&self) -> bool
         ensures value { result ≡ (view_of Rd.remaining Wr.contents self.now).waits }
         ensures left { result ≡ false → left_of self.now.answers ≡ [] }
         ensures due { result ≡ false → self.now.due ≡ None }
@@ -225,12 +233,16 @@ impl<C: Observer, Rd: Read + Drop, Wr: Write + Drop> Worker<C> for Conversation<
     }
 
     fn turn(&mut self, caller: &mut C) -> Option<ControlEnd> {
+        self.is_silent = false;
         if self.is_waiting() {
             return self.send();
         }
         match self.hear(caller) {
             Ok(()) => self.send(),
-            Err(NoLine::NotYet) => None,
+            Err(NoLine::NotYet) => {
+                self.is_silent = true;
+                None
+            }
             Err(NoLine::Ended) => Some(ControlEnd::Closed),
             Err(NoLine::Failed) => Some(ControlEnd::ReadFault),
         }

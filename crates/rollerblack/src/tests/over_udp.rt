@@ -1,11 +1,14 @@
 //! A member that runs over UDP.
 
+ghost use Rattle.std.specs.Prelude.{◌≡◌, [], IfOk};
+
 use crate::{
     ArrayVec, Beat, ChaCha20Rng, Desk, Disk, Endpoint, Joiner, Logs, MemDisk, Node, Outside, Owner,
     Paces, Receiver, SeedableRng, Settings, TcpDoors, Ticker, Waits, bind_datagrams, init,
     run_member,
 };
 use log::Log;
+use std::alloc::Global;
 use std::io::{Read, Write};
 use std::net::{Ipv4Addr, Net, SocketAddr, SocketAddrV4, TcpListener, TcpStream};
 use std::random::RandomSource;
@@ -19,6 +22,14 @@ const LIMIT: u32 = 4096;
 
 /// How long a tick lasts, in milliseconds. No socket waits longer.
 const TICK_MILLIS: u64 = 100;
+
+/// Opens a member on its state file.
+fn open<D: Disk + Drop>(alloc: Global, disk: D, settings: Settings) -> Result<Node<D>, &'static str>
+    ensures { IfOk result (λ node. node.entries ≡ []) }
+{
+    settings.check().map_err(|_| "settings")?;
+    Node::open(alloc, disk, settings, LIMIT).map_err(|_| "a state file")
+}
 
 /// Runs a member until a control connection says `stop`. An error is what was refused. Its datagrams come in at the
 /// address `at`, by which the others have to know it: that of `settings.me`.
@@ -41,8 +52,7 @@ where
     let (inbound, link, datagrams) = bound.map_err(|_| "a socket")?;
     let (waits, connections) = Waits::new(rt, alloc).map_err(|_| "waits")?;
     let doors = TcpDoors::new(control, &waits, logged, tick).map_err(|_| "control")?;
-    settings.check().map_err(|_| "settings")?;
-    let node = Node::open(alloc, disk, settings, LIMIT).map_err(|_| "a state file")?;
+    let node = open(alloc, disk, settings)?;
     let mut key = [0; 32];
     rt.fill_bytes(&mut key).map_err(|_| "a random key")?;
     let rng = ChaCha20Rng::from_seed(key);
@@ -55,13 +65,14 @@ where
     };
     let peers = ArrayVec::new();
     let joiner = Joiner::new(settings.me, settings.rules_of(), peers, paces, draws);
+    let desk = Desk::new(alloc, *logged, joiner, doors).map_err(|_| "memory")?;
     let outside = Outside {
         receiver: Receiver::new(inbound),
         ticker: Ticker { rng },
         beat: Beat::new(tick, settings.period.saturating_mul(2)),
         link,
         owed: 0,
-        desk: Desk::new(*logged, joiner, doors),
+        desk,
         logs: Logs::new(settings.me, node.first()),
     };
     run_member(logged, alloc, node, outside, &[datagrams, connections]).map_err(|_| "a worker")

@@ -7,7 +7,7 @@ use std::net::{TcpListener, TcpStream, UdpSocket};
 use std::os::fd::{AsRawFd, RawFd};
 use std::test::Fail;
 use std::thread::join;
-use std::time::Instant;
+use std::time::{Duration, Instant};
 use swim_shell::{Alarm, Doors};
 
 /// How many connections come one after the other.
@@ -16,15 +16,20 @@ const CONNECTIONS: u32 = 200;
 /// How many turns a reader has at most that reads until its connection is over.
 const TURNS: u32 = 100_000;
 
-/// An alarm from another thread ends the wait for a connection.
+/// A wait that a test waits for again and again.
+fn short() -> Duration {
+    Duration::from_millis(50)
+}
+
+/// An alarm from another thread ends a wait.
 #[test]
-fn alarm_ends_next(rt: HostRuntime) -> Result<(), Fail> {
+fn alarm_ends_wait(rt: HostRuntime) -> Result<(), Fail> {
     let listener = TcpListener::bind(&rt, address(0))?;
     let (waits, alarm) = Waits::new(&rt, rt.alloc())?;
     let mut doors = TcpDoors::new(listener, &waits, &rt, long())?;
     let start = Instant::now(&rt)?;
-    let (none, _) = join(&rt, || doors.next().is_none(), || ring_later(&rt, &alarm));
-    assert!(&rt; none);
+    assert!(&rt; doors.next().is_none());
+    let _ = join(&rt, || doors.wait(), || ring_later(&rt, &alarm));
     let took = start.elapsed(&rt)?.as_millis();
     assert!(&rt; 15 < took && took < ENDED_MILLIS);
     Ok(())
@@ -32,21 +37,21 @@ fn alarm_ends_next(rt: HostRuntime) -> Result<(), Fail> {
 
 /// A connection that comes in the wait ends it.
 #[test]
-fn connection_ends_next(rt: HostRuntime) -> Result<(), Fail> {
+fn connection_ends_wait(rt: HostRuntime) -> Result<(), Fail> {
     let listener = TcpListener::bind(&rt, address(0))?;
     let port = listener.local_addr()?.port();
     let (waits, _) = Waits::new(&rt, rt.alloc())?;
     let mut doors = TcpDoors::new(listener, &waits, &rt, long())?;
     let start = Instant::now(&rt)?;
-    let (made, came) = join(
+    let (made, _) = join(
         &rt,
         || {
             sleep(&rt, 30);
             TcpStream::connect(&rt, address(port)).is_ok()
         },
-        || doors.next().is_some(),
+        || doors.wait(),
     );
-    assert!(&rt; made && came);
+    assert!(&rt; made && doors.next().is_some());
     assert!(&rt; start.elapsed(&rt)?.as_millis() < ENDED_MILLIS);
     Ok(())
 }
@@ -57,28 +62,34 @@ fn failed<R: Read>(reader: &mut R) -> Option<ErrorKind> {
     reader.read(&mut one).err().map(|error| error.kind())
 }
 
-/// An alarm from another thread ends a read of a connection that says nothing.
+/// A read of a connection that says nothing does not wait; what it says later ends a wait.
 #[test]
-fn alarm_ends_read(rt: HostRuntime) -> Result<(), Fail> {
+fn read_of_nothing(rt: HostRuntime) -> Result<(), Fail> {
     let listener = TcpListener::bind(&rt, address(0))?;
-    let silent = TcpStream::connect(&rt, listener.local_addr()?)?;
-    let (waits, alarm) = Waits::new(&rt, rt.alloc())?;
+    let mut silent = TcpStream::connect(&rt, listener.local_addr()?)?;
+    let (waits, _) = Waits::new(&rt, rt.alloc())?;
     let mut doors = TcpDoors::new(listener, &waits, &rt, long())?;
     let (mut reader, _) = doors.next().ok_or("a connection")?;
     let start = Instant::now(&rt)?;
-    let (kind, _) = join(&rt, || failed(&mut reader), || ring_later(&rt, &alarm));
-    assert_eq!(&rt; kind, Some(ErrorKind::WouldBlock));
-    let took = start.elapsed(&rt)?.as_millis();
-    assert!(&rt; 15 < took && took < ENDED_MILLIS);
-    let _ = silent;
+    assert_eq!(&rt; failed(&mut reader), Some(ErrorKind::WouldBlock));
+    let (said, _) = join(
+        &rt,
+        || {
+            sleep(&rt, 30);
+            silent.write_all(b"1").is_ok()
+        },
+        || read_whole(&mut doors, &mut reader, &mut [0u8; 1]),
+    );
+    assert!(&rt; said && start.elapsed(&rt)?.as_millis() < ENDED_MILLIS);
     Ok(())
 }
 
-/// Reads byte after byte until a read fails otherwise than by `WouldBlock`.
-fn last_failure<R: Read>(reader: &mut R) -> Option<ErrorKind> {
+/// Reads byte after byte until a read fails otherwise than by `WouldBlock`, after which it waits.
+fn last_failure<D: Doors, R: Read>(doors: &mut D, reader: &mut R) -> Option<ErrorKind> {
     for _ in 0..TURNS {
         match failed(reader) {
-            None | Some(ErrorKind::WouldBlock) => {}
+            None => {}
+            Some(ErrorKind::WouldBlock) => doors.wait(),
             other => return other,
         }
     }
@@ -95,20 +106,20 @@ fn drip<R: Host>(rt: &R, mut stream: TcpStream) {
     }
 }
 
-/// A connection whose line does not end holds the next one for a second, and no longer.
+/// A connection whose line does not end ends after a second.
 #[test]
 fn endless_line(rt: HostRuntime) -> Result<(), Fail> {
     let listener = TcpListener::bind(&rt, address(0))?;
     let dripping = TcpStream::connect(&rt, listener.local_addr()?)?;
     let (waits, _) = Waits::new(&rt, rt.alloc())?;
-    let mut doors = TcpDoors::new(listener, &waits, &rt, long())?;
+    let mut doors = TcpDoors::new(listener, &waits, &rt, short())?;
     let (mut reader, writer) = doors.next().ok_or("a connection")?;
     let start = Instant::now(&rt)?;
     let (_, took) = join(
         &rt,
         || drip(&rt, dripping),
         || {
-            let kind = last_failure(&mut reader);
+            let kind = last_failure(&mut doors, &mut reader);
             drop(reader);
             drop(writer);
             (kind, start.elapsed(&rt).map_or(0, |took| took.as_millis()))
@@ -119,39 +130,34 @@ fn endless_line(rt: HostRuntime) -> Result<(), Fail> {
     Ok(())
 }
 
-/// A connection that says nothing holds the next one for a second, and no longer; what came beside it is served next.
+/// A connection that says nothing holds up no other, and ends after a second.
 #[test]
 fn stalled_connection(rt: HostRuntime) -> Result<(), Fail> {
     let listener = TcpListener::bind(&rt, address(0))?;
     let at = listener.local_addr()?;
     let silent = TcpStream::connect(&rt, at)?;
     let (waits, _) = Waits::new(&rt, rt.alloc())?;
-    let mut doors = TcpDoors::new(listener, &waits, &rt, long())?;
+    let mut doors = TcpDoors::new(listener, &waits, &rt, short())?;
     let (mut reader, _) = doors.next().ok_or("a connection")?;
     let start = Instant::now(&rt)?;
-    let (second, kind) = join(
-        &rt,
-        || {
-            sleep(&rt, 30);
-            TcpStream::connect(&rt, at).is_ok_and(|mut next| next.write_all(b"2").is_ok())
-        },
-        || last_failure(&mut reader),
+    let mut second = TcpStream::connect(&rt, at)?;
+    second.write_all(b"2")?;
+    let (mut other, _) = doors.next().ok_or("the second connection")?;
+    let mut said = [0u8; 1];
+    assert!(&rt; read_whole(&mut doors, &mut other, &mut said).is_some());
+    assert!(&rt; said == *b"2" && start.elapsed(&rt)?.as_millis() < ENDED_MILLIS);
+    assert_eq!(&rt;
+        last_failure(&mut doors, &mut reader),
+        Some(ErrorKind::TimedOut)
     );
-    assert!(&rt; second);
-    assert_eq!(&rt; kind, Some(ErrorKind::TimedOut));
     let took = start.elapsed(&rt)?.as_millis();
     assert!(&rt; 900 < took && took < 5000);
-    let (mut reader, _) = doors.next().ok_or("the second connection")?;
-    let mut said = [0u8; 1];
-    reader.read_exact(&mut said)?;
-    assert!(&rt; said == *b"2");
-    assert!(&rt; start.elapsed(&rt)?.as_millis() < 5000);
     let _ = silent;
     Ok(())
 }
 
-/// Reads so many bytes, turn after turn, and says in how many turns; none if they do not come.
-fn read_whole<R: Read>(reader: &mut R, bytes: &mut [u8]) -> Option<u32> {
+/// Reads so many bytes, turn after turn, and says in how many turns; none if they do not come. It waits where nothing has come.
+fn read_whole<D: Doors, R: Read>(doors: &mut D, reader: &mut R, bytes: &mut [u8]) -> Option<u32> {
     let mut kept = 0;
     for turns in 0..TURNS {
         if kept >= bytes.len() {
@@ -159,7 +165,7 @@ fn read_whole<R: Read>(reader: &mut R, bytes: &mut [u8]) -> Option<u32> {
         }
         match reader.read(&mut bytes[kept..kept + 1]) {
             Ok(1) => kept += 1,
-            Err(error) if error.kind() == ErrorKind::WouldBlock => {}
+            Err(error) if error.kind() == ErrorKind::WouldBlock => doors.wait(),
             _ => return None,
         }
     }
@@ -187,7 +193,7 @@ fn slow_line(rt: HostRuntime) -> Result<(), Fail> {
     let (said, turns) = join(
         &rt,
         || say_slowly(&rt, &mut stream, &alarm),
-        || read_whole(&mut reader, &mut line),
+        || read_whole(&mut doors, &mut reader, &mut line),
     );
     assert!(&rt; said && turns.is_some_and(|turns| turns > 7));
     assert!(&rt; line == *b"status\n");
@@ -195,22 +201,6 @@ fn slow_line(rt: HostRuntime) -> Result<(), Fail> {
     let mut answer = [0u8; 3];
     stream.read_exact(&mut answer)?;
     assert!(&rt; answer == *b"ok\n");
-    Ok(())
-}
-
-/// Bytes without end do not hold up the thread: of 1000 some reads give way, and no byte is lost.
-#[test]
-fn gives_way(rt: HostRuntime) -> Result<(), Fail> {
-    let listener = TcpListener::bind(&rt, address(0))?;
-    let mut stream = TcpStream::connect(&rt, listener.local_addr()?)?;
-    let (waits, _) = Waits::new(&rt, rt.alloc())?;
-    let mut doors = TcpDoors::new(listener, &waits, &rt, long())?;
-    let (mut reader, _) = doors.next().ok_or("a connection")?;
-    stream.write_all(&[7u8; 1000])?;
-    let mut bytes = [0u8; 1000];
-    let turns = read_whole(&mut reader, &mut bytes);
-    assert!(&rt; turns.is_some_and(|turns| turns > 1003));
-    assert!(&rt; bytes == [7u8; 1000]);
     Ok(())
 }
 
@@ -310,7 +300,7 @@ fn descriptors(rt: HostRuntime) -> Result<(), Fail> {
         stream.write_all(&number.to_be_bytes())?;
         let (mut reader, mut writer) = doors.next().ok_or("a connection")?;
         let mut said = [0u8; 4];
-        assert!(&rt; read_whole(&mut reader, &mut said).is_some());
+        assert!(&rt; read_whole(&mut doors, &mut reader, &mut said).is_some());
         assert!(&rt; said == number.to_be_bytes());
         writer.write_all(&said)?;
         stream.read_exact(&mut said)?;

@@ -110,9 +110,9 @@ impl<const LIMIT: usize> Scripted<LIMIT> {
         Status {
             phase: Phase::Running,
             number: 1,
-            alive: 0,
-            suspect: 0,
-            confirmed: 0,
+            alive: 3,
+            suspect: 1,
+            confirmed: 2,
             length: self.count,
         }
     }

@@ -19,13 +19,13 @@ const TALKS: [Talk; 9] = [
     Talk {
         input: b"status\nsta",
         script: &[],
-        output: b"ok running number 1 alive 0 suspect 0 confirmed 0 length 0\n",
+        output: b"ok running number 1 alive 3 suspect 1 confirmed 2 length 0\n",
         end: ControlEnd::Closed,
     },
     Talk {
         input: b"members\nstatus\nmembers 10.0.0.3:7000\n",
         script: &[Said::Member(4)],
-        output: b"ok 1\nalive 10.0.0.3:7000 4\nok running number 1 alive 0 suspect 0 confirmed 0 length 1\nok 0\n",
+        output: b"ok 1\nalive 10.0.0.3:7000 4\nok running number 1 alive 3 suspect 1 confirmed 2 length 1\nok 0\n",
         end: ControlEnd::Closed,
     },
     Talk {
@@ -204,7 +204,7 @@ fn full_eras(rt: HostRuntime) -> Result<(), Fail> {
         assert_eq!(&rt; end, Some(ControlEnd::Closed));
         assert_eq!(&rt;
             writer.out(),
-            b"error 5 era full\nok left\nok running number 1 alive 0 suspect 0 confirmed 0 length 1\n".as_slice()
+            b"error 5 era full\nok left\nok running number 1 alive 3 suspect 1 confirmed 2 length 1\n".as_slice()
         );
     }
     Ok(())

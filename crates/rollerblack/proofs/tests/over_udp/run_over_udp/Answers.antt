@@ -8,3 +8,6 @@ run_member-requires-send-I g c κs within = search (sendable, crosses, UdpInboun
 
 pub run_member-requires-send-M : goal.run_member-requires-send-M
 run_member-requires-send-M g c κs within = search (sendable, crosses, UdpLink-send) depth 30
+
+pub run_member-requires-after_bounds : goal.run_member-requires-after_bounds
+run_member-requires-after_bounds g c κs within = c.in_ok-node.ensures

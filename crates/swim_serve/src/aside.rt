@@ -1,0 +1,60 @@
+//! Connections that stand aside.
+
+ghost use Rattle.std.specs.Prelude.{◌≡◌, ◌<◌, ◌≤◌, [], ◌∷◌, ◌++◌, length, IfNone, IfOk, IfSome};
+ghost use Rattle.std.specs.VecDeque.{deque_len, deque_capacity};
+ghost use Rattle.swim_serve.specs.declared.aside.TheConstants.{OPEN_MAX};
+
+use std::alloc::{AllocError, Global};
+use std::collections::VecDeque;
+use std::marker::Model;
+
+/// The most connections that are open at a time. Others wait outside.
+pub const OPEN_MAX: usize = 8;
+
+/// Connections that are open while another has the turns, the next one first. Contracts see them as a list.
+#[derive(Drop)]
+pub struct Aside<S: Drop> {
+    waiting: VecDeque<S>,
+    ghost room: { OPEN_MAX ≤ deque_capacity waiting },
+}
+
+impl<S: Drop> Model for Aside<S> {
+    ghost use Rattle.std.specs.Prelude.{List};
+
+    ghost Value = { List S };
+
+    ghost view = { λ aside. aside.waiting.items };
+}
+
+impl<S: Drop> Aside<S> {
+    /// None yet. An error is that there is no memory for them.
+    pub fn new(alloc: Global) -> Result<Aside<S>, AllocError>
+        ensures { IfOk result (λ none. none ≡ []) }
+    {
+        let waiting = VecDeque::with_capacity(alloc, OPEN_MAX)?;
+        Ok(Aside { waiting })
+    }
+
+    /// How many they are.
+    pub fn len(&self) -> usize
+        ensures { result ≡ length self.now }
+    {
+        self.waiting.len()
+    }
+
+    /// Puts one behind all others.
+    pub fn push(&mut self, last: S)
+        requires { length self.old < OPEN_MAX }
+        ensures { self.new ≡ self.old ++ last ∷ [] }
+    {
+        self.waiting.push_back_reserved(last);
+    }
+
+    /// Takes the next one out.
+    pub fn next(&mut self) -> Option<S>
+        ensures some { IfSome result (λ next. self.old ≡ next ∷ self.new) }
+        ensures none { IfNone result (self.new ≡ self.old) }
+    {
+        self.waiting.pop_front()
+    }
+}
