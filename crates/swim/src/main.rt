@@ -12,8 +12,8 @@ use std::sync::Wait;
 use std::thread::Threads;
 use std::time::Clock;
 use swim_cli::{
-    Ending, Stamped, Subcommand, ask, hold_standard, level, make, read_words, run, show_members,
-    watch_members,
+    Ending, LogStream, Stamped, Subcommand, ask, hold_standard, level, make, read_words, run,
+    show_members, watch_members,
 };
 use swim_play::play;
 use swim_script::ScriptFault;
@@ -136,7 +136,8 @@ fn main(rt: HostRuntime) -> ExitCode {
         Ok(words) => words,
         Err(status) => return status,
     };
-    let logged = Logged::new(rt, level(&rt), Stamped(rt));
+    let stream = LogStream::new(&rt);
+    let logged = Logged::new(rt, level(&rt), Stamped::new(rt, &stream));
     match read_words(rt.alloc(), words.as_slice()) {
         Ok(Some(asked)) => match answer(&rt, &logged, asked) {
             Ok(status) => status,
