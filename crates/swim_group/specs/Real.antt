@@ -1,7 +1,7 @@
 -- Real members of a group with what is kept of their datagrams, and what each call makes of them.
 use Rattle.std.specs.Prelude.{◌≡◌, ◌≢◌, ℕ, ◌+◌, ◌<◌, ◌≤◌, max, List, [], ◌∷◌, ◌++◌, map, take}
-use Rattle.std.specs.Prelude.{slice_get, slice_set, Option, Some, None, Ok, IsOk}
-use Rattle.std.specs.List.{AllByRecursion}
+use Rattle.std.specs.Prelude.{slice_get, slice_set, Option, Some, None, Ok, IsOk, All, Any, ◌==◌}
+use Rattle.std.specs.List.{AllByRecursion, IsDistinct}
 use Rattle.swim_wire.specs.Decoding.{decoded}
 use Rattle.swim_wire.specs.Spelling.{HasText}
 use Rattle.swim_wire.specs.declared.update.TheConstants.{NUMBER_MAX}
@@ -17,6 +17,7 @@ use Rattle.swim_group.specs.Network.{WasSent}
 use Rattle.swim_group.specs.Numbers.{IsTold, IsUnpassed}
 use Rattle.swim_group.specs.declared.fault.GroupFault.{GroupFault}
 use Rattle.swim_group.specs.declared.fault.GroupFault.TheVariants.{OtherName, Unsound, NoNumberLeft}
+use Rattle.swim_group.specs.declared.fault.GroupFault.TheVariants.{SameName, NoMemory}
 use Rattle.swim_member.specs.declared.event.Event.TheVariants as event
 
 -- what a group of real members is seen as: their states, the datagrams
@@ -52,6 +53,22 @@ names_in settings = map (λ (s : Settings). s.me) settings
 -- new members with these settings, each with the number 1
 abbrev pub new_states : List Settings → List State
 new_states settings = map (λ (s : Settings). new_state s 1) settings
+
+-- Beginning
+
+-- members with these settings may begin together
+pub record MayBegin (settings : List Settings) : Type 0 where
+  pub sound : All AreSound settings
+  pub names : IsDistinct (λ x y. x == y) (names_in settings)
+
+-- and why they do not: one has a setting out of its range, or
+-- all are sound and two have one name, or nothing but memory lacks
+abbrev pub IsUnfit : List Settings → GroupFault → Type 0
+IsUnfit settings (Unsound fault) = Any (λ s. fault_of s ≡ Some fault) settings
+IsUnfit settings SameName =
+    All AreSound settings × ¬ (IsDistinct (λ x y. x == y) (names_in settings))
+IsUnfit settings NoMemory = MayBegin settings
+IsUnfit settings _ = ⊥
 
 -- Events
 

@@ -39,9 +39,7 @@ impl Group {
         ensures err { OnErr result (self.new ≡ self.old) }
         ensures run { HasSoundRun self.new }
     {
-        if self.members.len() <= member {
-            return Err(GroupFault::NoMember);
-        }
+        self.find(member)?;
         if let Err(fault) = judge(&self.members[member], &settings) {
             return Err(fault);
         }

@@ -1,6 +1,6 @@
 //! What happens to a member of a group: an event, or a datagram that is delivered.
 
-ghost use Rattle.std.specs.Prelude.{◌≡◌, ◌+◌, ◌≤◌, ◌<◌, ◌↔◌, ◌++◌, length, take, vec_len, IsTrue, Some, Err, OnOk, OnErr};
+ghost use Rattle.std.specs.Prelude.{◌≡◌, ◌+◌, ◌≤◌, ◌<◌, ◌↔◌, ◌++◌, length, take, vec_len, IsTrue, IfErr, Some, Err, OnOk, OnErr};
 ghost use Rattle.std.specs.Vec.{vec_capacity};
 ghost use Rattle.swim_wire.specs.Spelling.{HasText};
 ghost use Rattle.swim_member.specs.declared.answer.TheConstants.{OUTS_MAX};
@@ -15,7 +15,7 @@ use swim_member::{Event, Member, OUTS_MAX, Out};
 use swim_wire::{decode, encode};
 
 /// Keeps datagrams as far as there is room. The rest is lost.
-fn keep(kept: &mut Vec<Out>, room: usize, outs: ArrayVec<Out, OUTS_MAX>)
+pub(crate) fn keep(kept: &mut Vec<Out>, room: usize, outs: ArrayVec<Out, OUTS_MAX>)
     requires within { length kept.old.items ≤ room }
     requires memory { vec_len kept.old + OUTS_MAX ≤ vec_capacity kept.old }
     ensures kept { kept.new.items ≡ take room (kept.old.items ++ outs.items) }
@@ -57,7 +57,7 @@ fn happen(
 }
 
 /// Whether what comes is a datagram.
-fn is_readable(event: &Event) -> bool
+pub(crate) fn is_readable(event: &Event) -> bool
     ensures { IsTrue result ↔ IsReadable event.now }
 {
     match event {
@@ -67,7 +67,7 @@ fn is_readable(event: &Event) -> bool
 }
 
 /// A datagram as it arrives: its text, from its sender.
-fn arrival(out: &Out) -> Event
+pub(crate) fn arrival(out: &Out) -> Event
     requires { HasText out.now.datagram }
     ensures { Arrives out.now result }
 {
@@ -85,23 +85,28 @@ fn arrival(out: &Out) -> Event
 }
 
 impl Group {
-    /// An event comes to a member, with the ceiling `granted`, or with its own number if that is above: any event but a
-    /// datagram that can be read, which `deliver` brings. What the member sends is kept as far as there is room.
-    pub fn step(&mut self, member: usize, event: &Event, granted: u64) -> Result<(), GroupFault>
-        // the member goes on by this event, no other changes, and nothing but what it sends is kept
-        ensures ok { OnOk result (after_event self.old member event.now granted ≡ Some self.new) }
-        ensures missing { (result ≡ Err fault.NoMember) ↔ (length self.old.members ≤ member) }
-        ensures readable { result ≡ Err fault.Readable → IsReadable event.now }
-        ensures err { OnErr result (self.new ≡ self.old) }
-        // these are the members and datagrams of a run in which nothing is invented and no number is passed
-        ensures run { HasSoundRun self.new }
+    /// Whether there is such a member. Whatever is answered, the group has its run.
+    pub(crate) fn find(&self, member: usize) -> Result<(), GroupFault>
+        ensures ok { OnOk result (member < length self.now.members) }
+        ensures missing { (result ≡ Err fault.NoMember) ↔ (length self.now.members ≤ member) }
+        ensures err { IfErr result (λ refused. refused ≡ fault.NoMember) }
+        ensures run { HasSoundRun self.now }
     {
         if self.members.len() <= member {
             return Err(GroupFault::NoMember);
         }
-        if is_readable(event) {
-            return Err(GroupFault::Readable);
-        }
+        Ok(())
+    }
+
+    /// An event that the network did not invent comes to a member, if there is memory for what it may send.
+    fn bring(&mut self, member: usize, event: &Event, granted: u64) -> Result<(), GroupFault>
+        requires there { member < length self.old.members }
+        requires sent { IsNotInvented self.old.kept event.now }
+        ensures ok { OnOk result (after_event self.old member event.now granted ≡ Some self.new) }
+        ensures memory { IfErr result (λ refused. refused ≡ fault.NoMemory) }
+        ensures err { OnErr result (self.new ≡ self.old) }
+        ensures run { HasSoundRun self.new }
+    {
         if self.kept.reserve(OUTS_MAX).is_err() {
             return Err(GroupFault::NoMemory);
         }
@@ -114,6 +119,24 @@ impl Group {
             granted,
         );
         Ok(())
+    }
+
+    /// An event comes to a member, with the ceiling `granted`, or with its own number if that is above: any event but a
+    /// datagram that can be read, which `deliver` brings. What the member sends is kept as far as there is room.
+    pub fn step(&mut self, member: usize, event: &Event, granted: u64) -> Result<(), GroupFault>
+        // the member goes on by this event, no other changes, and nothing but what it sends is kept
+        ensures ok { OnOk result (after_event self.old member event.now granted ≡ Some self.new) }
+        ensures missing { (result ≡ Err fault.NoMember) ↔ (length self.old.members ≤ member) }
+        ensures readable { result ≡ Err fault.Readable → IsReadable event.now }
+        ensures err { OnErr result (self.new ≡ self.old) }
+        // these are the members and datagrams of a run in which nothing is invented and no number is passed
+        ensures run { HasSoundRun self.new }
+    {
+        self.find(member)?;
+        if is_readable(event) {
+            return Err(GroupFault::Readable);
+        }
+        self.bring(member, event, granted)
     }
 
     /// A datagram that is kept comes to a member, whomever it was sent to, with the ceiling `granted`, or with the
@@ -130,24 +153,11 @@ impl Group {
         ensures err { OnErr result (self.new ≡ self.old) }
         ensures run { HasSoundRun self.new }
     {
-        if self.members.len() <= member {
-            return Err(GroupFault::NoMember);
-        }
+        self.find(member)?;
         if self.kept.len() <= datagram {
             return Err(GroupFault::NoDatagram);
         }
-        if self.kept.reserve(OUTS_MAX).is_err() {
-            return Err(GroupFault::NoMemory);
-        }
         let event = arrival(&self.kept[datagram]);
-        happen(
-            &mut self.members,
-            &mut self.kept,
-            self.room,
-            member,
-            &event,
-            granted,
-        );
-        Ok(())
+        self.bring(member, &event, granted)
     }
 }

@@ -1,33 +1,30 @@
 //! Small groups, by tables of what happens. What each row expects was written by hand.
 
-ghost use Rattle.std.specs.Prelude.{◌≡◌, ◌+◌, ◌*◌, ◌<◌};
-ghost use Rattle.swim_member.specs.Checks.{AreSound};
+ghost use Rattle.std.specs.Prelude.{◌<◌};
 
 use super::*;
-use std::alloc::{AllocError, Global};
+use std::alloc::Global;
 use std::process::Abort;
-use swim_member::{Event, Settings};
+use swim_disk::Choice;
+use swim_member::{Event, Settings, SettingsFault};
 use swim_wire::Endpoint;
 
 /// The endpoint 10.0.0.`last`:7000.
 fn endpoint(last: u32) -> Endpoint
-    requires { last < 65536 }
-    ensures { result ≡ (0x0a00_0000 + last) * 65536 + 7000 }
+    requires { last < 200 }
 {
     Endpoint::new(0x0a00_0000 + last, 7000).unwrap()
 }
 
 /// The settings of 10.0.0.`last`:7000.
 fn settings(last: u32) -> Settings
-    requires { last < 65536 }
-    ensures sound { AreSound result }
-    ensures name { result.me ≡ (0x0a00_0000 + last) * 65536 + 7000 }
+    requires { last < 200 }
 {
     Settings::usual(7, endpoint(last))
 }
 
 /// Three members, with room for 8 datagrams.
-fn three(alloc: Global) -> Result<Group, AllocError> {
+fn three(alloc: Global) -> Result<Group, GroupFault> {
     let all = [settings(1), settings(2), settings(3)];
     Group::new(alloc, &all, 8)
 }
@@ -51,11 +48,11 @@ use Happening::{Deliver, Join, Lose, Restart};
 fn apply(group: &mut Group, happening: Happening) -> Result<(), GroupFault> {
     match happening {
         Join { member, peer } => {
-            let peer = endpoint(peer % 256);
+            let peer = endpoint(peer % 200);
             group.step(member, &Event::Join { peer }, 0)
         }
         Deliver { member, datagram } => group.deliver(member, datagram, 0),
-        Restart { member, last } => group.restart(member, settings(last % 256)),
+        Restart { member, last } => group.restart(member, settings(last % 200)),
         Lose { datagram } => group.lose(datagram),
     }
 }
@@ -152,4 +149,72 @@ fn refuses(rt: HostRuntime) {
     for (happening, fault) in rows {
         assert_eq!(rt; apply(&mut group, happening), Err(fault), "{happening:?}");
     }
+}
+
+#[test]
+fn begins_with_sound_settings_and_names_apart(rt: HostRuntime) {
+    let twice = [settings(1), settings(2), settings(1)];
+    assert_eq!(rt;
+        Group::new(rt.alloc(), &twice, 8).err(),
+        Some(GroupFault::SameName)
+    );
+    let mut odd = [settings(1), settings(2)];
+    odd[1].suspect = 0;
+    let unsound = GroupFault::Unsound(SettingsFault::Suspect);
+    assert_eq!(rt; Group::new(rt.alloc(), &odd, 8).err(), Some(unsound));
+    assert!(rt; Group::new(rt.alloc(), &[], 8).is_ok());
+}
+
+/// The first number of a node's life.
+fn first(group: &Nodes, node: usize) -> Option<u64> {
+    let seat = group.seats().get(node)?;
+    seat.node.as_ref().map(|node| node.first())
+}
+
+/// The own number and the rows held for alive that a node shows.
+fn shown(group: &Nodes, node: usize) -> Option<(u64, usize)> {
+    let seat = group.seats().get(node)?;
+    let status = seat.node.as_ref()?.status();
+    Some((status.number, status.alive))
+}
+
+#[test]
+fn a_node_crashes_and_is_opened_anew(rt: HostRuntime) {
+    let both = [settings(1), settings(2)];
+    let mut group = Nodes::new(rt.alloc(), &both, 8, 8)
+        .ok()
+        .expect(&rt, "memory");
+    assert_eq!(rt; shown(&group, 1), Some((1, 0)));
+    assert!(rt; group.step(1, Event::Join { peer: endpoint(1) }).is_ok());
+    assert!(rt; group.deliver(0, 0).is_ok());
+    assert_eq!(rt; shown(&group, 0), Some((1, 1)));
+    let born = first(&group, 1);
+    for choice in [Choice::Keep, Choice::Drop, Choice::Fill(7)] {
+        let before = first(&group, 1);
+        assert_eq!(rt; group.crash(1, choice), Ok(()));
+        assert!(rt; before < first(&group, 1));
+    }
+    assert!(rt; born < first(&group, 1));
+    // it knows nobody, and says its new number, which the other takes
+    assert!(rt; group.step(1, Event::Join { peer: endpoint(1) }).is_ok());
+    let last = group.kept().len();
+    assert!(rt; last > 0);
+    assert!(rt; group.deliver(0, last - 1).is_ok());
+    assert_eq!(rt; shown(&group, 0), Some((1, 1)));
+}
+
+#[test]
+fn nodes_refuse(rt: HostRuntime) {
+    let both = [settings(1), settings(2)];
+    let mut group = Nodes::new(rt.alloc(), &both, 1, 8)
+        .ok()
+        .expect(&rt, "memory");
+    assert_eq!(rt; group.step(2, Event::Leave).err(), Some(NodesFault::NoNode));
+    assert_eq!(rt; group.deliver(0, 0).err(), Some(NodesFault::NoDatagram));
+    assert_eq!(rt; group.crash(2, Choice::Keep), Err(NodesFault::NoNode));
+    assert!(rt; group.step(0, Event::Leave).is_ok());
+    // the era has its one entry
+    assert!(rt; group.step(0, Event::Leave).is_err());
+    assert_eq!(rt; group.end_era(0), Ok(()));
+    assert!(rt; group.step(0, Event::Leave).is_ok());
 }

@@ -1,0 +1,301 @@
+-- Real nodes after a move of one of them.
+use Rattle.std.proofs.Common.{◌≡◌, ℕ, ◌+◌, ◌<◌, ◌==◌, length, slice_index_or, arith, map, refl, sym, ◌∙◌, ap, subst, List, [], ◌∷◌, ◌++◌, take, zero, suc, Option, Some, None, slice_get, slice_set}
+use Rattle.std.specs.List.{AllByRecursion, IsDistinct}
+use Rattle.swim_disk.specs.declared.mem.MemDisk.{MemDisk}
+use Rattle.swim_disk.specs.MemDisk.{state_of}
+use Rattle.swim_wire.specs.Spelling.{HasText}
+use Rattle.swim_member.specs.declared.answer.Out.{Out}
+use Rattle.swim_member.specs.declared.event.Event.{Event}
+use Rattle.swim_member.specs.declared.settings.Settings.{Settings}
+use Rattle.swim_member.specs.Checks.{AreSound}
+use Rattle.swim_node.specs.declared.entry.Reply.{Reply}
+use Rattle.swim_node.specs.History.{fresh_base}
+use Rattle.swim_node.specs.Lives.{Life, IsLived, IsLiving, MayEnd, life_of}
+use Rattle.swim_node.specs.Node.{NodeView, owner_of}
+use Rattle.swim_group.specs.declared.seat.Seat.{Seat}
+use Rattle.swim_group.specs.Network.{WasSent, IsNotInvented}
+use Rattle.swim_group.specs.Nodes.{NodeGroup, NodeMove, Calls, Rebases, Opens, NodeMayMove, LivesAt, IsMoveOf, IsNodeRun, IsOpened, name_in, node_of, life_after, sent_in, moved_at, after_node_move, after_node_moves, members_of}
+use Rattle.swim_group.specs.RealNodes.{RealNodes, IsLifeOf, IsLifeIn, SitsThere, AreLivesOf, HasNodeRun, HasSoundNodeRun, HearsThere, HearsAt, OpensThere, OpensAt, LeavesAt, EraEndsThere, EraEndsAt, IsNewNode, AreNewNodes, seat_with}
+use Rattle.swim_group.specs.Real.{MayBegin, names_in}
+use Rattle.swim_group.proofs.Lists.{all-append, all-weaker, all-take}
+use Rattle.swim_group.proofs.Telling.{told-kept}
+use Rattle.swim_group.proofs.Passing.{within-kept}
+use Rattle.swim_group.proofs.Holding.{AreSentIn, was-before, was-after, all-sent, come-kept, all-of, get-at}
+use Rattle.swim_group.proofs.Simulating.{living-begins, living-moves}
+use Rattle.swim_group.proofs.Calling.{get-set, life_with}
+use Rattle.swim_group.proofs.Naming.{take-last}
+
+-- Seats
+
+-- a seat with these settings, and this node or none
+abbrev pub seat_of : Settings → Option (NodeView MemDisk) → Seat
+seat_of settings node = record { settings = settings; node = node }
+
+-- who sits in a place lives the life in that place
+pub record Sitting (lives : List (Life MemDisk)) (which : ℕ) (seat : Seat) : Type 0 where
+  pub life : Life MemDisk
+  pub found : slice_get lives which ≡ Some life
+  pub sits : SitsThere life seat
+
+seat-at : (lives : List (Life MemDisk)) (seats : List Seat) (which : ℕ) (seat : Seat) → AreLivesOf lives seats → slice_get seats which ≡ Some seat → Sitting lives which seat
+seat-at [] [] which seat a e = absurd (cc)
+seat-at [] (s ∷ seats) which seat a e = absurd a
+seat-at (l ∷ lives) [] which seat a e = absurd a
+seat-at (l ∷ lives) (s ∷ seats) zero seat a e = let same : s ≡ seat = cc in record { life = l; found = refl; sits = subst (SitsThere l) same a.0 }
+seat-at (l ∷ lives) (s ∷ seats) (suc which) seat a e =
+    let rest : Sitting lives which seat = seat-at lives seats which seat a.1 e in
+    record { life = rest.life; found = rest.found; sits = rest.sits }
+
+seat-set : (lives : List (Life MemDisk)) (seats : List Seat) (which : ℕ) (life : Life MemDisk) (seat : Seat) → AreLivesOf lives seats → SitsThere life seat → AreLivesOf (slice_set lives which life) (slice_set seats which seat)
+seat-set [] [] which life seat a h = a
+seat-set [] (s ∷ seats) which life seat a h = absurd a
+seat-set (l ∷ lives) [] which life seat a h = absurd a
+seat-set (l ∷ lives) (s ∷ seats) zero life seat a h = (h, a.1)
+seat-set (l ∷ lives) (s ∷ seats) (suc which) life seat a h = (a.0, seat-set lives seats which life seat a.1 h)
+
+-- Runs
+
+node-moves-snoc : (moves : List (NodeMove MemDisk)) (g : NodeGroup MemDisk) (m : NodeMove MemDisk) → after_node_moves g (moves ++ m ∷ []) ≡ after_node_move (after_node_moves g moves) m
+node-moves-snoc [] g m = refl
+node-moves-snoc (n ∷ moves) g m = node-moves-snoc moves (after_node_move g n) m
+
+node-run-snoc : (moves : List (NodeMove MemDisk)) (g : NodeGroup MemDisk) (m : NodeMove MemDisk) → IsNodeRun state_of g moves → NodeMayMove state_of (after_node_moves g moves) m → IsNodeRun state_of g (moves ++ m ∷ [])
+node-run-snoc [] g m run may = (may, tt {0})
+node-run-snoc (n ∷ moves) g m run may = (run.0, node-run-snoc moves (after_node_move g n) m run.1 may)
+
+-- a node lives in the group where it sits
+lives-at : (g : NodeGroup MemDisk) (which : ℕ) (life : Life MemDisk) (node : NodeView MemDisk) → slice_get g.lives which ≡ Some life → IsLifeOf life node → LivesAt state_of g which node
+lives-at g which life node found h = record {
+  settings = life.settings;
+  limit = life.limit;
+  opened = life.opened;
+  eras = life.eras;
+  found = found ∙ ap (λ (l : Life MemDisk). Some l) h.same;
+  living = subst (λ (l : Life MemDisk). IsLiving state_of node.owner l) h.same h.living;
+}
+
+-- the move of a node that sits in this place
+module _ (g : NodeGroup MemDisk) (which : ℕ) (life : Life MemDisk) (found : slice_get g.lives which ≡ Some life) (m : NodeMove MemDisk) (node : node_of m ≡ which) where
+  moved-is : after_node_move g m ≡ moved_at g m (Some life)
+  moved-is = ap (moved_at g m) (subst (λ n. slice_get g.lives n ≡ Some life) (sym node) found)
+
+  set-is : (moved_at g m (Some life)).lives ≡ slice_set g.lives which (life_after m life)
+  set-is = ap (λ n. slice_set g.lives n (life_after m life)) node
+
+  -- and its life after it
+  moved-life : (next : NodeView MemDisk) → LivesAt state_of (after_node_move g m) which next → IsLifeOf (life_after m life) next
+  moved-life next at =
+      let x : Life MemDisk = life_of at.settings at.limit at.opened at.eras next in
+      let there : slice_get (slice_set g.lives which (life_after m life)) which ≡ Some (life_of at.settings at.limit at.opened at.eras next) =
+      subst (λ ls. slice_get ls which ≡ Some (life_of at.settings at.limit at.opened at.eras next)) (ap (λ (k : NodeGroup MemDisk). k.lives) moved-is ∙ set-is) at.found in
+      let both : Some (life_after m life) ≡ Some (life_of at.settings at.limit at.opened at.eras next) = sym (get-set state_of g.lives which life (life_after m life) found) ∙ there in
+      let same : life_after m life ≡ life_of at.settings at.limit at.opened at.eras next = cc in
+      let is : IsLifeOf (life_of at.settings at.limit at.opened at.eras next) next = record { same = refl; living = at.living } in
+      subst (λ l. IsLifeOf l next) (sym same) is
+
+-- the run goes on with a move of a node that sits in a place
+pub went-on : (seats : List Seat) (kept more : List Out) (which : ℕ) (seat next : Seat) (before after : NodeView MemDisk) (if_so : List Out → Type 0) (move : ℕ → NodeMove MemDisk)
+    → slice_get seats which ≡ Some seat → seat ≡ seat_with seat.settings before → next ≡ seat_with seat.settings after
+    → IsMoveOf state_of before after if_so move → node_of (move which) ≡ which
+    → ((life : Life MemDisk) → SitsThere life seat → owner_of seat.settings ≡ owner_of (life_after (move which) life).settings)
+    → ((life : Life MemDisk) (sent : List Out) → SitsThere life seat → IsLifeOf life before → AreSentIn sent kept → if_so sent)
+    → ((sent : List Out) → AreSentIn sent kept → AreSentIn (sent ++ sent_in (move which)) more)
+    → AllByRecursion (λ (out : Out). HasText out.datagram) more
+    → HasNodeRun seats kept → HasNodeRun (slice_set seats which next) more
+went-on seats kept more which seat next before after if_so move there was is goes node owned so keeps fit h =
+    let end : NodeGroup MemDisk = after_node_moves h.group h.moves in
+    let m : NodeMove MemDisk = move which in
+    let at : Sitting (after_node_moves h.group h.moves).lives which seat = seat-at (after_node_moves h.group h.moves).lives seats which seat h.lives there in
+    let alive : IsLifeOf at.life before = subst (λ (s : Seat). IsLifeIn at.life s.node) was at.sits.alive in
+    let moved : NodeMayMove state_of (after_node_moves h.group h.moves) (move which) × LivesAt state_of (after_node_move (after_node_moves h.group h.moves) (move which)) which after =
+    goes (after_node_moves h.group h.moves) which (lives-at (after_node_moves h.group h.moves) which at.life before at.found alive) (so at.life (after_node_moves h.group h.moves).sent at.sits alive h.sent) in
+    let sits : SitsThere (life_after (move which) at.life) (seat_with seat.settings after) = record {
+      owner = owned at.life at.sits;
+      sound = at.sits.sound;
+      alive = moved-life (after_node_moves h.group h.moves) which at.life at.found (move which) node after moved.1;
+    } in
+    let lives : AreLivesOf (slice_set (after_node_moves h.group h.moves).lives which (life_after (move which) at.life)) (slice_set seats which next) =
+    seat-set (after_node_moves h.group h.moves).lives seats which (life_after (move which) at.life) next h.lives (subst (SitsThere (life_after (move which) at.life)) (sym is) sits) in
+    let now : after_node_moves h.group (h.moves ++ move which ∷ []) ≡ moved_at (after_node_moves h.group h.moves) (move which) (Some at.life) =
+    node-moves-snoc h.moves h.group (move which) ∙ moved-is (after_node_moves h.group h.moves) which at.life at.found (move which) node in
+    record {
+      group = h.group;
+      moves = h.moves ++ move which ∷ [];
+      begins = h.begins;
+      run = node-run-snoc h.moves h.group (move which) h.run moved.0;
+      lives = subst (λ (k : NodeGroup MemDisk). AreLivesOf k.lives (slice_set seats which next)) (sym now)
+          (subst (λ ls. AreLivesOf ls (slice_set seats which next)) (sym (set-is (after_node_moves h.group h.moves) which at.life at.found (move which) node)) lives);
+      sent = subst (λ (k : NodeGroup MemDisk). AreSentIn k.sent more) (sym now) (keeps (after_node_moves h.group h.moves).sent h.sent);
+      fit = fit;
+    }
+
+-- after a call
+pub heard-on : (seats : List Seat) (kept : List Out) (room which : ℕ) (seat next : Seat) (event : Event) (reply : Reply) → slice_get seats which ≡ Some seat → (hears : HearsThere seat next event reply) → IsNotInvented kept event
+    → HasNodeRun seats kept → HasNodeRun (slice_set seats which next) (take room (kept ++ hears.e.outs.items))
+heard-on seats kept room which seat next event reply there hears comes h =
+    went-on seats kept (take room (kept ++ hears.e.outs.items)) which seat next hears.before hears.after (λ sent. IsNotInvented sent event) (λ k. Calls k hears.e hears.after.disk) there hears.was hears.is hears.moves refl
+    (λ life sits. sits.owner) (λ life sent sits alive a. come-kept sent kept a event comes)
+    (λ sent a. all-take (λ (out : Out). WasSent (sent ++ hears.e.outs.items) out.datagram) room (kept ++ hears.e.outs.items)
+    (all-append (λ (out : Out). WasSent (sent ++ hears.e.outs.items) out.datagram) kept hears.e.outs.items
+    (all-weaker (λ (out : Out). WasSent sent out.datagram) (λ (out : Out). WasSent (sent ++ hears.e.outs.items) out.datagram) (λ out w. was-before sent hears.e.outs.items out.datagram w) kept a)
+    (all-sent hears.e.outs.items (sent ++ hears.e.outs.items) (was-after sent hears.e.outs.items))))
+    (all-take (λ (out : Out). HasText out.datagram) room (kept ++ hears.e.outs.items) (all-append (λ (out : Out). HasText out.datagram) kept hears.e.outs.items h.fit (all-of (λ (out : Out). HasText out.datagram) hears.e.outs.items hears.texts)))
+    h
+
+-- after a crash and an opening
+pub opened-on : (seats : List Seat) (kept : List Out) (limit which : ℕ) (seat next : Seat) → slice_get seats which ≡ Some seat → OpensThere seat next limit → HasNodeRun seats kept → HasNodeRun (slice_set seats which next) kept
+opened-on seats kept limit which seat next there opens h =
+    went-on seats kept kept which seat next opens.before opens.after (λ sent. owner_of seat.settings ≡ opens.before.owner) (λ k. Opens k seat.settings limit opens.after.first opens.opened opens.after.disk) there opens.was opens.is opens.moves refl
+    (λ life sits. refl) (λ life sent sits alive a. sits.owner ∙ sym alive.living.same_owner)
+    (λ sent a. all-weaker (λ (out : Out). WasSent sent out.datagram) (λ (out : Out). WasSent (sent ++ []) out.datagram) (λ out w. was-before sent [] out.datagram w) kept a)
+    h.fit h
+
+-- a node that is gone
+pub gone-on : (seats : List Seat) (kept : List Out) (which : ℕ) (seat : Seat) → slice_get seats which ≡ Some seat → HasNodeRun seats kept → HasNodeRun (slice_set seats which (record { settings = seat.settings; node = None })) kept
+gone-on seats kept which seat there h =
+    let at : Sitting (after_node_moves h.group h.moves).lives which seat = seat-at (after_node_moves h.group h.moves).lives seats which seat h.lives there in
+    record {
+      group = h.group;
+      moves = h.moves;
+      begins = h.begins;
+      run = h.run;
+      lives = alone (after_node_moves h.group h.moves).lives seats which seat h.lives there;
+      sent = h.sent;
+      fit = h.fit;
+    }
+  where
+    alone : (lives : List (Life MemDisk)) (ss : List Seat) (k : ℕ) (s : Seat) → AreLivesOf lives ss → slice_get ss k ≡ Some s → AreLivesOf lives (slice_set ss k (record { settings = s.settings; node = None }))
+    alone [] [] k s a e = absurd (cc)
+    alone [] (t ∷ ss) k s a e = absurd a
+    alone (l ∷ lives) [] k s a e = absurd a
+    alone (l ∷ lives) (t ∷ ss) zero s a e =
+        let same : t ≡ s = cc in
+        let sits : SitsThere l s = subst (SitsThere l) same a.0 in
+        (record { owner = sits.owner; sound = sits.sound; alive = tt {0} }, a.1)
+    alone (l ∷ lives) (t ∷ ss) (suc k) s a e = (a.0, alone lives ss k s a.1 e)
+
+-- after an era
+pub ended-on : (seats : List Seat) (kept : List Out) (which : ℕ) (seat next : Seat) → slice_get seats which ≡ Some seat → EraEndsThere seat next → HasNodeRun seats kept → HasNodeRun (slice_set seats which next) kept
+ended-on seats kept which seat next there ends h =
+    went-on seats kept kept which seat next ends.before ends.after (λ sent. Unit {0}) (λ k. Rebases k) there ends.was ends.is ends.moves refl
+    (λ life sits. sits.owner) (λ life sent sits alive a. tt {0})
+    (λ sent a. all-weaker (λ (out : Out). WasSent sent out.datagram) (λ (out : Out). WasSent (sent ++ []) out.datagram) (λ out w. was-before sent [] out.datagram w) kept a)
+    h.fit h
+
+-- whose settings are sound
+pub seat-sound : (seats : List Seat) (kept : List Out) (which : ℕ) (seat : Seat) → slice_get seats which ≡ Some seat → HasNodeRun seats kept → AreSound seat.settings
+seat-sound seats kept which seat there h =
+    let at : Sitting (after_node_moves h.group h.moves).lives which seat = seat-at (after_node_moves h.group h.moves).lives seats which seat h.lives there in
+    at.sits.sound
+
+-- Calls
+
+abbrev pub real : List Seat → List Out → ℕ → ℕ → RealNodes
+real seats kept room limit = record { seats = seats; kept = kept; room = room; limit = limit }
+
+pub set-back : (seats : List Seat) (k : ℕ) (s : Seat) → k < length seats → s ≡ slice_index_or seats k s → slice_set seats k s ≡ seats
+set-back [] k s l e = absurd (omega arith)
+set-back (t ∷ seats) zero s l e = ap (λ r. r ∷ seats) e
+set-back (t ∷ seats) (suc k) s l e = ap (λ ss. t ∷ ss) (set-back seats k s (omega arith) e)
+
+pub index-set : (seats : List Seat) (k : ℕ) (s d : Seat) → k < length seats → slice_index_or (slice_set seats k s) k d ≡ s
+index-set [] k s d l = absurd (omega arith)
+index-set (t ∷ seats) zero s d l = refl
+index-set (t ∷ seats) (suc k) s d l = index-set seats k s d (omega arith)
+
+pub heard-at : (seats : List Seat) (kept after : List Out) (room limit which : ℕ) (old new : Seat) (event : Event) (reply : Reply) → which < length seats → old ≡ slice_index_or seats which old → (hears : HearsThere old new event reply) → after ≡ take room (kept ++ hears.e.outs.items)
+    → HearsAt (real seats kept room limit) (real (slice_set seats which new) after room limit) which event reply
+heard-at seats kept after room limit which old new event reply l at hears keeps =
+    record { seat = old; next = new; found = get-at seats which old l at; hears = hears; is = ap (λ ks. real (slice_set seats which new) ks room limit) keeps }
+
+pub heard-run : (seats : List Seat) (kept after : List Out) (room which : ℕ) (old new : Seat) (event : Event) (reply : Reply) → which < length seats → old ≡ slice_index_or seats which old → (hears : HearsThere old new event reply) → after ≡ take room (kept ++ hears.e.outs.items) → IsNotInvented kept event
+    → HasNodeRun seats kept → HasNodeRun (slice_set seats which new) after
+heard-run seats kept after room which old new event reply l at hears keeps comes h =
+    subst (HasNodeRun (slice_set seats which new)) (sym keeps) (heard-on seats kept room which old new event reply (get-at seats which old l at) hears comes h)
+
+pub opened-at : (seats : List Seat) (kept : List Out) (room limit which : ℕ) (old new : Seat) → which < length seats → old ≡ slice_index_or seats which old → OpensThere old new limit
+    → OpensAt (real seats kept room limit) (real (slice_set seats which new) kept room limit) which
+opened-at seats kept room limit which old new l at opens = record { seat = old; next = new; found = get-at seats which old l at; opens = opens; is = refl }
+
+pub ended-at : (seats : List Seat) (kept : List Out) (room limit which : ℕ) (old new : Seat) → which < length seats → old ≡ slice_index_or seats which old → EraEndsThere old new
+    → EraEndsAt (real seats kept room limit) (real (slice_set seats which new) kept room limit) which
+ended-at seats kept room limit which old new l at ends = record { seat = old; next = new; found = get-at seats which old l at; ends = ends; is = refl }
+
+pub left-at : (seats : List Seat) (kept : List Out) (room limit which : ℕ) (old new : Seat) → which < length seats → old ≡ slice_index_or seats which old → new ≡ seat_of old.settings None
+    → LeavesAt (real seats kept room limit) (real (slice_set seats which new) kept room limit) which
+left-at seats kept room limit which old new l at gone =
+    record { seat = old; found = get-at seats which old l at; is = ap (λ s. real (slice_set seats which s) kept room limit) gone }
+
+-- and in it the laws hold
+pub sound-node-run : (view : RealNodes) → HasNodeRun view.seats view.kept → HasSoundNodeRun view
+sound-node-run view h = record {
+  ran = h;
+  told = told-kept (members_of (after_node_moves h.group h.moves)) (living-moves state_of h.moves h.group (living-begins state_of h.group h.begins) h.run).kept;
+  within = within-kept (members_of (after_node_moves h.group h.moves)) (living-moves state_of h.moves h.group (living-begins state_of h.group h.begins) h.run).kept;
+}
+
+-- Beginning
+
+-- a life that a node began
+pub began : (settings : Settings) (limit : ℕ) (opened : MemDisk) (node : NodeView MemDisk) → node.base ≡ fresh_base settings node.first limit → node.entries ≡ [] → IsLiving state_of node.owner (life_of settings limit opened [] node) → MayEnd state_of node
+    → IsNewNode settings limit (seat_with settings node)
+began settings limit opened node base entries living ends =
+    let lived : IsLived state_of node.owner (life_of settings limit opened [] node) = ends settings limit opened [] living in
+    record {
+      node = node;
+      opened = opened;
+      is = refl;
+      begins = record {
+        new = ap (λ b. life_with state_of settings limit opened [] node.disk node.first b node.entries) base
+            ∙ ap (life_with state_of settings limit opened [] node.disk node.first (fresh_base settings node.first limit)) entries;
+        lived = subst (λ o. IsLived state_of o (life_of settings limit opened [] node)) living.same_owner lived;
+      };
+      living = living;
+    }
+
+pub first-more : (limit : ℕ) (settings : List Settings) (i : ℕ) (s : Settings) (seats : List Seat) (seat : Seat) → i < length settings → s ≡ slice_index_or settings i s → IsNewNode s limit seat → AreNewNodes limit (take i settings) seats → AreNewNodes limit (take (i + 1) settings) (seats ++ seat ∷ [])
+first-more limit settings i s seats seat l e h a =
+    subst (λ xs. AreNewNodes limit xs (seats ++ seat ∷ [])) (sym (take-last settings i s l e)) (snoc (take i settings) seats a)
+  where
+    snoc : (xs : List Settings) (ss : List Seat) → AreNewNodes limit xs ss → AreNewNodes limit (xs ++ s ∷ []) (ss ++ seat ∷ [])
+    snoc [] [] b = (h, tt {0})
+    snoc [] (t ∷ ss) b = absurd b
+    snoc (x ∷ xs) [] b = absurd b
+    snoc (x ∷ xs) (t ∷ ss) b = (b.0, snoc xs ss b.1)
+
+-- the lives of nodes that were opened
+pub record HasLives (settings : List Settings) (seats : List Seat) : Type 0 where
+  pub lives : List (Life MemDisk)
+  pub opened : AllByRecursion (IsOpened state_of) lives
+  pub names : map name_in lives ≡ names_in settings
+  pub sit : AreLivesOf lives seats
+
+first-lives : (limit : ℕ) (settings : List Settings) (seats : List Seat) → AllByRecursion AreSound settings → AreNewNodes limit settings seats → HasLives settings seats
+first-lives limit [] [] sound a = record { lives = []; opened = tt {0}; names = refl; sit = tt {0} }
+first-lives limit [] (seat ∷ seats) sound a = absurd a
+first-lives limit (s ∷ settings) [] sound a = absurd a
+first-lives limit (s ∷ settings) (seat ∷ seats) sound a =
+    let rest : HasLives settings seats = first-lives limit settings seats sound.1 a.1 in
+    let first : IsNewNode s limit seat = a.0 in
+    let life : Life MemDisk = life_of s limit first.opened [] first.node in
+    let sits : SitsThere (life_of s limit first.opened [] first.node) (seat_with s first.node) = record { owner = refl; sound = sound.0; alive = record { same = refl; living = first.living } } in
+    record {
+      lives = life_of s limit first.opened [] first.node ∷ rest.lives;
+      opened = (first.begins, rest.opened);
+      names = ap (λ xs. s.me ∷ xs) rest.names;
+      sit = (subst (SitsThere (life_of s limit first.opened [] first.node)) (sym first.is) sits, rest.sit);
+    }
+
+-- new nodes have run
+pub nodes-new : (limit : ℕ) (settings : List Settings) (seats : List Seat) → MayBegin settings → AreNewNodes limit settings seats → HasNodeRun seats []
+nodes-new limit settings seats may first =
+    let has : HasLives settings seats = first-lives limit settings seats (all-of AreSound settings may.sound) first in
+    record {
+      group = record { lives = has.lives; sent = [] };
+      moves = [];
+      begins = record { opened = has.opened; names = subst (IsDistinct (λ x y. x == y)) (sym has.names) may.names; sent = refl };
+      run = tt {0};
+      lives = has.sit;
+      sent = tt {0};
+      fit = tt {0};
+    }

@@ -1,0 +1,7 @@
+use Rattle.std.proofs.Common.{take}
+use Rattle.swim_group.specs.RealNodes.{AreNewNodes}
+use Rattle.swim_group.proofs.seat.first_seats.Given as goal
+
+-- the nodes so far
+abbrev pub invariant-loop-i : goal.invariant-loop-i
+invariant-loop-i l = AreNewNodes l.limit (take l.i l.settings) l.seats.items

@@ -1,0 +1,190 @@
+-- Real nodes on disks in memory with what is kept of
+-- their datagrams, and what each call makes of them.
+use Rattle.std.specs.Prelude.{◌≡◌, ℕ, List, [], ◌∷◌, ◌++◌, take, slice_get, slice_set}
+use Rattle.std.specs.Prelude.{Option, Some, None}
+use Rattle.std.specs.List.{AllByRecursion}
+use Rattle.swim_disk.specs.declared.mem.MemDisk.{MemDisk}
+use Rattle.swim_disk.specs.MemDisk.{state_of}
+use Rattle.swim_wire.specs.Spelling.{HasText}
+use Rattle.swim_member.specs.declared.answer.Out.{Out}
+use Rattle.swim_member.specs.declared.event.Event.{Event}
+use Rattle.swim_member.specs.declared.settings.Settings.{Settings}
+use Rattle.swim_member.specs.Checks.{AreSound}
+use Rattle.swim_node.specs.declared.entry.Entry.{Entry}
+use Rattle.swim_node.specs.declared.entry.Reply.{Reply}
+use Rattle.swim_node.specs.History.{fresh_base}
+use Rattle.swim_node.specs.Lives.{Life, IsLiving, life_of}
+use Rattle.swim_node.specs.Node.{NodeView, owner_of, next_base}
+use Rattle.swim_node.specs.Sending.{HasTexts}
+use Rattle.swim_group.specs.declared.fault.NodesFault.{NodesFault}
+use Rattle.swim_group.specs.declared.fault.NodesFault.TheVariants.{Gone, Refused, NotOpened}
+use Rattle.swim_group.specs.declared.fault.NodesFault.TheVariants.{NoMemory}
+use Rattle.swim_group.specs.declared.seat.Seat.{Seat}
+use Rattle.swim_group.specs.Network.{WasSent, IsNotInvented}
+use Rattle.swim_group.specs.Nodes.{NodeGroup, NodeMove, Calls, Rebases, Opens, NodesBegin}
+use Rattle.swim_group.specs.Nodes.{IsNodeRun, IsMoveOf, IsOpened}
+use Rattle.swim_group.specs.Nodes.{after_node_moves, members_of}
+use Rattle.swim_group.specs.Numbers.{IsTold, IsUnpassed}
+use Rattle.swim_group.specs.Real.{Arrives}
+
+-- what a group of real nodes is seen as: the settings of each, with the node itself or
+-- with none where it was not opened again; the datagrams that may still come, how many
+-- of these are kept at most, and how many entries an era has at most
+pub record RealNodes : Type 0 where
+  pub seats : List Seat
+  pub kept : List Out
+  pub room : ℕ
+  pub limit : ℕ
+
+-- a refusal that comes from the node: it is gone, it did not enter the
+-- call, it was not opened, or there was no memory
+abbrev pub IsOwnFault : NodesFault → Type 0
+IsOwnFault Gone = Unit {0}
+IsOwnFault (Refused why) = Unit {0}
+IsOwnFault (NotOpened why) = Unit {0}
+IsOwnFault NoMemory = Unit {0}
+IsOwnFault _ = ⊥
+
+-- this is the life of that node
+pub record IsLifeOf (life : Life MemDisk) (node : NodeView MemDisk) : Type 0 where
+  pub same : life ≡ life_of life.settings life.limit life.opened life.eras node
+  pub living : IsLiving state_of node.owner life
+
+-- it is the life of the node, if there is one
+abbrev pub IsLifeIn : Life MemDisk → Option (NodeView MemDisk) → Type 0
+IsLifeIn life None = Unit {0}
+IsLifeIn life (Some node) = IsLifeOf life node
+
+-- who sits there has this life, under sound settings of the same owner
+pub record SitsThere (life : Life MemDisk) (seat : Seat) : Type 0 where
+  pub owner : owner_of seat.settings ≡ owner_of life.settings
+  pub sound : AreSound seat.settings
+  pub alive : IsLifeIn life seat.node
+
+-- these are the lives, one for each seat
+abbrev pub AreLivesOf : List (Life MemDisk) → List Seat → Type 0
+AreLivesOf [] [] = Unit {0}
+AreLivesOf [] (seat ∷ seats) = ⊥
+AreLivesOf (life ∷ lives) [] = ⊥
+AreLivesOf (life ∷ lives) (seat ∷ seats) = SitsThere life seat × AreLivesOf lives seats
+
+-- the nodes live so after some run of a group of nodes from its beginning, and each of these
+-- datagrams was sent in it, and has a text
+pub record HasNodeRun (seats : List Seat) (kept : List Out) : Type 0 where
+  pub group : NodeGroup MemDisk
+  pub moves : List (NodeMove MemDisk)
+  pub begins : NodesBegin state_of group
+  pub run : IsNodeRun state_of group moves
+  pub lives : AreLivesOf (after_node_moves group moves).lives seats
+  pub sent : AllByRecursion (λ (out : Out).
+      WasSent (after_node_moves group moves).sent out.datagram) kept
+  pub fit : AllByRecursion (λ (out : Out). HasText out.datagram) kept
+
+-- and in this run nothing is invented, and no number is passed
+pub record HasSoundNodeRun (view : RealNodes) : Type 0 where
+  pub ran : HasNodeRun view.seats view.kept
+  pub told : IsTold (members_of (after_node_moves ran.group ran.moves))
+  pub within : AllByRecursion (IsUnpassed (members_of (after_node_moves ran.group ran.moves)))
+      (members_of (after_node_moves ran.group ran.moves)).places
+
+-- a node that sits there, with these settings
+abbrev pub seat_with : Settings → NodeView MemDisk → Seat
+seat_with settings node = record { settings = settings; node = Some node }
+
+-- an entry with this event and this reply came into the journal of the node that sits
+-- there. In each group in which it lives that is its next move, if nothing was invented
+pub record HearsThere (old new : Seat) (event : Event) (reply : Reply) : Type 0 where
+  pub before : NodeView MemDisk
+  pub after : NodeView MemDisk
+  pub e : Entry
+  pub was : old ≡ seat_with old.settings before
+  pub is : new ≡ seat_with old.settings after
+  pub entries : after.entries ≡ before.entries ++ e ∷ []
+  pub event_is : e.event ≡ event
+  pub reply_is : e.reply ≡ reply
+  pub texts : HasTexts e
+  pub moves : IsMoveOf state_of before after (λ sent. IsNotInvented sent event)
+      (λ which. Calls which e after.disk)
+
+-- this happened in this place, nowhere else anything changed, and
+-- what the node sends is kept after the rest, as far as there is room
+pub record HearsAt (old new : RealNodes) (which : ℕ) (event : Event) (reply : Reply) : Type 0 where
+  pub seat : Seat
+  pub next : Seat
+  pub found : slice_get old.seats which ≡ Some seat
+  pub hears : HearsThere seat next event reply
+  pub is : new ≡ record old {
+    seats = slice_set old.seats which next;
+    kept = take old.room (old.kept ++ hears.e.outs.items);
+  }
+
+-- the kept datagram with this number comes to the node in this place
+pub record DeliversAt (old new : RealNodes) (which datagram : ℕ) (reply : Reply) : Type 0 where
+  pub out : Out
+  pub kept : slice_get old.kept datagram ≡ Some out
+  pub event : Event
+  pub arrives : Arrives out event
+  pub heard : HearsAt old new which event reply
+
+-- the node that sits there crashed, and was opened anew on what was left of its
+-- disk. In each group in which it lived that is its next move
+pub record OpensThere (old new : Seat) (limit : ℕ) : Type 0 where
+  pub before : NodeView MemDisk
+  pub after : NodeView MemDisk
+  pub opened : MemDisk
+  pub was : old ≡ seat_with old.settings before
+  pub is : new ≡ seat_with old.settings after
+  pub base : after.base ≡ fresh_base old.settings after.first limit
+  pub entries : after.entries ≡ []
+  pub moves : IsMoveOf state_of before after (λ sent. owner_of old.settings ≡ before.owner)
+      (λ which. Opens which old.settings limit after.first opened after.disk)
+
+-- this happened in this place, and nothing else changed
+pub record OpensAt (old new : RealNodes) (which : ℕ) : Type 0 where
+  pub seat : Seat
+  pub next : Seat
+  pub found : slice_get old.seats which ≡ Some seat
+  pub opens : OpensThere seat next old.limit
+  pub is : new ≡ record old { seats = slice_set old.seats which next }
+
+-- who sat there is gone, and nothing else changed
+pub record LeavesAt (old new : RealNodes) (which : ℕ) : Type 0 where
+  pub seat : Seat
+  pub found : slice_get old.seats which ≡ Some seat
+  pub is : new ≡ record old {
+    seats = slice_set old.seats which (record { settings = seat.settings; node = None });
+  }
+
+-- the era of the node that sits there ended. In each group in which it lives that is its next move
+pub record EraEndsThere (old new : Seat) : Type 0 where
+  pub before : NodeView MemDisk
+  pub after : NodeView MemDisk
+  pub was : old ≡ seat_with old.settings before
+  pub is : new ≡ seat_with old.settings after
+  pub base : after.base ≡ next_base before.base before.entries
+  pub entries : after.entries ≡ []
+  pub moves : IsMoveOf state_of before after (λ sent. Unit {0}) (λ which. Rebases which)
+
+-- this happened in this place, and nothing else changed
+pub record EraEndsAt (old new : RealNodes) (which : ℕ) : Type 0 where
+  pub seat : Seat
+  pub next : Seat
+  pub found : slice_get old.seats which ≡ Some seat
+  pub ends : EraEndsThere seat next
+  pub is : new ≡ record old { seats = slice_set old.seats which next }
+
+-- a node that was opened with these settings and did nothing yet
+pub record IsNewNode (settings : Settings) (limit : ℕ) (seat : Seat) : Type 0 where
+  pub node : NodeView MemDisk
+  pub opened : MemDisk
+  pub is : seat ≡ seat_with settings node
+  pub begins : IsOpened state_of (life_of settings limit opened [] node)
+  pub living : IsLiving state_of node.owner (life_of settings limit opened [] node)
+
+-- one of them for each of these settings
+abbrev pub AreNewNodes : ℕ → List Settings → List Seat → Type 0
+AreNewNodes limit [] [] = Unit {0}
+AreNewNodes limit [] (seat ∷ seats) = ⊥
+AreNewNodes limit (s ∷ settings) [] = ⊥
+AreNewNodes limit (s ∷ settings) (seat ∷ seats) =
+    IsNewNode s limit seat × AreNewNodes limit settings seats

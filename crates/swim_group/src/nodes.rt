@@ -1,0 +1,182 @@
+//! A group of real nodes on disks in memory, and the datagrams of theirs that may still come.
+
+ghost use Rattle.std.specs.Prelude.{◌≡◌, ◌⊎◌, ◌≤◌, ◌<◌, ◌↔◌, [], length, IfOk, IfErr, OnOk, OnErr, Err};
+ghost use Rattle.swim_group.specs.declared.fault.NodesFault.TheVariants as fault;
+ghost use Rattle.swim_group.specs.Network.{IsNotInvented};
+ghost use Rattle.swim_group.specs.Real.{MayBegin, IsReadable};
+ghost use Rattle.swim_group.specs.RealNodes.{HasSoundNodeRun, HearsAt, DeliversAt, OpensAt, LeavesAt, EraEndsAt, AreNewNodes, IsOwnFault};
+
+use crate::beginning::may_begin;
+use crate::fault::NodesFault;
+use crate::seat::{Seat, end_there, first_seats, hear_there, last_outs, open_there};
+use crate::step::{arrival, is_readable, keep};
+use std::alloc::Global;
+use std::marker::Model;
+use swim_disk::Choice;
+use swim_member::{Event, OUTS_MAX, Out, Settings};
+use swim_node::Reply;
+
+/// Real nodes that began together, each on a disk of its own, and the datagrams of theirs that are kept for later.
+#[derive(Drop)]
+pub struct Nodes {
+    seats: Vec<Seat>,
+    kept: Vec<Out>,
+    room: usize,
+    limit: u32,
+}
+
+impl Model for Nodes {
+    ghost use Rattle.std.specs.Prelude.{◌≤◌, length};
+    ghost use Rattle.swim_group.specs.RealNodes.{RealNodes, HasNodeRun};
+
+    ghost Value = { RealNodes };
+
+    ghost view = { λ g. record {
+      seats = g.seats.items;
+      kept = g.kept.items;
+      room = g.room;
+      limit = g.limit;
+    } };
+
+    ghost invariant = { λ g. HasNodeRun g.seats.items g.kept.items
+        × (length g.kept.items ≤ g.room) };
+}
+
+impl Nodes {
+    /// New nodes with these settings, each on a disk that is made for it, with at most `limit` entries in an era, and room
+    /// for so many datagrams.
+    pub fn new(
+        alloc: Global,
+        settings: &[Settings],
+        limit: u32,
+        room: usize,
+    ) -> Result<Nodes, NodesFault>
+        // only sound settings, of which no two have one name
+        ensures ok { OnOk result (MayBegin settings.now) }
+        ensures seats { IfOk result (λ group. AreNewNodes limit settings.now group.seats) }
+        ensures kept { IfOk result (λ group. group.kept ≡ []) }
+        ensures room { IfOk result (λ group. (group.room ≡ room) × (group.limit ≡ limit)) }
+        ensures run { IfOk result HasSoundNodeRun }
+    {
+        if let Err(fault) = may_begin(settings) {
+            return Err(NodesFault::Unfit(fault));
+        }
+        let seats = first_seats(alloc, settings, limit)?;
+        Ok(Nodes {
+            seats,
+            kept: Vec::new(alloc),
+            room,
+            limit,
+        })
+    }
+
+    /// The nodes, each with its settings, in the order in which they began.
+    pub fn seats(&self) -> &[Seat]
+        ensures { result.now ≡ self.now.seats }
+    {
+        self.seats.as_slice()
+    }
+
+    /// The datagrams that may be delivered, in the order in which they were sent.
+    pub fn kept(&self) -> &[Out]
+        ensures { result.now ≡ self.now.kept }
+    {
+        self.kept.as_slice()
+    }
+
+    /// Whether there is such a node. Whatever is answered, the group has its run.
+    fn find(&self, node: usize) -> Result<(), NodesFault>
+        ensures ok { OnOk result (node < length self.now.seats) }
+        ensures missing { (result ≡ Err fault.NoNode) ↔ (length self.now.seats ≤ node) }
+        ensures err { IfErr result (λ refused. refused ≡ fault.NoNode) }
+        ensures run { HasSoundNodeRun self.now }
+    {
+        if self.seats.len() <= node {
+            return Err(NodesFault::NoNode);
+        }
+        Ok(())
+    }
+
+    /// An event that the network did not invent comes to a node, if there is memory for what it may send.
+    fn bring(&mut self, node: usize, event: Event) -> Result<Reply, NodesFault>
+        requires there { node < length self.old.seats }
+        requires sent { IsNotInvented self.old.kept event }
+        ensures ok { IfOk result (λ reply. HearsAt self.old self.new node event reply) }
+        ensures own { IfErr result IsOwnFault }
+        ensures err { OnErr result (self.new ≡ self.old) }
+        ensures run { HasSoundNodeRun self.new }
+    {
+        if self.kept.reserve(OUTS_MAX).is_err() {
+            return Err(NodesFault::NoMemory);
+        }
+        match hear_there(&mut self.seats[node], event) {
+            Err(fault) => Err(fault),
+            Ok(reply) => {
+                let outs = last_outs(&self.seats[node]);
+                keep(&mut self.kept, self.room, outs);
+                Ok(reply)
+            }
+        }
+    }
+
+    /// An event comes to a node: any event but a datagram that can be read, which `deliver` brings. What the node sends
+    /// is kept as far as there is room.
+    pub fn step(&mut self, node: usize, event: Event) -> Result<Reply, NodesFault>
+        ensures ok { IfOk result (λ reply. HearsAt self.old self.new node event reply) }
+        ensures readable { result ≡ Err fault.Readable → IsReadable event }
+        ensures err { OnErr result (self.new ≡ self.old) }
+        // these are the nodes and datagrams of a run in which nothing is invented and no number is passed
+        ensures run { HasSoundNodeRun self.new }
+    {
+        self.find(node)?;
+        if is_readable(&event) {
+            return Err(NodesFault::Readable);
+        }
+        self.bring(node, event)
+    }
+
+    /// A datagram that is kept comes to a node, whomever it was sent to. It stays, and may come again.
+    pub fn deliver(&mut self, node: usize, datagram: usize) -> Result<Reply, NodesFault>
+        ensures ok { IfOk result (λ reply. DeliversAt self.old self.new node datagram reply) }
+        ensures no_datagram { result ≡ Err fault.NoDatagram → length self.old.kept ≤ datagram }
+        ensures err { OnErr result (self.new ≡ self.old) }
+        ensures run { HasSoundNodeRun self.new }
+    {
+        self.find(node)?;
+        if self.kept.len() <= datagram {
+            return Err(NodesFault::NoDatagram);
+        }
+        let event = arrival(&self.kept[datagram]);
+        self.bring(node, event)
+    }
+
+    /// A node crashes with its disk, of which the crash leaves what is chosen, and is opened anew on that. If it is not
+    /// opened, it is gone.
+    pub fn crash(&mut self, node: usize, choice: Choice) -> Result<(), NodesFault>
+        ensures ok { OnOk result (OpensAt self.old self.new node) }
+        ensures missing { (result ≡ Err fault.NoNode) ↔ (length self.old.seats ≤ node) }
+        ensures err { OnErr result ((self.new ≡ self.old) ⊎ LeavesAt self.old self.new node) }
+        ensures run { HasSoundNodeRun self.new }
+    {
+        self.find(node)?;
+        let alloc = *self.kept.allocator();
+        if let Err(fault) = open_there(alloc, &mut self.seats[node], choice, self.limit) {
+            return Err(fault);
+        }
+        Ok(())
+    }
+
+    /// The era of a node ends, so that its journal has room again.
+    pub fn end_era(&mut self, node: usize) -> Result<(), NodesFault>
+        ensures ok { OnOk result (EraEndsAt self.old self.new node) }
+        ensures missing { (result ≡ Err fault.NoNode) ↔ (length self.old.seats ≤ node) }
+        ensures err { OnErr result (self.new ≡ self.old) }
+        ensures run { HasSoundNodeRun self.new }
+    {
+        self.find(node)?;
+        if let Err(fault) = end_there(&mut self.seats[node]) {
+            return Err(fault);
+        }
+        Ok(())
+    }
+}

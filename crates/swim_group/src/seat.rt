@@ -1,0 +1,216 @@
+//! A place in a group of real nodes, and what happens to who sits there.
+
+ghost use Rattle.std.specs.Prelude.{◌≡◌, ◌++◌, ◌∷◌, [], All, None, List, IfOk, IfErr, OnOk, OnErr};
+ghost use Rattle.swim_wire.specs.Spelling.{HasText};
+ghost use Rattle.swim_member.specs.Checks.{AreSound};
+ghost use Rattle.swim_member.specs.declared.settings.Settings.{Settings as Options};
+ghost use Rattle.swim_disk.specs.declared.mem.MemDisk.{MemDisk as Disks};
+ghost use Rattle.swim_node.specs.declared.entry.Entry.{Entry as Entries};
+ghost use Rattle.swim_node.specs.Node.{NodeView};
+ghost use Rattle.swim_group.specs.RealNodes.{HearsThere, OpensThere, EraEndsThere, IsNewNode, AreNewNodes, IsOwnFault, seat_with};
+
+use crate::fault::NodesFault;
+use crate::node::{crash, end_era, hear, open_again};
+use arrayvec::ArrayVec;
+use std::alloc::Global;
+use swim_disk::{Choice, MemDisk};
+use swim_member::{Event, OUTS_MAX, Out, Settings};
+use swim_node::{Link, LinkFault, Node, Reply, Tag};
+use swim_state::{InitFault, Owner, init};
+use swim_wire::{Endpoint, decode, encode};
+
+/// A node on a disk in memory, or none where it was not opened again, and the settings with which it is opened.
+#[derive(Drop)]
+pub struct Seat {
+    /// The settings.
+    pub settings: Settings,
+    /// The node.
+    pub node: Option<Node<MemDisk>>,
+}
+
+/// A link that takes every datagram and tells nothing of it: what becomes of them is the network's.
+#[derive(Drop)]
+struct Nowhere;
+
+impl Link for Nowhere {
+    ghost use Rattle.std.specs.Prelude.{[]};
+    ghost use Rattle.swim_node.specs.Link.{link_number};
+
+    ghost name = { λ l. link_number 0 };
+
+    ghost tells = { ⊥ };
+
+    ghost took = { λ l. [] };
+
+    ghost failures = { λ l. 0 };
+
+    fn send(&mut self, _to: Endpoint, _bytes: &[u8]) -> Result<(), LinkFault> {
+        Ok(())
+    }
+}
+
+/// An event comes to the node that sits there.
+pub(crate) fn hear_there(seat: &mut Seat, event: Event) -> Result<Reply, NodesFault>
+    ensures ok { IfOk result (λ reply. HearsThere seat.old seat.new event reply) }
+    ensures own { IfErr result IsOwnFault }
+    ensures err { OnErr result (seat.new ≡ seat.old) }
+{
+    let Some(node) = &mut seat.node else {
+        return Err(NodesFault::Gone);
+    };
+    let turn = node.turns(0) + 1;
+    match hear(node, &mut Nowhere, Tag { caller: 0, turn }, event) {
+        Ok(reply) => Ok(reply),
+        Err(fault) => Err(NodesFault::Refused(fault)),
+    }
+}
+
+/// A copy of a datagram with its destination.
+fn copy(out: &Out) -> Out
+    requires { HasText out.now.datagram }
+    ensures { result ≡ out.now }
+{
+    let text = encode(&out.datagram);
+    match decode(text.as_slice()) {
+        Ok(datagram) => Out {
+            to: out.to,
+            datagram,
+        },
+        Err(_) => unreachable!(),
+    }
+}
+
+/// Copies of datagrams.
+fn copies(outs: &ArrayVec<Out, OUTS_MAX>) -> ArrayVec<Out, OUTS_MAX>
+    requires { All (λ out. HasText out.datagram) outs.now.items }
+    ensures { result.items ≡ outs.now.items }
+{
+    let mut copies = ArrayVec::new();
+    for out in outs.as_slice() {
+        copies.push(copy(out));
+    }
+    copies
+}
+
+/// The datagrams of the last entry of the node that sits there.
+pub(crate) fn last_outs(seat: &Seat) -> ArrayVec<Out, OUTS_MAX>
+    ensures { (settings : Options) → (node : NodeView Disks)
+        → (before : List Entries) → (e : Entries)
+        → seat.now ≡ seat_with settings node
+        → node.entries ≡ before ++ e ∷ []
+        → result.items ≡ e.outs.items }
+{
+    let Some(node) = &seat.node else {
+        return ArrayVec::new();
+    };
+    if node.len() == 0 {
+        return ArrayVec::new();
+    }
+    copies(&node.last().outs)
+}
+
+/// The node that sits there crashes, and is opened anew on what is left of its disk, if it can be.
+pub(crate) fn open_there(
+    alloc: Global,
+    seat: &mut Seat,
+    choice: Choice,
+    limit: u32,
+) -> Result<(), NodesFault>
+    requires sound { AreSound seat.old.settings }
+    ensures ok { OnOk result (OpensThere seat.old seat.new limit) }
+    ensures own { IfErr result IsOwnFault }
+    ensures err { OnErr result
+        (seat.new ≡ record { settings = seat.old.settings; node = None }) }
+{
+    let Some(node) = seat.node.take() else {
+        return Err(NodesFault::Gone);
+    };
+    match crash(alloc, node, choice, seat.settings, limit) {
+        Ok(node) => {
+            seat.node = Some(node);
+            Ok(())
+        }
+        Err((_, fault)) => Err(NodesFault::NotOpened(fault)),
+    }
+}
+
+/// The era of the node that sits there ends.
+pub(crate) fn end_there(seat: &mut Seat) -> Result<(), NodesFault>
+    ensures ok { OnOk result (EraEndsThere seat.old seat.new) }
+    ensures own { IfErr result IsOwnFault }
+    ensures err { OnErr result (seat.new ≡ seat.old) }
+{
+    let Some(node) = &mut seat.node else {
+        return Err(NodesFault::Gone);
+    };
+    let _ = end_era(node);
+    Ok(())
+}
+
+/// A disk with this number, and a new state file on it.
+fn made(alloc: Global, number: u64, owner: Owner) -> Result<MemDisk, InitFault> {
+    let mut disk = MemDisk::new(alloc, number, Vec::new(alloc));
+    init(&mut disk, owner, 0)?;
+    Ok(disk)
+}
+
+/// A node is opened for the first time, on this disk, and sits there.
+fn first_there(alloc: Global, seat: &mut Seat, disk: MemDisk, limit: u32) -> Result<(), NodesFault>
+    requires { AreSound seat.old.settings }
+    ensures { OnOk result (IsNewNode seat.old.settings limit seat.new) }
+{
+    match open_again(alloc, disk, seat.settings, limit) {
+        Ok(node) => {
+            seat.node = Some(node);
+            Ok(())
+        }
+        Err((_, fault)) => Err(NodesFault::NotOpened(fault)),
+    }
+}
+
+/// A node that is opened for the first time, on a disk with this number that is made for it.
+fn first_seat(
+    alloc: Global,
+    number: u64,
+    settings: Settings,
+    limit: u32,
+) -> Result<Seat, NodesFault>
+    requires { AreSound settings }
+    ensures { IfOk result (λ seat. IsNewNode settings limit seat) }
+{
+    let owner = Owner {
+        group: settings.group,
+        me: settings.me,
+    };
+    let disk = match made(alloc, number, owner) {
+        Ok(disk) => disk,
+        Err(fault) => return Err(NodesFault::NotMade(fault)),
+    };
+    let mut seat = Seat {
+        settings,
+        node: None,
+    };
+    first_there(alloc, &mut seat, disk, limit)?;
+    Ok(seat)
+}
+
+/// Nodes that are opened for the first time, each on a disk of its own.
+pub(crate) fn first_seats(
+    alloc: Global,
+    settings: &[Settings],
+    limit: u32,
+) -> Result<Vec<Seat>, NodesFault>
+    requires { All AreSound settings.now }
+    ensures { IfOk result (λ seats. AreNewNodes limit settings.now seats.items) }
+{
+    let mut seats = Vec::new(alloc);
+    for i in 0..settings.len() {
+        if seats.reserve(1).is_err() {
+            return Err(NodesFault::NoMemory);
+        }
+        let one = &settings[i];
+        let seat = first_seat(alloc, i as u64, *one, limit)?;
+        seats.push_reserved(seat);
+    }
+    Ok(seats)
+}
