@@ -12,8 +12,6 @@ mod file;
 mod mem;
 mod past;
 mod plan;
-#[cfg(test)]
-mod tests;
 
 pub use disk::{Disk, DiskFault};
 pub use fault::FaultDisk;

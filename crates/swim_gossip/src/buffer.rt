@@ -219,6 +219,3 @@ impl Buffer {
         updates
     }
 }
-
-#[cfg(test)]
-mod drawn;

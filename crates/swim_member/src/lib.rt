@@ -33,6 +33,3 @@ pub use note::Note;
 pub use own_number::OwnNumber;
 pub use settings::{BLOCK_MAX, HELPERS_MAX, Settings, SettingsFault};
 pub use state::{Counts, Joining, Phase, Probe, Relay};
-
-#[cfg(test)]
-mod tests;

@@ -6,8 +6,6 @@ mod change;
 mod comparing;
 mod json;
 mod rows;
-#[cfg(test)]
-mod tests;
 
 pub use change::Change;
 pub use comparing::{CHANGES_MAX, Changes, compare};

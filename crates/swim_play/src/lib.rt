@@ -5,8 +5,6 @@ mod life;
 mod player;
 mod session;
 mod setup;
-#[cfg(test)]
-mod tests;
 mod transcript;
 
 pub use life::{Life, PlayDisk};

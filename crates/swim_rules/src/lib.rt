@@ -17,6 +17,3 @@ mod table;
 pub use laws::{order_is_of_no_matter, rows_are_tops};
 pub use overriding::overrides;
 pub use table::{Heard, ROWS_MAX, Row, Table};
-
-#[cfg(test)]
-mod tests;

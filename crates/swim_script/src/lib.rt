@@ -10,8 +10,6 @@ mod keyword;
 mod line;
 mod patch;
 mod script;
-#[cfg(test)]
-mod tests;
 
 pub use command::{Command, Failure, Setting};
 pub use fault::{FaultKind, ScriptFault};

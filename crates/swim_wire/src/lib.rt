@@ -30,6 +30,3 @@ pub use reading::decode;
 pub use rules::Rules;
 pub use update::{LEAP, MEMBERS_MAX, NUMBER_MAX, Update, UpdateKind};
 pub use writing::encode;
-
-#[cfg(test)]
-mod tests;

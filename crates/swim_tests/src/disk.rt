@@ -1,0 +1,170 @@
+//! What crashes leave, what failing disks answer, and how a sync is held.
+
+use std::alloc::Global;
+use std::process::Abort;
+use std::test::Fail;
+use std::{fs, thread};
+use swim_disk::{Choice, Disk, DiskFault, FaultDisk, FileDisk, MOST_BYTES, MemDisk, Plan};
+
+/// The bytes 1 to 4, synced, and then a write of 8 and 9 at offset 3.
+fn written(alloc: Global) -> Result<MemDisk, Fail> {
+    let mut disk = MemDisk::new(alloc, 1, Vec::new(alloc));
+    disk.write_at(0, &[1, 2, 3, 4])?;
+    disk.sync()?;
+    disk.write_at(3, &[8, 9])?;
+    Ok(disk)
+}
+
+#[test]
+fn crash_leaves_what_was_chosen(rt: HostRuntime) -> Result<(), Fail> {
+    for (choice, want) in [
+        (Choice::Keep, [1, 2, 3, 8, 9].as_slice()),
+        (Choice::Drop, [1, 2, 3, 4].as_slice()),
+        (Choice::Fill(0xa5), [1, 2, 3, 0xa5, 0xa5].as_slice()),
+    ] {
+        let left = written(rt.alloc())?.crash(choice);
+        assert_eq!(rt; left.bytes(), want, "{choice:?}");
+    }
+    Ok(())
+}
+
+#[test]
+fn memory_ends(rt: HostRuntime) -> Result<(), Fail> {
+    let mut disk = written(rt.alloc())?;
+    for (at, want) in [
+        (3, Ok(())),
+        (4, Err(DiskFault::PastEnd)),
+        (u64::MAX, Err(DiskFault::PastEnd)),
+    ] {
+        assert_eq!(rt; disk.read_at(at, &mut [0; 2]), want, "at {at}");
+    }
+    for (at, want) in [
+        (MOST_BYTES - 1, Ok(())),
+        (MOST_BYTES, Err(DiskFault::NoRoom)),
+        (u64::MAX, Err(DiskFault::NoRoom)),
+    ] {
+        assert_eq!(rt; disk.write_at(at, &[1]), want, "at {at}");
+    }
+    Ok(())
+}
+
+/// Bytes that are put under a disk stand after each crash, and what was written beside them is as it was.
+#[test]
+fn overwritten_bytes_stand(rt: HostRuntime) -> Result<(), Fail> {
+    for (choice, want) in [
+        (Choice::Keep, [1, 2, 3, 7, 9].as_slice()),
+        (Choice::Drop, [1, 2, 3, 7].as_slice()),
+        (Choice::Fill(0xa5), [1, 2, 3, 7, 0xa5].as_slice()),
+    ] {
+        let disk = written(rt.alloc())?.overwritten(3, &[7])?;
+        assert_eq!(rt; disk.crash(choice).bytes(), want, "{choice:?}");
+    }
+    Ok(())
+}
+
+fn planned(rt: &impl Abort, alloc: Global) -> (FaultDisk<MemDisk>, Plan) {
+    FaultDisk::new(alloc, MemDisk::new(alloc, 1, Vec::new(alloc)))
+        .ok()
+        .expect(rt, "memory")
+}
+
+/// Whether a length, a write of three bytes, a read and a sync fail, in this order and twice.
+fn failing(disk: &mut FaultDisk<MemDisk>) -> [bool; 8] {
+    let mut fails = [false; 8];
+    for round in 0..2_usize {
+        let at = 4 * round;
+        fails[at] = disk.len().is_err();
+        fails[at + 1] = disk.write_at(0, &[1, 2, 3]).is_err();
+        fails[at + 2] = disk.read_at(0, &mut [0; 1]).is_err();
+        fails[at + 3] = disk.sync().is_err();
+    }
+    fails
+}
+
+/// Sets one thing that goes wrong at a call to come.
+type Trouble = fn(&Plan, u64);
+
+/// A plan counts its calls from where it is set, a length among the reads.
+#[test]
+fn fails_by_plan(rt: HostRuntime) -> Result<(), Fail> {
+    let troubles: [(Trouble, u64, [u8; 8]); 7] = [
+        (Plan::fail_read, 1, [1, 0, 0, 0, 0, 0, 0, 0]),
+        (Plan::fail_read, 4, [0, 0, 0, 0, 0, 0, 1, 0]),
+        (Plan::fail_write, 2, [0, 0, 0, 0, 0, 1, 0, 0]),
+        (Plan::tear_write, 2, [0, 0, 0, 0, 0, 1, 0, 0]),
+        (Plan::fail_sync, 1, [0, 0, 0, 1, 0, 0, 0, 0]),
+        (Plan::halt, 4, [0, 0, 0, 1, 1, 1, 1, 1]),
+        (Plan::halt, 0, [0, 0, 0, 0, 0, 0, 0, 0]),
+    ];
+    for (trouble, k, want) in troubles {
+        let (mut disk, plan) = planned(&rt, rt.alloc());
+        trouble(&plan, k);
+        let want = want.map(|fails| fails == 1);
+        assert_eq!(rt; failing(&mut disk), want, "{k}");
+        assert_eq!(rt; plan.calls(), 8);
+    }
+    Ok(())
+}
+
+/// Of a torn write the first half is passed on, rounded up.
+#[test]
+fn tears_in_the_middle(rt: HostRuntime) -> Result<(), Fail> {
+    for (count, want) in [(1, 1), (2, 1), (3, 2), (16, 8)] {
+        let (mut disk, plan) = planned(&rt, rt.alloc());
+        plan.tear_write(1);
+        assert!(rt; count <= 16);
+        assert!(rt; disk.write_at(0, &[7; 16][..count]).is_err());
+        assert_eq!(rt; disk.inner().bytes(), &[7; 16][..want]);
+    }
+    Ok(())
+}
+
+/// A sync that nobody lets go on does so when its turns are over.
+#[test]
+fn holds_a_sync_for_its_turns(rt: HostRuntime) -> Result<(), Fail> {
+    let (mut disk, plan) = planned(&rt, rt.alloc());
+    plan.hold_sync();
+    disk.sync()?;
+    assert!(rt; !plan.is_held());
+    Ok(())
+}
+
+/// Whether a sync was seen to be held, and let go on.
+fn lets_go_on(plan: &Plan) -> bool {
+    for _ in 0..10_000_000_u32 {
+        if plan.is_held() {
+            plan.go_on();
+            return true;
+        }
+        thread::yield_now();
+    }
+    false
+}
+
+#[test]
+fn another_thread_lets_a_sync_go_on(rt: HostRuntime) -> Result<(), Fail> {
+    let (mut disk, plan) = planned(&rt, rt.alloc());
+    plan.hold_sync();
+    let other = thread::spawn(&rt, move || lets_go_on(&plan))
+        .ok()
+        .expect(&rt, "a thread");
+    disk.sync()?;
+    assert!(rt; other.join(&rt));
+    Ok(())
+}
+
+#[test]
+fn file_reads_back(rt: HostRuntime) -> Result<(), Fail> {
+    let _ = fs::remove_file(&rt, "disk");
+    let mut disk = FileDisk::create(rt.alloc(), &rt, "disk")?;
+    disk.write_at(3, &[8, 9])?;
+    disk.sync()?;
+    let mut again = FileDisk::open(rt.alloc(), &rt, "disk")?;
+    let mut bytes = [1; 5];
+    again.read_at(0, &mut bytes)?;
+    assert_eq!(rt; bytes, [0, 0, 0, 8, 9]);
+    assert_eq!(rt; again.len()?, 5);
+    assert_eq!(rt; again.read_at(4, &mut bytes), Err(DiskFault::PastEnd));
+    fs::remove_file(&rt, "disk")?;
+    Ok(())
+}

@@ -1,0 +1,180 @@
+//! What a joiner does as a clock goes on.
+
+use super::direct::Direct;
+use super::fakes::Goes;
+use super::inbounds::{Given, Listed};
+use super::workers::KEY;
+use arrayvec::ArrayVec;
+use log::kv::Source;
+use log::sink::Memory;
+use log::span::Spans;
+use log::{Log, Metadata, Record};
+use rand_chacha::ChaCha20Rng;
+use rand_core::SeedableRng;
+use std::fmt::Display;
+use std::io::{self, ErrorKind};
+use std::test::Fail;
+use std::time::{Clock, Duration};
+use swim_member::Event;
+use swim_scenes::endpoint;
+use swim_shell::{Joiner, LIST_MAX, Paces, Receiver, Refusal, run};
+use swim_wire::{Endpoint, Rules};
+
+/// A clock that a test sets, beside a log in memory.
+#[derive(Drop)]
+struct Desk {
+    /// What the clock reads; none where it cannot be read.
+    millis: Option<u64>,
+    is_shown: bool,
+    lines: Memory,
+}
+
+impl Clock for Desk {
+    fn monotonic(&self) -> io::Result<Duration> {
+        match self.millis {
+            Some(millis) => Ok(Duration::from_millis(millis)),
+            None => Err(io::Error::from(ErrorKind::Other)),
+        }
+    }
+
+    fn since_1970(&self) -> io::Result<Duration> {
+        self.monotonic()
+    }
+}
+
+impl Log for Desk {
+    fn enabled(&self, metadata: &Metadata<'_>) -> bool {
+        self.is_shown && self.lines.enabled(metadata)
+    }
+
+    fn log<D: Display, K: Source, S: Spans>(&self, record: &Record<'_, D, K, S>) {
+        self.lines.log(record);
+    }
+
+    fn flush(&self) {}
+
+    fn target(&self) -> &str {
+        ""
+    }
+}
+
+/// What a turn does: when it is and whether the log is shown, how many pages it reads, and which member it then joins.
+type Step = (Option<u64>, bool, usize, Option<u8>);
+
+/// The turns of a lone member with the list 10.0.0.2:7000 and 10.0.0.5:7000.
+const LONE: [Step; 10] = [
+    (Some(0), true, 0, Some(2)),
+    (None, true, 1, None),
+    (Some(299), true, 1, None),
+    (Some(300), true, 0, Some(5)),
+    (Some(400), true, 0, None),
+    (Some(1298), true, 0, None),
+    (Some(1299), true, 1, None),
+    (Some(1300), false, 0, Some(2)),
+    (None, true, 0, None),
+    (Some(2298), false, 0, None),
+];
+
+/// Its turns once it knows 10.0.0.3:7000, and nobody of the list.
+const KNOWN: [Step; 9] = [
+    (Some(2300), false, 0, None),
+    (Some(2301), true, 1, None),
+    (Some(11_299), false, 0, None),
+    (Some(11_300), true, 1, Some(5)),
+    (Some(11_301), true, 0, None),
+    (Some(21_300), false, 1, Some(2)),
+    (Some(21_300), true, 1, None),
+    (Some(21_300), true, 0, None),
+    (Some(31_300), true, 1, Some(5)),
+];
+
+/// What is logged in these turns.
+const LINES: [&str; 3] = [
+    "member 10.0.0.1:7000 alive 1, was unknown",
+    "member 10.0.0.3:7000 alive 1, was unknown",
+    "listed 10.0.0.5:7000 is not known here: it is asked again, in case the group is in two parts",
+];
+
+/// One turn at a time of the clock. Says how many pages it read, and which member it then joined.
+fn turn<const LIMIT: u32>(
+    desk: &Desk,
+    joiner: &mut Joiner,
+    caller: &mut Direct<LIMIT>,
+) -> Result<(usize, Option<Endpoint>), Fail> {
+    let before = caller.node().len();
+    joiner.turn(desk, caller).map_err(|_| "a turn")?;
+    let mut pages = 0usize;
+    let mut joined = None;
+    for entry in caller.node().journal().iter().skip(before) {
+        match entry.event {
+            Event::Members { .. } => pages = pages.wrapping_add(1),
+            Event::Join { peer } => joined = Some(peer),
+            _ => return Err("another event".into()),
+        }
+    }
+    Ok((pages, joined))
+}
+
+/// The joiner of 10.0.0.1:7000 with this list. The answer time is 300 ms and the period 1 s, and a member is drawn each 10 s.
+fn joiner_of(peers: ArrayVec<Endpoint, LIST_MAX>) -> Result<Joiner, Fail> {
+    let paces = Paces {
+        answer: Duration::from_millis(300),
+        period: Duration::from_secs(1),
+        rejoin: Some(Duration::from_secs(10)),
+    };
+    let me = endpoint(1).ok_or("an endpoint")?;
+    let rng = ChaCha20Rng::from_seed(KEY);
+    Ok(Joiner::new(me, Rules::One, peers, paces, rng))
+}
+
+/// What is due is done in each turn, and nothing else. A clock that is not read holds nothing for passed.
+#[test]
+fn turns_by_the_clock(rt: HostRuntime) -> Result<(), Fail> {
+    let mut peers = ArrayVec::new();
+    for last in [2, 5] {
+        let _ = peers.try_push(endpoint(last).ok_or("an endpoint")?);
+    }
+    let mut joiner = joiner_of(peers)?;
+    let mut caller = Direct::<64>::new(rt.alloc())?;
+    let mut desk = Desk {
+        millis: None,
+        is_shown: true,
+        lines: Memory::new(rt.alloc()),
+    };
+    for steps in [LONE.as_slice(), KNOWN.as_slice()] {
+        for (millis, is_shown, pages, joined) in steps {
+            desk.millis = *millis;
+            desk.is_shown = *is_shown;
+            let did = turn(&desk, &mut joiner, &mut caller)?;
+            assert_eq!(&rt; did, (*pages, joined.and_then(endpoint)));
+        }
+        let mut receiver = Receiver::new(Listed::new(&[Given::Ping(1)]));
+        run(&rt, &mut receiver, &mut caller, &mut Goes { left: 1 });
+    }
+    let lines = desk.lines.into_lines();
+    assert_eq!(&rt; lines.len(), LINES.len());
+    for (line, want) in lines.as_slice().iter().zip(LINES) {
+        assert!(&rt; line.as_str().ends_with(want));
+    }
+    Ok(())
+}
+
+/// A drawn member whose join meets a full era is joined in the next one.
+#[test]
+fn draws_again_in_the_next_era(rt: HostRuntime) -> Result<(), Fail> {
+    let mut joiner = joiner_of(ArrayVec::new())?;
+    let mut caller = Direct::<2>::new(rt.alloc())?;
+    let mut desk = Desk {
+        millis: Some(0),
+        is_shown: false,
+        lines: Memory::new(rt.alloc()),
+    };
+    let mut receiver = Receiver::new(Listed::new(&[Given::Ping(1)]));
+    run(&rt, &mut receiver, &mut caller, &mut Goes { left: 1 });
+    assert_eq!(&rt; turn(&desk, &mut joiner, &mut caller)?, (0, None));
+    desk.millis = Some(10_000);
+    assert_eq!(&rt; joiner.turn(&desk, &mut caller), Err(Refusal::EraFull));
+    caller.begin_era();
+    assert_eq!(&rt; turn(&desk, &mut joiner, &mut caller)?, (1, endpoint(3)));
+    Ok(())
+}

@@ -1,0 +1,17 @@
+use Rattle.std.proofs.Common.{[]}
+use Rattle.swim_disk.specs.Fault.{state_of}
+use Rattle.swim_disk.specs.MemDisk.{state_of as memory_of}
+use Rattle.swim_node.specs.Link.{link_number}
+use Rattle.swim_thread_tests.proofs.shared.calls.three_eras.Given as goal
+
+-- the parts that were just made
+abbrev pub ghosts-one_era : goal.ghosts-one_era
+ghosts-one_era g a = record {
+  book = a.parts.book;
+  base = a.parts.node.base;
+  disk = (state_of memory_of a.parts.node.disk).name;
+  owner = a.parts.node.owner;
+  first = a.parts.node.first;
+  link = link_number 0;
+  start = [];
+}
