@@ -2,8 +2,9 @@
 
 ghost use Rattle.std.specs.Prelude.{◌≡◌, ◌⊎◌, ◌↔◌, ◌+◌, ◌<◌, ◌≤◌, ◌^◌, ◌∷◌, [], ℕ, List, length, OnOk, IsErrOf};
 ghost use Rattle.swim_disk.specs.Disk.{Counts, IsSettled, Rests, overlaid};
-ghost use Rattle.swim_state.specs.File.{floor, head, IsSound};
+ghost use Rattle.swim_state.specs.File.{floor, head, version_in, IsSound};
 ghost use Rattle.swim_state.specs.First.{body_alone};
+ghost use Rattle.swim_state.specs.declared.layout.Version.TheVariants.{One};
 
 use crate::fault::InitFault;
 use crate::first::encode;
@@ -43,6 +44,8 @@ fn fill_new<D: Disk>(disk: &mut D, owner: Owner, ceiling: u64) -> Result<(), Dis
     ensures counts { Counts result (D.state disk.old) (D.state disk.new) }
     ensures made { D.keeps_model → (D.state disk.old).content ≡ [] → OnOk result
         ((c : List ℕ) → (D.state disk.new).images c → IsSound owner c × (floor c ≡ ceiling)) }
+    ensures form { D.keeps_model → (D.state disk.old).content ≡ [] → OnOk result
+        ((c : List ℕ) → (D.state disk.new).images c → version_in c ≡ One × (length c ≡ 16385)) }
 {
     write_head_and_body(disk, owner, ceiling)?;
     shut_last(disk)?;
@@ -77,9 +80,11 @@ pub fn init<D: Disk>(disk: &mut D, owner: Owner, ceiling: u64) -> Result<(), Ini
     ensures kept { D.keeps_model → 0 < length (D.state disk.old).content → ceiling ≤ NUMBER_MAX
         → Rests (D.state disk.old) (D.state disk.new) }
 
-    // Once it is made, a crash leaves a sound file with this floor.
+    // Once it is made, a crash leaves a sound file with this floor, of version 1 and of just its length.
     ensures made { D.keeps_model → OnOk result ((c : List ℕ) → (D.state disk.new).images c
         → IsSound owner c × (floor c ≡ ceiling)) }
+    ensures form { D.keeps_model → OnOk result ((c : List ℕ) → (D.state disk.new).images c
+        → version_in c ≡ One × (length c ≡ 16385)) }
 {
     if ceiling > NUMBER_MAX {
         return Err(InitFault::Range);

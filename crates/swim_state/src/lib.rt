@@ -17,8 +17,6 @@ mod save;
 mod second;
 mod slots;
 mod store;
-#[cfg(test)]
-mod tests;
 
 pub use fault::{InitFault, RecoverFault, SaveFault};
 pub use initial::init;

@@ -3,6 +3,7 @@
 
 ghost use Rattle.std.specs.Prelude.{◌≡◌, ◌<◌, ◌≤◌, [], ℕ, List, IsTrue, IfOk, OnOk};
 ghost use Rattle.swim_disk.specs.Disk.{Counts, IsSettled};
+ghost use Rattle.swim_state.specs.Alone.{IsEarlier, LeavesAlone};
 ghost use Rattle.swim_state.specs.File.{floor, floor_of, peers_in, version_in, AreUsable, IsSound};
 ghost use Rattle.swim_state.specs.Held.{Covers};
 ghost use Rattle.swim_state.specs.Machinery.Saving.{IsLaid, IsOld, Leaves, Migrates};
@@ -28,6 +29,8 @@ fn lay_slots<D: Disk>(disk: &mut D, saved: &Saved) -> Result<(), DiskFault>
     ensures leaves { D.keeps_model → (owner : Owner) (n : ℕ)
         → ((c : List ℕ) → (D.state disk.old).images c → IsOld owner n c)
         → Leaves (IsOld owner n) (D.state disk.old) (D.state disk.new) }
+    ensures alone { D.keeps_model
+        → LeavesAlone IsEarlier (D.state disk.old) (D.state disk.new) }
 {
     disk.write_at(Slot::A.body(Version::Two), encode(saved).as_slice())?;
     disk.write_at(Slot::A.gate(Version::Two), &[OPEN])?;
@@ -47,6 +50,8 @@ fn write_mark<D: Disk>(disk: &mut D, saved: &Saved) -> Result<(), DiskFault>
     ensures leaves { D.keeps_model → (owner : Owner) (n : ℕ)
         → IsOld owner n (D.state disk.old).content → n ≤ saved.now.ceiling
         → Leaves (Covers owner n) (D.state disk.old) (D.state disk.new) }
+    ensures alone { D.keeps_model
+        → LeavesAlone IsEarlier (D.state disk.old) (D.state disk.new) }
 {
     put(disk, MARK_AT, &[OPEN])
 }
@@ -65,6 +70,8 @@ pub(crate) fn migrate<D: Disk>(disk: &mut D, ceiling: u64) -> Result<Slots, Disk
     ensures migrates { D.keeps_model → (owner : Owner) → IsSound owner (D.state disk.old).content
         → Migrates owner (floor (D.state disk.old).content) result (D.state disk.old)
         (D.state disk.new) }
+    ensures alone { D.keeps_model
+        → LeavesAlone IsEarlier (D.state disk.old) (D.state disk.new) }
 {
     let saved = Saved {
         ceiling,

@@ -2,6 +2,7 @@
 
 ghost use Rattle.std.specs.Prelude.{◌≡◌, ◌≢◌, ◌⊎◌, ◌<◌, ◌≤◌, ◌^◌, ◌+◌, length, take, false, Some, None, IfOk, IfErr, OnOk, OnErr, IsErrOf, ℕ};
 ghost use Rattle.swim_disk.specs.Disk.{Counts, IsSettled, Rests};
+ghost use Rattle.swim_state.specs.Alone.{IsBeside, IsEarlier, LeavesAlone, target_in};
 ghost use Rattle.swim_state.specs.File.{floor, floor_of, floor_peers, head, layout_of, peers_in, version_in, AreUsable, IsSound};
 ghost use Rattle.swim_state.specs.Held.{Covers, Through, Held, HeldSince, HasPeers};
 ghost use Rattle.swim_state.specs.Recovery.{IsFound, IsJudged, fault_of, first_fault, head_fault, slots_fault};
@@ -10,6 +11,7 @@ ghost use Rattle.swim_state.specs.Second.{ArePeers};
 ghost use Rattle.swim_state.specs.Store.{disk_in};
 ghost use Rattle.swim_state.specs.declared.owner.Owner.{Owner};
 ghost use Rattle.swim_state.specs.declared.fault.RecoverFault.TheVariants.{Device, Exhausted, NotState};
+ghost use Rattle.swim_state.specs.declared.layout.Version.TheVariants.{Two};
 
 use crate::fault::RecoverFault;
 use crate::layout::{HEAD_SIZE, Saved, Slot, Version};
@@ -165,6 +167,11 @@ fn save_or_migrate<D: Disk>(disk: &mut D, found: Found) -> Result<Slots, DiskFau
     ensures peers { D.keeps_model → IfOk result (λ s. peers_in s ≡ peers_in found.slots) }
     ensures migrates { D.keeps_model → (owner : Owner) → IsSound owner (D.state disk.old).content
         → Migrates owner (floor_of found.slots) result (D.state disk.old) (D.state disk.new) }
+    ensures earlier { D.keeps_model
+        → LeavesAlone IsEarlier (D.state disk.old) (D.state disk.new) }
+    ensures beside { D.keeps_model → version_in (D.state disk.old).content ≡ Two
+        → LeavesAlone (IsBeside (target_in (D.state disk.old).content))
+        (D.state disk.old) (D.state disk.new) }
 {
     let Found { version, mut slots } = found;
     let ceiling = slots.floor() + 1;
@@ -199,6 +206,11 @@ fn first_save<D: Disk>(
         → Through (Covers owner (floor_of found.slots)) (D.state disk) (D.state (disk_in result)) }
     ensures fault { IfErr result (λ refused. refused.1 ≡ Device) }
     ensures counts { Counts result (D.state disk) (D.state (disk_in result)) }
+    ensures earlier { D.keeps_model
+        → LeavesAlone IsEarlier (D.state disk) (D.state (disk_in result)) }
+    ensures beside { D.keeps_model → version_in (D.state disk).content ≡ Two
+        → LeavesAlone (IsBeside (target_in (D.state disk).content))
+        (D.state disk) (D.state (disk_in result)) }
 {
     match save_or_migrate(&mut disk, found) {
         Ok(slots) => Ok(Store::of(disk, owner, slots)),
@@ -254,6 +266,14 @@ pub fn recover<D: Disk>(mut disk: D, owner: Owner) -> Result<Store<D>, (D, Recov
         ⊎ (fault_of owner (D.state disk).content ≡ None)) }
     ensures from_held { D.keeps_model → (b : ℕ) → Held owner (D.state disk) b
         → IfErr result (λ refused. (refused.1 ≡ Device) ⊎ (refused.1 ≡ Exhausted)) }
+
+    // Head and slots of version 1 stay as they are, byte by byte: before the slots of version 2 only the
+    // mark is written. In a file of version 2 one slot is written, and all beside it stays.
+    ensures earlier { D.keeps_model
+        → LeavesAlone IsEarlier (D.state disk) (D.state (disk_in result)) }
+    ensures beside { D.keeps_model → version_in (D.state disk).content ≡ Two
+        → LeavesAlone (IsBeside (target_in (D.state disk).content))
+        (D.state disk) (D.state (disk_in result)) }
 {
     // Two names, since the check follows a struct by value through one call only.
     let reader = owner;

@@ -2,6 +2,7 @@
 
 ghost use Rattle.std.specs.Prelude.{◌≡◌, ◌<◌, ◌≤◌, ◌^◌, ◌+◌, ℕ, List, true, false, IsTrue, OnOk, OnErr, IfOk, All, length};
 ghost use Rattle.swim_disk.specs.Disk.{Counts, IsSettled};
+ghost use Rattle.swim_state.specs.Alone.{IsBeside, LeavesAlone, target_by};
 ghost use Rattle.swim_state.specs.File.{reading_at, floor_of, peers_in, version_in, AreUsable, AreOf, IsSound};
 ghost use Rattle.swim_state.specs.Layout.{bytes_from};
 ghost use Rattle.swim_state.specs.Second.{body, is_good, may_be_saved, version_2};
@@ -43,6 +44,8 @@ pub(crate) fn save<D: Disk>(disk: &mut D, slots: &mut Slots, saved: Saved) -> Re
     ensures stopped { OnErr result (slots.new ≡ slots.old) }
     ensures saves { D.keeps_model → (owner : Owner) → IsSound owner (D.state disk.old).content
         → Saves owner (floor_of slots.old) slots.new result (D.state disk.old) (D.state disk.new) }
+    ensures alone { D.keeps_model → LeavesAlone (IsBeside (target_by slots.old.a slots.old.b))
+        (D.state disk.old) (D.state disk.new) }
 {
     let slot = slots.target();
     shut(disk, slot, slots.is_shut(slot))?;
@@ -65,6 +68,8 @@ pub(crate) fn shut<D: Disk>(disk: &mut D, slot: Slot, is_shut: bool) -> Result<(
         → Stands version_2 front slot kept (D.state disk.old).content
         → SaveStep version_2 front slot kept (λ c. reading_at version_2 c slot ≡ Shut)
         result (D.state disk.old) (D.state disk.new) }
+    ensures alone { D.keeps_model
+        → LeavesAlone (IsBeside slot) (D.state disk.old) (D.state disk.new) }
 {
     if is_shut {
         disk.sync()
@@ -83,6 +88,8 @@ fn shut_filled<D: Disk>(disk: &mut D, slot: Slot) -> Result<(), DiskFault>
         → Stands version_2 front slot kept (D.state disk.old).content
         → SaveStep version_2 front slot kept (λ c. reading_at version_2 c slot ≡ Shut)
         result (D.state disk.old) (D.state disk.new) }
+    ensures alone { D.keeps_model
+        → LeavesAlone (IsBeside slot) (D.state disk.old) (D.state disk.new) }
 {
     put(disk, slot.gate(Version::Two), &[0])
 }
@@ -100,6 +107,8 @@ pub(crate) fn fill<D: Disk>(disk: &mut D, slot: Slot, saved: &Saved) -> Result<(
         (λ c. (reading_at version_2 c slot ≡ Shut)
         × (bytes_from c (version_2.body_at slot) 114 ≡ body saved.now))
         result (D.state disk.old) (D.state disk.new) }
+    ensures alone { D.keeps_model
+        → LeavesAlone (IsBeside slot) (D.state disk.old) (D.state disk.new) }
 {
     put(disk, slot.body(Version::Two), encode(saved).as_slice())
 }
@@ -116,6 +125,8 @@ pub(crate) fn open<D: Disk>(disk: &mut D, slot: Slot, saved: &Saved) -> Result<(
         → Stands version_2 front slot kept (D.state disk.old).content
         → SaveStep version_2 front slot kept (λ c. reading_at version_2 c slot ≡ Holds saved.now)
         result (D.state disk.old) (D.state disk.new) }
+    ensures alone { D.keeps_model
+        → LeavesAlone (IsBeside slot) (D.state disk.old) (D.state disk.new) }
 {
     put(disk, slot.gate(Version::Two), &[OPEN])
 }

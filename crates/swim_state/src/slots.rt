@@ -74,6 +74,7 @@ impl Reading {
 }
 
 impl Slots {
+    ghost use Rattle.swim_state.specs.Alone.{target_by};
     ghost use Rattle.swim_state.specs.File.{floor_of, peers_in, reading_in, ceiling_of, AreUsable, IsOpen};
     ghost use Rattle.swim_state.specs.Layout.{other_slot};
     ghost use Rattle.swim_state.specs.declared.layout.Saved.{Saved};
@@ -135,6 +136,7 @@ impl Slots {
         ensures other { (kept : Saved) × (reading_in self.now (other_slot result) ≡ Holds kept)
             × (kept.ceiling ≡ floor_of self.now) }
         ensures below { ceiling_of (reading_in self.now result) ≤ floor_of self.now }
+        ensures rule { result ≡ target_by self.now.a self.now.b }
     {
         match (&self.a, &self.b) {
             (Reading::Holds(a), Reading::Holds(b)) if a.ceiling >= b.ceiling => Slot::B,

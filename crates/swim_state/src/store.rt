@@ -2,6 +2,7 @@
 
 ghost use Rattle.std.specs.Prelude.{◌≡◌, ◌+◌, ◌<◌, ◌≤◌, ◌^◌, ◌⊎◌, true, false, IfOk, OnOk, OnErr, IsErrOf, ℕ};
 ghost use Rattle.swim_disk.specs.Disk.{Counts, IsSettled, Rests, DiskState};
+ghost use Rattle.swim_state.specs.Alone.{IsBeside, LeavesAlone, target_in};
 ghost use Rattle.swim_state.specs.File.{floor, floor_of, floor_peers, peers_in, version_in, AreOf, AreUsable};
 ghost use Rattle.swim_state.specs.Held.{Covers, Through, Held, HeldSince, HasPeers};
 ghost use Rattle.swim_state.specs.Second.{version_2, ArePeers};
@@ -176,6 +177,11 @@ impl<D: Disk> Store<D> {
             ((self.new.ceiling ≡ self.old.ceiling × self.new.peers ≡ self.old.peers)
             ⊎ (self.old.broken ≡ true × self.new.ceiling ≡ floor (D.state self.old.disk).content
             × self.new.peers ≡ floor_peers (D.state self.old.disk).content)) }
+
+        // One slot is written, and all beside it stays: the head, the slots of version 1, the other slot.
+        ensures beside { D.keeps_model
+            → LeavesAlone (IsBeside (target_in (D.state self.old.disk).content))
+            (D.state self.old.disk) (D.state self.new.disk) }
     {
         if self.broken {
             self.raise_broken(to, spare, peers)
@@ -204,6 +210,9 @@ impl<D: Disk> Store<D> {
             × self.new.peers ≡ peers.now × self.new.broken ≡ false) }
         ensures err { OnErr result (self.new.ceiling ≡ self.old.ceiling
             × self.new.peers ≡ self.old.peers × self.new.broken ≡ true) }
+        ensures beside { D.keeps_model
+            → LeavesAlone (IsBeside (target_in (D.state self.old.disk).content))
+            (D.state self.old.disk) (D.state self.new.disk) }
     {
         let ceiling = (to + spare).min(NUMBER_MAX);
         let peers = Peers::of(peers);
@@ -248,6 +257,9 @@ impl<D: Disk> Store<D> {
             ((self.new.ceiling ≡ self.old.ceiling × self.new.peers ≡ self.old.peers)
             ⊎ (self.new.ceiling ≡ floor (D.state self.old.disk).content
             × self.new.peers ≡ floor_peers (D.state self.old.disk).content)) }
+        ensures beside { D.keeps_model
+            → LeavesAlone (IsBeside (target_in (D.state self.old.disk).content))
+            (D.state self.old.disk) (D.state self.new.disk) }
     {
         self.slots = reread(&mut self.disk, self.ceiling)?;
         self.ceiling = self.slots.floor();

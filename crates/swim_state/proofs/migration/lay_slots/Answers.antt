@@ -3,6 +3,7 @@ use Rattle.swim_disk.specs.Disk.{overlaid}
 use Rattle.swim_state.specs.Machinery.Saving.{IsLaid}
 use Rattle.swim_state.proofs.Migrating.{laid_reads, leaves_both, write_leaves, sync_leaves}
 use Rattle.swim_state.proofs.Steps.{always_ok}
+use Rattle.swim_state.proofs.Alone.{alone_on, past_alone, rests_alone}
 use Rattle.swim_state.proofs.migration.lay_slots.Goals as goal
 
 pub returns-in_err-write_at-clause-leaves : goal.returns-in_err-write_at-clause-leaves
@@ -38,3 +39,24 @@ returns-clause-lies g c = λ keeps.
     let three = (c.in_ok-write_at-3.ensures.writes keeps).done ∙ ap (λ a. overlaid second a (0 ∷ [])) c.gate-2.ensures ∙ ap (λ (l : List ℕ). overlaid l 32768 (0 ∷ [])) two in
     let all = (c.sync.ensures.syncs keeps).rests.content ∙ three in
     always_ok _ c.sync.result (subst (λ (l : List ℕ). IsLaid c.args.saved.now l) (sym all) (laid_reads start c.args.saved.now c.requires.stands c.encode.ensures.fit))
+
+pub returns-in_err-write_at-clause-alone : goal.returns-in_err-write_at-clause-alone
+returns-in_err-write_at-clause-alone g c = λ keeps. past_alone _ _ _ _ _ (omega (arith, c.body.ensures)) (c.in_err-write_at.ensures.writes keeps)
+
+pub returns-in_err-write_at-2-clause-alone : goal.returns-in_err-write_at-2-clause-alone
+returns-in_err-write_at-2-clause-alone g c = λ keeps.
+    let one = past_alone _ _ _ _ _ (omega (arith, c.body.ensures)) (c.in_ok-write_at.ensures.writes keeps) in
+    alone_on _ _ _ _ one (past_alone _ _ _ _ _ (omega (arith, c.gate.ensures)) (c.in_err-write_at-2.ensures.writes keeps))
+
+pub returns-in_err-write_at-3-clause-alone : goal.returns-in_err-write_at-3-clause-alone
+returns-in_err-write_at-3-clause-alone g c = λ keeps.
+    let one = past_alone _ _ _ _ _ (omega (arith, c.body.ensures)) (c.in_ok-write_at.ensures.writes keeps) in
+    let two = alone_on _ _ _ _ one (past_alone _ _ _ _ _ (omega (arith, c.gate.ensures)) (c.in_ok-write_at-2.ensures.writes keeps)) in
+    alone_on _ _ _ _ two (past_alone _ _ _ _ _ (omega (arith, c.gate-2.ensures)) (c.in_err-write_at-3.ensures.writes keeps))
+
+pub returns-clause-alone : goal.returns-clause-alone
+returns-clause-alone g c = λ keeps.
+    let one = past_alone _ _ _ _ _ (omega (arith, c.body.ensures)) (c.in_ok-write_at.ensures.writes keeps) in
+    let two = alone_on _ _ _ _ one (past_alone _ _ _ _ _ (omega (arith, c.gate.ensures)) (c.in_ok-write_at-2.ensures.writes keeps)) in
+    let three = alone_on _ _ _ _ two (past_alone _ _ _ _ _ (omega (arith, c.gate-2.ensures)) (c.in_ok-write_at-3.ensures.writes keeps)) in
+    alone_on _ _ _ _ three (rests_alone _ _ _ (c.sync.ensures.syncs keeps).rests)

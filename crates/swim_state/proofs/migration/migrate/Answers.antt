@@ -5,6 +5,7 @@ use Rattle.swim_state.specs.Second.{ascend}
 use Rattle.swim_state.specs.declared.layout.Saved.{Saved}
 use Rattle.swim_state.proofs.Bodies.{stand_from}
 use Rattle.swim_state.proofs.Migrating.{leaves_both, old_covers, settled_old, stopped_migrating, migrated}
+use Rattle.swim_state.proofs.Alone.{alone_on}
 use Rattle.swim_state.proofs.migration.migrate.Goals as goal
 
 pub lay_slots-requires : goal.lay_slots-requires
@@ -38,3 +39,9 @@ returns-clause-migrates g c = λ keeps owner sound.
     let after = c.in_ok-write_mark.ensures in
     let marked = after.leaves keeps owner (floor disk.content) (laid.images mid.content mid.reads) (omega (arith, c.requires.above keeps)) in
     migrated owner (floor disk.content) _ _ _ (leaves_both _ _ _ _ (old_covers owner _ _ _ laid) marked) (after.settled keeps) (after.two keeps) (after.lies keeps)
+
+pub returns-in_err-write_mark-clause-alone : goal.returns-in_err-write_mark-clause-alone
+returns-in_err-write_mark-clause-alone g c = λ keeps. alone_on _ _ _ _ (c.lay_slots.ensures.alone keeps) (c.write_mark.ensures.alone keeps)
+
+pub returns-clause-alone : goal.returns-clause-alone
+returns-clause-alone g c = λ keeps. alone_on _ _ _ _ (c.lay_slots.ensures.alone keeps) (c.write_mark.ensures.alone keeps)

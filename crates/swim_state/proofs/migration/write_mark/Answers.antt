@@ -3,6 +3,7 @@ use Rattle.swim_state.specs.File.{version_in}
 use Rattle.swim_state.specs.Machinery.Saving.{IsLaid}
 use Rattle.swim_state.proofs.Migrating.{mark_leaves, mark_two, mark_lies}
 use Rattle.swim_state.proofs.Steps.{on_ok}
+use Rattle.swim_state.proofs.Alone.{mark_alone}
 use Rattle.swim_state.proofs.migration.write_mark.Goals as goal
 
 pub returns-clause-two : goal.returns-clause-two
@@ -16,3 +17,6 @@ returns-clause-lies g c = λ keeps.
 pub returns-clause-leaves : goal.returns-clause-leaves
 returns-clause-leaves g c = λ keeps owner n is le.
     mark_leaves owner n c.args.saved.now _ _ _ _ refl (c.put.ensures.put keeps) is (c.requires.lies keeps) le
+
+pub returns-clause-alone : goal.returns-clause-alone
+returns-clause-alone g c = λ keeps. mark_alone _ _ _ _ refl (c.put.ensures.put keeps)

@@ -2,6 +2,10 @@ use Rattle.std.proofs.Common.{◌≡◌, ◌∙◌, [], sym}
 use Rattle.swim_state.specs.File.{peers_in}
 use Rattle.swim_state.proofs.Steps.{if_ok}
 use Rattle.swim_state.proofs.Whole.{one_peers, peers_read}
+use Rattle.std.proofs.Common.{subst}
+use Rattle.swim_state.specs.Alone.{IsBeside, IsEarlier, LeavesAlone}
+use Rattle.swim_state.specs.File.{AreOf, layout_of}
+use Rattle.swim_state.proofs.Alone.{alone_less, earlier_beside, target_read}
 use Rattle.swim_state.proofs.recovery.save_or_migrate.Goals as goal
 
 pub returns-in-One-clause-peers : goal.returns-in-One-clause-peers
@@ -10,3 +14,23 @@ returns-in-One-clause-peers g c = λ keeps.
     let found = (c.requires.found keeps).1 in
     let none = peers_read content c.args.found.slots found.same ∙ one_peers content (sym found.version ∙ c.in-One.is) in
     if_ok (λ s. peers_in s ≡ []) (λ s. peers_in s ≡ peers_in c.args.found.slots) c.migrate.result (λ s is. is ∙ sym none) c.migrate.ensures.peers
+
+pub returns-in_err-save-in-Two-clause-earlier : goal.returns-in_err-save-in-Two-clause-earlier
+returns-in_err-save-in-Two-clause-earlier g c = λ keeps. alone_less _ IsEarlier _ _ (earlier_beside _) (c.save.ensures.alone keeps)
+
+pub returns-in_ok-save-in-Two-clause-earlier : goal.returns-in_ok-save-in-Two-clause-earlier
+returns-in_ok-save-in-Two-clause-earlier g c = λ keeps. alone_less _ IsEarlier _ _ (earlier_beside _) (c.save.ensures.alone keeps)
+
+pub returns-in_err-save-in-Two-clause-beside : goal.returns-in_err-save-in-Two-clause-beside
+returns-in_err-save-in-Two-clause-beside g c = λ keeps two.
+    let disk = g.D.Disk.state c.args.disk.now in
+    let slots = c.args.found.slots in
+    let are = subst (λ v. AreOf (layout_of v) disk.content slots) two (c.requires.found keeps).1.same in
+    subst (λ slot. LeavesAlone (IsBeside slot) disk (g.D.Disk.state c.save.new.disk)) (target_read disk.content slots are) (c.save.ensures.alone keeps)
+
+pub returns-in_ok-save-in-Two-clause-beside : goal.returns-in_ok-save-in-Two-clause-beside
+returns-in_ok-save-in-Two-clause-beside g c = λ keeps two.
+    let disk = g.D.Disk.state c.args.disk.now in
+    let slots = c.args.found.slots in
+    let are = subst (λ v. AreOf (layout_of v) disk.content slots) two (c.requires.found keeps).1.same in
+    subst (λ slot. LeavesAlone (IsBeside slot) disk (g.D.Disk.state c.save.new.disk)) (target_read disk.content slots are) (c.save.ensures.alone keeps)

@@ -2,6 +2,8 @@ use Rattle.std.proofs.Common.{◌≡◌, ◌∙◌, true, false, subst, ap, arit
 use Rattle.swim_state.specs.File.{IsSound}
 use Rattle.swim_state.specs.Held.{Covers}
 use Rattle.swim_state.proofs.Whole.{settled_held}
+use Rattle.swim_state.specs.Alone.{IsBeside, LeavesAlone, target_in}
+use Rattle.swim_state.proofs.Alone.{target_read}
 use Rattle.swim_state.proofs.store.Store.raise_whole.Goals as goal
 
 pub returns-in_err-save-clause-covered : goal.returns-in_err-save-clause-covered
@@ -52,3 +54,20 @@ invariant_of-self-2 g c = record {
   where
     sound : g.D.Disk.keeps_model → IsSound c.self.inside.owner (g.D.Disk.state c.self.inside.disk).content
     sound keeps = (c.self.invariant.covered keeps (g.D.Disk.state c.self.inside.disk).content (g.D.Disk.state c.self.inside.disk).reads).sound
+
+-- which slot the save wrote, by the slots that the store had read or written
+pub returns-clause-beside : goal.returns-clause-beside
+returns-clause-beside g c = λ keeps.
+    let disk = g.D.Disk.state c.self.inside.disk in
+    let new = g.D.Disk.state c.save.new.disk in
+    let are = c.self.invariant.same (ap (λ v. v.broken) c.self.view_is ∙ c.requires.whole) keeps in
+    subst (λ v. LeavesAlone (IsBeside (target_in (g.D.Disk.state v.disk).content)) (g.D.Disk.state v.disk) new) c.self.view_is
+    (subst (λ slot. LeavesAlone (IsBeside slot) disk new) (target_read disk.content c.self.inside.slots are) (c.save.ensures.alone keeps))
+
+pub returns-in_err-save-clause-beside : goal.returns-in_err-save-clause-beside
+returns-in_err-save-clause-beside g c = λ keeps.
+    let disk = g.D.Disk.state c.self.inside.disk in
+    let new = g.D.Disk.state c.save.new.disk in
+    let are = c.self.invariant.same (ap (λ v. v.broken) c.self.view_is ∙ c.requires.whole) keeps in
+    subst (λ v. LeavesAlone (IsBeside (target_in (g.D.Disk.state v.disk).content)) (g.D.Disk.state v.disk) new) c.self.view_is
+    (subst (λ slot. LeavesAlone (IsBeside slot) disk new) (target_read disk.content c.self.inside.slots are) (c.save.ensures.alone keeps))
