@@ -2,6 +2,7 @@
 use Rattle.std.specs.Prelude.{◌≡◌, ◌≢◌, ◌⊎◌, ℕ, ◌+◌, ◌-◌, ◌≤◌, Bool, true, false, List}
 use Rattle.std.specs.Prelude.{Option, Some, None}
 use Rattle.swim_disk.specs.Disk.{DiskState as DiskState, Rests}
+use Rattle.swim_state.specs.Alone.{IsBeside, LeavesAlone, target_in}
 use Rattle.swim_state.specs.File.{floor}
 use Rattle.swim_state.specs.Store.{StoreView, reserved}
 use Rattle.swim_state.specs.Held.{Held, HeldSince, Through, Covers}
@@ -62,3 +63,6 @@ pub record Saved {D : Type 0} (keeps : Type 0) (state : D → DiskState) (block 
   pub moments : keeps → Through (Covers old.owner old.ceiling) (state old.disk) (state new.disk)
   pub since : keeps → HeldSince old.owner (state new.disk) (state old.disk).clock old.ceiling
   pub covered : keeps → Held new.owner (state new.disk) new.ceiling
+  pub beside : keeps
+      → LeavesAlone (IsBeside (target_in (state old.disk).content))
+      (state old.disk) (state new.disk)

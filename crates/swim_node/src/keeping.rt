@@ -1,9 +1,12 @@
 //! Saving the peers of a member between two eras, where no event wants a number.
 
-ghost use Rattle.std.specs.Prelude.{◌≡◌, ◌⊎◌, ◌↔◌, ◌+◌, ◌<◌, ◌≤◌, IsErrOf, OnOk, OnErr, false, true};
+ghost use Rattle.std.specs.Prelude.{◌≡◌, ◌≢◌, ◌⊎◌, ◌↔◌, ◌+◌, ◌<◌, ◌≤◌, IsErrOf, OnOk, OnErr, false, true};
 ghost use Rattle.swim_disk.specs.Disk.{Rests};
+ghost use Rattle.swim_state.specs.Alone.{IsBeside, LeavesAlone, target_in};
+ghost use Rattle.swim_state.specs.File.{floor, floor_peers};
 ghost use Rattle.swim_state.specs.Held.{Covers, HasPeers, Held, HeldSince, Through};
 ghost use Rattle.swim_state.specs.Second.{ArePeers};
+ghost use Rattle.swim_wire.specs.declared.update.TheConstants.{NUMBER_MAX};
 
 use swim_disk::Disk;
 use swim_state::{Peers, SaveFault, Store};
@@ -35,8 +38,22 @@ fn raise_by_one<D: Disk>(store: &mut Store<D>, peers: &Peers) -> Result<(), Save
         → Held store.new.owner (D.state store.new.disk) store.new.ceiling }
     ensures named { D.keeps_model
         → OnOk result (HasPeers (D.state store.new.disk) store.new.peers) }
+    ensures ready { OnErr result (IsErrOf result SaveFault.Exhausted ⊎ (store.new.broken ≡ true)) }
+    ensures steady { OnErr result (store.old.broken ≡ false
+        → store.new.ceiling ≡ store.old.ceiling × store.new.peers ≡ store.old.peers) }
+    ensures stood { D.keeps_model → OnErr result
+        ((store.new.ceiling ≡ store.old.ceiling × store.new.peers ≡ store.old.peers)
+        ⊎ (store.old.broken ≡ true
+        × store.new.ceiling ≡ floor (D.state store.old.disk).content
+        × store.new.peers ≡ floor_peers (D.state store.old.disk).content)) }
     ensures read { D.keeps_model → OnOk result ((store.new.peers ≡ peers.now)
-        ⊎ (store.old.broken ≡ true × Rests (D.state store.old.disk) (D.state store.new.disk))) }
+        ⊎ (store.old.broken ≡ true
+        × store.new.ceiling ≡ floor (D.state store.old.disk).content
+        × store.new.peers ≡ floor_peers (D.state store.old.disk).content
+        × Rests (D.state store.old.disk) (D.state store.new.disk))) }
+    ensures beside { D.keeps_model
+        → LeavesAlone (IsBeside (target_in (D.state store.old.disk).content))
+        (D.state store.old.disk) (D.state store.new.disk) }
 {
     // what the file covers, said of the disk before
     let _ = store.disk();
@@ -79,6 +96,20 @@ pub(crate) fn keep<D: Disk>(store: &mut Store<D>, peers: &Peers) -> Result<(), S
         → OnOk result (HasPeers (D.state store.new.disk) store.new.peers) }
     ensures unwritten { D.keeps_model → IsErrOf result SaveFault.Exhausted
         → Rests (D.state store.old.disk) (D.state store.new.disk) }
+    ensures cases { IsErrOf result SaveFault.Exhausted
+        → (store.old.ceiling ≡ NUMBER_MAX × store.new ≡ store.old)
+        ⊎ (store.old.broken ≡ true × store.new.broken ≡ false × store.new.peers ≢ peers.now) }
+    ensures ready { OnErr result (IsErrOf result SaveFault.Exhausted ⊎ (store.new.broken ≡ true)) }
+    ensures steady { OnErr result (store.old.broken ≡ false
+        → store.new.ceiling ≡ store.old.ceiling × store.new.peers ≡ store.old.peers) }
+    ensures stood { D.keeps_model → OnErr result
+        ((store.new.ceiling ≡ store.old.ceiling × store.new.peers ≡ store.old.peers)
+        ⊎ (store.old.broken ≡ true
+        × store.new.ceiling ≡ floor (D.state store.old.disk).content
+        × store.new.peers ≡ floor_peers (D.state store.old.disk).content)) }
+    ensures beside { D.keeps_model
+        → LeavesAlone (IsBeside (target_in (D.state store.old.disk).content))
+        (D.state store.old.disk) (D.state store.new.disk) }
 {
     raise_by_one(store, peers)?;
     if store.peers().as_slice() == peers.as_slice() {

@@ -32,6 +32,3 @@ pub use memory_link::{MemoryLink, Taken};
 pub use node::Node;
 pub use opening::LIMIT_MAX;
 pub use running::run;
-
-#[cfg(test)]
-mod tests;

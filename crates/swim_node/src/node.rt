@@ -1,7 +1,9 @@
 //! The node.
 
-ghost use Rattle.std.specs.Prelude.{◌≡◌, ◌≢◌, ◌↔◌, ◌+◌, ◌<◌, ◌≤◌, ◌++◌, ◌∷◌, [], List, length, IfErr, IfOk, IsErrOf, IsTrue, OnOk, OnErr, All, false, true};
+ghost use Rattle.std.specs.Prelude.{◌≡◌, ◌≢◌, ◌⊎◌, ◌↔◌, ◌+◌, ◌<◌, ◌≤◌, ◌++◌, ◌∷◌, [], List, length, IfErr, IfOk, IsErrOf, IsTrue, OnOk, OnErr, All, false, true};
 ghost use Rattle.swim_disk.specs.Disk.{Rests};
+ghost use Rattle.swim_state.specs.Alone.{IsBeside, LeavesAlone, target_in};
+ghost use Rattle.swim_state.specs.File.{floor, floor_peers};
 ghost use Rattle.swim_state.specs.Held.{Held, HeldSince, HasPeers, Through, Covers};
 ghost use Rattle.swim_node.specs.declared.opening.TheConstants.{LIMIT_MAX};
 ghost use Rattle.swim_node.specs.History.{calls_by, state_after, status_at, status_of, IsLegal, granted_of};
@@ -233,6 +235,22 @@ impl<D: Disk> Node<D> {
         ensures exhausted { self.old.base.granted ≡ NUMBER_MAX
             → IsErrOf result SaveFault.Exhausted }
 
+        // What stands after a fault. Exhausted comes in two cases only: of the greatest number, and then
+        // nothing changes, or of a broken store that is whole again, with other peers than are known now.
+        ensures cases { IsErrOf result SaveFault.Exhausted
+            → (self.old.base.granted ≡ NUMBER_MAX × self.new ≡ self.old)
+            ⊎ (self.old.broken ≡ true × self.new.broken ≡ false
+            × self.new.peers ≢ known_peers (state_after self.old.base self.old.entries)) }
+        ensures ready { OnErr result
+            (IsErrOf result SaveFault.Exhausted ⊎ (self.new.broken ≡ true)) }
+        ensures steady { OnErr result (self.old.broken ≡ false
+            → self.new.base.granted ≡ self.old.base.granted × self.new.peers ≡ self.old.peers) }
+        ensures stood { D.keeps_model → OnErr result
+            ((self.new.base.granted ≡ self.old.base.granted × self.new.peers ≡ self.old.peers)
+            ⊎ (self.old.broken ≡ true
+            × self.new.base.granted ≡ floor (D.state self.old.disk).content
+            × self.new.peers ≡ floor_peers (D.state self.old.disk).content)) }
+
         // After Ok a crash leaves just these peers. No moment of the call leaves less than the ceiling before it, and
         // the life goes on.
         ensures named { D.keeps_model
@@ -240,6 +258,9 @@ impl<D: Disk> Node<D> {
         ensures changed { D.keeps_model → IsErrOf result SaveFault.Changed → ⊥ }
         ensures unwritten { D.keeps_model → IsErrOf result SaveFault.Exhausted
             → Rests (D.state self.old.disk) (D.state self.new.disk) }
+        ensures beside { D.keeps_model
+            → LeavesAlone (IsBeside (target_in (D.state self.old.disk).content))
+            (D.state self.old.disk) (D.state self.new.disk) }
         ensures living { GoesOn D.state self.old self.new }
         ensures moments { D.keeps_model → Through (Covers self.old.owner self.old.base.granted)
             (D.state self.old.disk) (D.state self.new.disk) }
@@ -360,6 +381,11 @@ impl<D: Disk> Node<D> {
         ensures since { D.keeps_model
             → HeldSince self.old.owner (D.state self.new.disk) (D.state self.old.disk).clock
             (granted_of self.old.base self.old.entries) }
+
+        // Of the state file at most one slot is written, and all beside it stays.
+        ensures beside { D.keeps_model
+            → LeavesAlone (IsBeside (target_in (D.state self.old.disk).content))
+            (D.state self.old.disk) (D.state self.new.disk) }
     {
         self.judge(tag)?;
         if self.journal.reserve().is_err() {

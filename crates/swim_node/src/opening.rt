@@ -3,11 +3,13 @@
 ghost use Rattle.std.specs.Prelude.{◌≡◌, ◌≢◌, ◌↔◌, ◌⊎◌, ◌+◌, ◌<◌, ◌≤◌, ◌^◌, [], false, None, Some, ℕ, IfOk, IfErr};
 ghost use Rattle.swim_disk.specs.Disk.{IsSettled, Rests};
 ghost use Rattle.swim_member.specs.Checks.{AreSound};
-ghost use Rattle.swim_state.specs.File.{floor, floor_peers};
+ghost use Rattle.swim_state.specs.Alone.{IsBeside, IsEarlier, LeavesAlone, target_in};
+ghost use Rattle.swim_state.specs.File.{floor, floor_peers, version_in};
 ghost use Rattle.swim_state.specs.Held.{Held, HeldSince, Through, Covers};
 ghost use Rattle.swim_state.specs.Recovery.{fault_of};
 ghost use Rattle.swim_state.specs.declared.fault.RecoverFault.{RecoverFault as Faults};
 ghost use Rattle.swim_state.specs.declared.fault.RecoverFault.TheVariants.{Device, Exhausted};
+ghost use Rattle.swim_state.specs.declared.layout.Version.TheVariants.{Two};
 ghost use Rattle.swim_node.specs.History.{fresh_base};
 ghost use Rattle.swim_node.specs.Lives.{BeginsAbove, IsLiving, life_of};
 ghost use Rattle.swim_node.specs.Node.{disk_of, owner_of};
@@ -94,6 +96,15 @@ impl<D: Disk> Node<D> {
             → (b : ℕ)
             → Held (owner_of settings) (D.state disk) b
             → IfOk result (λ n. b < n.first) }
+        // Head and slots of version 1 stay: before the slots of version 2 only the mark is written. In a file of version 2
+        // one slot is written, and all beside it stays.
+        ensures earlier { D.keeps_model
+            → LeavesAlone IsEarlier (D.state disk) (D.state (disk_of result)) }
+        ensures beside { D.keeps_model → version_in (D.state disk).content ≡ Two
+            → LeavesAlone (IsBeside (target_in (D.state disk).content))
+            (D.state disk) (D.state (disk_of result)) }
+
+        // The life begins.
         ensures begins { D.keeps_model → IsSettled (D.state disk)
             → IfOk result (λ n. BeginsAbove D.state n.owner disk n.first) }
         ensures living { D.keeps_model

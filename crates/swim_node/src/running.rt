@@ -1,6 +1,7 @@
 //! Calls one after another.
 
 ghost use Rattle.std.specs.Prelude.{◌≡◌, ◌++◌, ◌<◌, List, length, take, slice_get, Some, OnOk, IfErr, All};
+ghost use Rattle.swim_state.specs.Alone.{IsEarlier, LeavesAlone};
 ghost use Rattle.swim_state.specs.Held.{Covers, HeldSince, Through};
 ghost use Rattle.swim_node.specs.History.{granted_of};
 ghost use Rattle.swim_node.specs.Lives.{GoesOn};
@@ -42,6 +43,10 @@ pub fn run<D: Disk, L: Link>(
         (D.state node.old.disk) (D.state node.new.disk) }
     ensures since { D.keeps_model → HeldSince node.old.owner (D.state node.new.disk)
         (D.state node.old.disk).clock (granted_of node.old.base node.old.entries) }
+
+    // Of the state file only slots of version 2 are written.
+    ensures earlier { D.keeps_model
+        → LeavesAlone IsEarlier (D.state node.old.disk) (D.state node.new.disk) }
     ensures living { GoesOn D.state node.old node.new }
 {
     // what the file covers, said of the disk before

@@ -3,6 +3,8 @@ use Rattle.std.proofs.lemmas.List.{take_more}
 use Rattle.swim_disk.specs.Disk.{DiskState}
 use Rattle.swim_state.specs.Held.{Covers, Through}
 use Rattle.swim_state.specs.declared.owner.Owner.{Owner}
+use Rattle.swim_state.specs.Alone.{IsEarlier}
+use Rattle.swim_state.proofs.Alone.{alone_less, alone_on, earlier_beside}
 use Rattle.swim_state.proofs.Moments.{weaker, goes_on, since_from}
 use Rattle.swim_member.specs.declared.event.Event.{Event}
 use Rattle.swim_node.specs.declared.entry.Tag.{Tag}
@@ -49,6 +51,7 @@ loop-i-preserved g c =
       moments = λ keeps.
           goes_on _ _ _ _ (c.loop-i.invariant.moments keeps)
           (through_more c.args.node.now.owner c.loop-i.node.owner _ _ _ _ c.loop-i.invariant.ran.owner c.loop-i.invariant.grows (c.in_default.ensures.moments keeps));
+      earlier = λ keeps. alone_on _ _ _ _ (c.loop-i.invariant.earlier keeps) (alone_less _ IsEarlier _ _ (earlier_beside _) (c.in_default.ensures.beside keeps));
     }
 
 pub returns-in-Err-clause-sends : goal.returns-in-Err-clause-sends
@@ -68,3 +71,6 @@ returns-in-Err-clause-since g c keeps = since_from _ _ _ (returns-in-Err-clause-
 
 pub returns-clause-since : goal.returns-clause-since
 returns-clause-since g c keeps = since_from _ _ _ (c.loop-i.invariant.moments keeps) (c.disk.ensures.held keeps)
+
+pub returns-in-Err-clause-earlier : goal.returns-in-Err-clause-earlier
+returns-in-Err-clause-earlier g c keeps = rw c.in-Err.ensures.err.0 (c.loop-i.invariant.earlier keeps)

@@ -1,4 +1,4 @@
-use Rattle.std.proofs.Common.{◌≡◌, ◌⊎◌, arith, subst}
+use Rattle.std.proofs.Common.{◌≡◌, ◌⊎◌, arith, rules, subst}
 use Rattle.swim_state.specs.declared.fault.RecoverFault.{RecoverFault}
 use Rattle.swim_state.specs.declared.fault.RecoverFault.TheVariants.{Device, Exhausted}
 use Rattle.swim_node.proofs.Lives.{begins_above}
@@ -15,3 +15,20 @@ returns-in-Ok-clause-begins g c keeps settled =
     let disk = g.D.Disk.state c.args.disk in
     begins_above g.D.Disk.state c.in-Ok.store.owner c.args.disk c.ceiling-first.result settled
     (λ b held. let covers = (held disk.content disk.reads).covered in omega (arith, covers, c.in-Ok.ensures.first keeps, c.ceiling-first.ensures.value))
+
+pub returns-in-Ok-clause-above : goal.returns-in-Ok-clause-above
+returns-in-Ok-clause-above g c keeps b held =
+    let disk = g.D.Disk.state c.args.disk in
+    let covers = (held disk.content disk.reads).covered in
+    omega (arith, covers, c.in-Ok.ensures.first keeps, c.ceiling-first.ensures.value)
+
+pub returns-in-Ok-clause-living : goal.returns-in-Ok-clause-living
+returns-in-Ok-clause-living g c keeps = record {
+  same_owner = search rules;
+  joined = search rules;
+  above = λ b held.
+      let disk = g.D.Disk.state c.args.disk in
+      let covers = (held disk.content disk.reads).covered in
+      omega (arith, covers, c.in-Ok.ensures.first keeps, c.ceiling-first.ensures.value);
+  begun = tt;
+}
