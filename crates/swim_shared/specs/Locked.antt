@@ -1,5 +1,5 @@
 -- What lies under the lock, and what a call makes of it.
-use Rattle.std.specs.Prelude.{◌≡◌, ◌⊎◌, ◌+◌, ◌++◌, ◌∷◌, [], List, Result, Ok, Err}
+use Rattle.std.specs.Prelude.{◌≡◌, ◌⊎◌, ◌+◌, ◌++◌, ◌∷◌, [], Bool, List, Result, Ok, Err}
 use Rattle.swim_node.specs.declared.entry.Entry.{Entry}
 use Rattle.swim_node.specs.declared.entry.Reply.{Reply}
 use Rattle.swim_shared.specs.declared.fault.CallFault.{CallFault}
@@ -11,6 +11,7 @@ use Rattle.swim_shared.specs.Passes.{PassView}
 pub record LockedView : Type 0 where
   pub journal : List Entry  -- all that was entered
   pub shown : List Entry  -- what of it the watches are shown
+  pub has_pen : Bool  -- the right to add the next entry is had
 
 -- one entry came, and no other
 pub record GrowsByOne (old new : List Entry) : Type 0 where

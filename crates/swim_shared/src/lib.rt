@@ -48,6 +48,3 @@ pub use pass::Pass;
 pub use sender::{Sender, Sent};
 pub use shared::{Closed, Shared};
 pub use watch::Watch;
-
-#[cfg(test)]
-mod tests;

@@ -1,7 +1,7 @@
 //! What lies under the lock.
 
 ghost use Rattle.std.specs.Prelude.{◌≡◌, ◌↔◌, ◌+◌, ◌<◌, ◌≤◌, ◌^◌, ◌++◌};
-ghost use Rattle.std.specs.Prelude.{length, false, IfOk, IfErr, IfSome, IsTrue, OnOk};
+ghost use Rattle.std.specs.Prelude.{length, true, false, IfOk, IfErr, IfSome, IsTrue, OnOk, OnErr};
 ghost use Rattle.swim_node.specs.History.{IsLegal};
 ghost use Rattle.swim_shared.specs.Taken.{taken_of};
 ghost use Rattle.swim_shared.specs.Machinery.Rules.{head_of, MayAdd};
@@ -24,8 +24,8 @@ use swim_disk::Disk;
 use swim_member::Event;
 use swim_node::{ApplyFault, Entry, Link, Node, Reply, Tag};
 
-/// The node, its link, the history and the publisher. Contracts see the journal, and what of it is
-/// shown.
+/// The node, its link, the history and the publisher. Contracts see the journal, what of it is
+/// shown, and whether the right to add the next entry is had.
 #[derive(Drop)]
 pub(crate) struct Locked<N: Name, D: Disk, L: Link, R: Wait + Drop> {
     pub(crate) node: Node<D>,
@@ -39,13 +39,18 @@ pub(crate) struct Locked<N: Name, D: Disk, L: Link, R: Wait + Drop> {
 
 impl<N: Name, D: Disk, L: Link, R: Wait + Drop> Model for Locked<N, D, L, R> {
     ghost use Rattle.std.specs.Prelude.{◌≡◌, ◌++◌, IfSome};
+    ghost use Rattle.std.specs.Option.{is_some};
     ghost use Rattle.swim_shared.specs.Taken.{taken_of};
     ghost use Rattle.swim_shared.specs.Machinery.Rules.{head_of, MayAdd};
     ghost use Rattle.swim_shared.specs.Locked.{LockedView};
 
     ghost Value = { LockedView };
 
-    ghost view = { λ l. record { journal = l.front.entries; shown = l.publisher } };
+    ghost view = { λ l. record {
+      journal = l.front.entries;
+      shown = l.publisher;
+      has_pen = is_some l.pen;
+    } };
 
     // The front is the whole history; node and link are those that the name has, and what the link
     // took since the start is what the journal marks as taken.
@@ -89,7 +94,7 @@ impl<N: Name, D: Disk, L: Link, R: Wait + Drop> Locked<N, D, L, R> {
 
     /// The right to add the next entry, before anything is entered.
     fn claim(&mut self) -> Option<Pen>
-        ensures same { self.new ≡ self.old }
+        ensures same { self.new ≡ record self.old { has_pen = false } }
         ensures may { IfSome result (MayAdd (sight N.book self.old.journal)) }
     {
         // the journal is short
@@ -110,6 +115,7 @@ impl<N: Name, D: Disk, L: Link, R: Wait + Drop> Locked<N, D, L, R> {
         ensures ahead { result ≡ Err ApplyFault.EraFull → Ahead pass.now self.new.journal }
         ensures full { result ≡ Err ApplyFault.EraFull → length self.new.journal ≡ N.base.limit }
         ensures err { IfErr result (λ f. self.new.journal ≡ self.old.journal) }
+        ensures pen { OnErr result (self.new.has_pen ≡ true) }
     {
         pass.front().compare(&self.front);
         // the journal is short, and legal
@@ -137,6 +143,7 @@ impl<N: Name, D: Disk, L: Link, R: Wait + Drop> Locked<N, D, L, R> {
     fn publish(&mut self) -> bool
         ensures journal { self.new.journal ≡ self.old.journal }
         ensures shown { IsTrue result → self.new.shown ≡ self.new.journal }
+        ensures pen { self.new.has_pen ≡ self.old.has_pen }
     {
         // the journal is legal
         let _ = self.node.journal();
@@ -171,6 +178,9 @@ impl<N: Name, D: Disk, L: Link, R: Wait + Drop> Locked<N, D, L, R> {
         ensures spent_enters { IsTrue pass.old.spent → self.new ≡ self.old }
         ensures enters { Enters pass.old pass.new self.old.journal self.new.journal result }
         ensures shown { OnOk result (self.new.shown ≡ pass.new.seen) }
+        ensures full_shown { result ≡ Err CallFault.EraFull → self.new.shown ≡ pass.new.seen }
+        ensures full_pen { result ≡ Err CallFault.EraFull → self.new.has_pen ≡ true }
+        ensures memory_pen { result ≡ Err CallFault.NoMemory → self.new.has_pen ≡ true }
     {
         if pass.is_spent() {
             return Err(CallFault::Unread);
