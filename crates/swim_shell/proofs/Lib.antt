@@ -1,11 +1,11 @@
 pub mod News
 pub mod Gating
 pub mod Running
+pub mod Trying
 pub mod Reading
 pub mod Writing
 pub mod Hearing
 pub mod Talking
-pub mod Scripted
 pub mod Receiving
 pub mod Ticking
 pub mod Losing

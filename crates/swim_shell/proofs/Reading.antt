@@ -1,14 +1,17 @@
 -- Bytes and lines that are read.
-use Rattle.std.proofs.Common.{◌≡◌, ℕ, List, [], ◌∷◌, ◌++◌, refl, ap, sym, ◌∙◌, subst}
-use Rattle.std.specs.Prelude.{Option, Some, None, Ok}
+use Rattle.std.proofs.Common.{◌≡◌, ◌≢◌, ℕ, List, [], ◌∷◌, ◌++◌, refl, ap, sym, ◌∙◌, subst}
+use Rattle.std.specs.Prelude.{Option, Some, None, Ok, Err}
 use Rattle.std.specs.Io.KnownBytes.{Consumes, Keeps, IsAtEnd}
 use Rattle.std.proofs.lemmas.List.{append-nil}
 use Rattle.std.specs.declared.io.Error.{Error}
+use Rattle.std.specs.declared.io.ErrorKind.{ErrorKind}
+use Rattle.std.specs.declared.io.ErrorKind.TheVariants.{Interrupted, WouldBlock}
+use Rattle.std.specs.IoError.{error_kind}
 use Rattle.swim_words.specs.Words.{Lacks}
 use Rattle.swim_shell.specs.declared.lines.Line.{Line}
 use Rattle.swim_shell.specs.declared.lines.NoLine.{NoLine}
 use Rattle.swim_shell.specs.declared.lines.NoLine.TheVariants.{NotYet, Ended}
-use Rattle.swim_shell.specs.Lines.{Takes, ReadsByte, IsLine, TakesLine, TakesNoLine}
+use Rattle.swim_shell.specs.Lines.{Takes, ReadsByte, IsLine, TakesLine, TakesNoLine, fault_at, ReadsOn, EndsFor}
 use Rattle.swim_shell.proofs.News.{assoc}
 
 consumes_more : (a b c : Option (List ℕ)) (xs ys : List ℕ) → Consumes a b xs → Consumes b c ys → Consumes a c (xs ++ ys)
@@ -83,3 +86,30 @@ part_alone a b c x q k l why s t none lacks at = record {
   ended = at;
   lacks = λ _. subst (Lacks 10) (sym (append-nil q) ∙ ap (λ w. q ++ w) (sym none)) lacks;
 }
+
+-- ---- answers of reads
+
+pub on_byte : (read : Option ℕ) (byte : ℕ) → read ≡ Some byte → byte ≢ 10 → ReadsOn (Ok read)
+on_byte read byte is other = subst (λ v. ReadsOn (Ok v)) (sym is) other
+
+pub on_fault : (e : Error) (kind : ErrorKind) (found : Option NoLine) → found ≡ fault_at kind → kind ≡ error_kind e → found ≡ None → ReadsOn (Err e)
+on_fault e kind found is k none = sym (is ∙ ap fault_at k) ∙ none
+
+pub ends_input : (read : Option ℕ) → read ≡ None → EndsFor Ended (Ok read)
+ends_input read is = subst (λ v. EndsFor Ended (Ok v)) (sym is) refl
+
+-- what a read at the end of input tells
+pub at_end : (a b : Option (List ℕ)) (kept rest : List ℕ) (read : Option ℕ) → read ≡ None → ReadsByte {E = Error} a b kept rest (Ok read) → Takes a b kept rest [] × IsAtEnd b × (rest ≡ [])
+at_end a b kept rest read is r = subst (λ v. ReadsByte {E = Error} a b kept rest (Ok v)) is r
+
+pub ends_fault : (e : Error) (kind : ErrorKind) (found : Option NoLine) (why : NoLine) → found ≡ fault_at kind → kind ≡ error_kind e → found ≡ Some why → EndsFor why (Err e)
+ends_fault e kind found why is k some = sym (is ∙ ap fault_at k) ∙ some
+
+no_end : (kind : ErrorKind) → fault_at kind ≡ Some Ended → ⊥
+no_end Interrupted e = cc
+no_end WouldBlock e = cc
+no_end _ e = cc
+
+-- a failed read is no end of the input
+pub fault_no_end : (kind : ErrorKind) (found : Option NoLine) (why : NoLine) → found ≡ fault_at kind → found ≡ Some why → why ≡ Ended → ⊥
+fault_no_end kind found why is some ended = no_end kind (sym is ∙ (some ∙ ap Some ended))

@@ -1,10 +1,15 @@
 -- Answers that are written.
-use Rattle.std.proofs.Common.{◌≡◌, ℕ, ◌+◌, ◌-◌, List, [], ◌∷◌, ◌++◌, codes, length, take, drop, refl, subst, ap, sym, ◌∙◌}
+use Rattle.std.proofs.Common.{◌≡◌, Bool, false, ℕ, ◌+◌, ◌-◌, List, [], ◌∷◌, ◌++◌, codes, length, take, drop, refl, subst, ap, sym, ◌∙◌}
 use Rattle.std.specs.Prelude.{Option, Some, None, Result, Ok, Err, OnOk}
 use Rattle.std.specs.Io.KnownBytes.{Appends, Keeps}
+use Rattle.std.specs.IoError.{error_kind}
+use Rattle.std.specs.declared.io.Error.{Error}
+use Rattle.std.specs.declared.io.ErrorKind.{ErrorKind}
 use Rattle.std.proofs.lemmas.List.{append-nil, drop-drop, take-append-drop, take_rest}
 use Rattle.swim_wire.specs.declared.update.Update.{Update}
 use Rattle.swim_shell.specs.Answers.{Gives, row_text, rows_text}
+use Rattle.swim_shell.specs.declared.answer_writer.Sent.{Sent}
+use Rattle.swim_shell.specs.Writes.{sent_by, WritesOn}
 use Rattle.swim_shell.proofs.News.{assoc}
 
 appends_none : (u v : Option (List ℕ)) → Keeps u v → Appends u v []
@@ -64,3 +69,11 @@ row_written old text new rows more row so_far is next = is ∙ (ap (λ w. w ++ r
 -- a head, and the lines of all rows
 pub members_written : (old head new : List ℕ) (count : List ℕ) (rows : List Update) → head ≡ old ++ (codes "ok " ++ (count ++ codes "\n")) → new ≡ head ++ rows_text rows → new ≡ old ++ (codes "ok " ++ (count ++ (codes "\n" ++ rows_text rows)))
 members_written old head new count rows is then = then ∙ (ap (λ w. w ++ rows_text rows) is ∙ (assoc old (codes "ok " ++ (count ++ codes "\n")) (rows_text rows) ∙ ap (λ w. old ++ (codes "ok " ++ w)) (assoc count (codes "\n") (rows_text rows))))
+
+-- steps after which there are more
+
+pub on_more : (step : Result Bool Error) → step ≡ Ok false → WritesOn step
+on_more step is = subst WritesOn (sym is) tt
+
+pub on_fault : (step : Result Bool Error) (e : Error) (kind : ErrorKind) (found : Option Sent) → step ≡ Err e → found ≡ sent_by kind → kind ≡ error_kind e → found ≡ None → WritesOn step
+on_fault step e kind found failed is k none = subst WritesOn (sym failed) (sym (is ∙ ap sent_by k) ∙ none)

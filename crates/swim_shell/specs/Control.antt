@@ -1,5 +1,5 @@
 -- What a conversation hears, and what comes of it.
-use Rattle.std.specs.Prelude.{◌≡◌, ◌≢◌, ◌⊎◌, ℕ, ◌≤◌, true, Option, Some, None}
+use Rattle.std.specs.Prelude.{◌≡◌, ◌≢◌, ◌⊎◌, ℕ, ◌≤◌, Bool, true, false, Option, Some, None}
 use Rattle.std.specs.Prelude.{List, [], ◌∷◌, ◌++◌, length}
 use Rattle.std.specs.Io.KnownBytes.{IsAtEnd}
 use Rattle.swim_words.specs.Words.{Lacks}
@@ -10,6 +10,7 @@ use Rattle.swim_shell.specs.declared.conversation.LineEnd.TheVariants as line_en
 use Rattle.swim_shell.specs.declared.conversation.ControlEnd.{ControlEnd}
 use Rattle.swim_shell.specs.declared.conversation.ControlEnd.TheVariants as ends
 use Rattle.swim_shell.specs.declared.lines.NoLine.{NoLine}
+use Rattle.swim_shell.specs.declared.lines.NoLine.TheVariants.{NotYet}
 use Rattle.swim_shell.specs.Calls.{CallerView}
 use Rattle.swim_shell.specs.Lines.{Takes, TakesNoLine}
 use Rattle.swim_shell.specs.Requests.{Names}
@@ -131,6 +132,11 @@ pub record HearsNone (a b : ConversationView) (why : NoLine) : Type 0 where
   pub left : b.left ≡ a.left
   pub due : b.due ≡ a.due
   pub waits : b.waits ≡ a.waits
+
+-- the rest of the line is not there yet
+abbrev pub is_not_yet : NoLine → Bool
+is_not_yet NotYet = true
+is_not_yet _ = false
 
 -- the end that the last line left due
 abbrev pub due_before : Option ControlEnd → Option LineEnd → Option LineEnd

@@ -6,7 +6,6 @@ use Rattle.std.specs.Prelude.{List, [], ◌∷◌, ◌++◌, length, slice_get}
 use Rattle.std.specs.Option.{option_map}
 use Rattle.std.specs.List.{filter, list_any}
 use Rattle.swim_wire.specs.declared.rules.Rules.{Rules}
-use Rattle.swim_wire.specs.declared.rules.Rules.TheVariants.{Two}
 use Rattle.swim_wire.specs.declared.update.Update.{Update}
 use Rattle.swim_wire.specs.declared.update.UpdateKind.{UpdateKind}
 use Rattle.swim_wire.specs.declared.update.UpdateKind.TheVariants.{Confirm}
@@ -20,8 +19,11 @@ use Rattle.swim_node.specs.declared.entry.Entry.{Entry}
 use Rattle.swim_node.specs.declared.entry.Reply.{Reply}
 use Rattle.swim_shell.specs.declared.caller.Refusal.{Refusal}
 use Rattle.std.specs.Duration.{as_nanos, max_nanos}
-use Rattle.swim_shell.specs.declared.joiner.Paces.{Paces}
-use Rattle.swim_shell.specs.declared.joiner.TheConstants.{ALONE_PERIODS, EARLY_JOINS}
+use Rattle.rand_chacha.specs.ChaCha.{ChaCha}
+use Rattle.std.specs.declared.time.Instant.{Instant}
+use Rattle.swim_shell.specs.declared.paces.Paces.{Paces}
+use Rattle.swim_shell.specs.declared.paces.TheConstants.{ALONE_PERIODS, EARLY_JOINS}
+use Rattle.swim_shell.specs.Moments.{NewsView}
 use Rattle.swim_shell.specs.Calls.{CallerView, events_of, Gains, NewCall, Refuses}
 
 -- what a contract sees of peers: the list, the place of the one that comes next, and whether each
@@ -42,15 +44,19 @@ stepped p =
 abbrev pub IsNext : PeersView → ℕ → Type 0
 IsNext p x = slice_get p.list p.next ≡ Some x
 
--- what a contract sees of a joiner: whose it is, by which rules that one lives, its peers, how many
--- of these were joined, the rows that it compared last, and whether it told of an unknown peer
+-- what a contract sees of a joiner: whose it is, by which rules that one lives, and its paces; its
+-- peers, and what draws others; how many peers were joined, when the last join was, and of which
+-- peer it said that it is not known; and its news
 pub record JoinerView : Type 0 where
   pub me : ℕ
   pub rules : Rules
+  pub paces : Paces
   pub peers : PeersView
+  pub rng : ChaCha
   pub joins : ℕ
-  pub rows : List Update
-  pub has_told : Bool
+  pub joined : Option Instant
+  pub missing : List ℕ
+  pub news : NewsView
 
 -- how long after so many joins the next peer is joined, if it is, by whether all were and whether
 -- the member is alone
@@ -111,13 +117,6 @@ abbrev pub due_by : ℕ → List Update → Option ℕ → ℕ → Bool → Opti
 due_by me rows None word turn = drawn_by me rows word
 due_by me rows (Some peer) word turn =
     Some (chosen (drawn_by me rows word) peer (if has_row rows peer then not turn else false))
-
--- the member is such by some word; the list has a turn by rules 2 alone
-pub record IsDue (j : JoinerView) (rows : List Update) (x : ℕ) : Type 0 where
-  pub word : ℕ
-  pub turn : Bool
-  pub is : due_by j.me rows (slice_get j.peers.list j.peers.next) word turn ≡ Some x
-  pub by_rules : turn ≡ true → j.rules ≡ Two
 
 -- a call asks for members, or it joins a peer of the list, or another member that is eligible by
 -- these rows

@@ -1,12 +1,16 @@
 pub mod Calls
 pub mod Gates
 pub mod Work
+pub mod Tries
 pub mod Lines
 pub mod Requests
 pub mod Answers
+pub mod Writes
 pub mod Views
 pub mod Control
 pub mod Inbounds
 pub mod Ticks
 pub mod Losses
+pub mod Moments
 pub mod Joins
+pub mod Turns

@@ -2,12 +2,16 @@
 use Rattle.std.specs.Prelude.{◌≡◌, ◌≢◌, ℕ, ◌<◌, ◌≤◌, Bool, true, false, List, [], ◌∷◌, ◌++◌, length}
 use Rattle.std.specs.Prelude.{Option, Some, None, Result, Ok, Err}
 use Rattle.std.specs.Io.KnownBytes.{Consumes, IsAtEnd}
+use Rattle.std.specs.IoError.{error_kind}
+use Rattle.std.specs.declared.io.Error.{Error}
+use Rattle.std.specs.declared.io.ErrorKind.{ErrorKind}
+use Rattle.std.specs.declared.io.ErrorKind.TheVariants.{Interrupted, WouldBlock}
 use Rattle.swim_words.specs.Words.{Lacks}
 use Rattle.swim_shell.specs.declared.lines.TheConstants.{LINE_MAX}
 use Rattle.swim_shell.specs.declared.lines.Line.{Line}
 use Rattle.swim_shell.specs.declared.lines.Line.TheVariants.{Text, Long}
 use Rattle.swim_shell.specs.declared.lines.NoLine.{NoLine}
-use Rattle.swim_shell.specs.declared.lines.NoLine.TheVariants.{NotYet, Ended}
+use Rattle.swim_shell.specs.declared.lines.NoLine.TheVariants.{NotYet, Ended, Failed}
 
 -- of what was kept and what came from a reader these bytes are gone, and the rest is kept
 pub record Takes (old new : Option (List ℕ)) (kept rest bytes : List ℕ) : Type 0 where
@@ -48,3 +52,21 @@ pub record TakesNoLine (old new : Option (List ℕ)) (kept rest : List ℕ) (why
   pub took : Takes old new kept rest []
   pub ended : why ≡ Ended → IsAtEnd new
   pub lacks : why ≢ NotYet → Lacks 10 rest
+
+-- why no line comes after a read that failed so; none if it is tried again
+abbrev pub fault_at : ErrorKind → Option NoLine
+fault_at Interrupted = None
+fault_at WouldBlock = Some NotYet
+fault_at _ = Some Failed
+
+-- after this answer of a read of one byte the line goes on
+abbrev pub ReadsOn : Result (Option ℕ) Error → Type 0
+ReadsOn (Ok (Some byte)) = byte ≢ 10
+ReadsOn (Ok None) = ⊥
+ReadsOn (Err e) = fault_at (error_kind e) ≡ None
+
+-- after this one no line comes, for that reason
+abbrev pub EndsFor : NoLine → Result (Option ℕ) Error → Type 0
+EndsFor why (Ok (Some byte)) = ⊥
+EndsFor why (Ok None) = why ≡ Ended
+EndsFor why (Err e) = fault_at (error_kind e) ≡ Some why

@@ -1,6 +1,6 @@
 -- What contracts see of a conversation.
-use Rattle.std.specs.Prelude.{ℕ, nat_le, Bool, true, false, not, if◌then◌else◌, Option, Some, None}
-use Rattle.std.specs.Prelude.{List, ◌++◌, length, drop}
+use Rattle.std.specs.Prelude.{◌≡◌, ℕ, nat_le, Bool, true, false, not, if◌then◌else◌}
+use Rattle.std.specs.Prelude.{Option, Some, None, List, [], ◌++◌, length, drop}
 use Rattle.swim_shell.specs.declared.lines.ByteReader.{ByteReader}
 use Rattle.swim_shell.specs.declared.lines.LineReader.{LineReader}
 use Rattle.swim_shell.specs.declared.answer_writer.AnswerWriter.{AnswerWriter}
@@ -22,6 +22,11 @@ left_of w = drop w.written w.answer.bytes
 -- the last answer is written and flushed
 abbrev pub is_out : {Wr : Type 0} → AnswerWriter Wr → Bool
 is_out w = if w.is_flushed then nat_le (length w.answer.bytes) w.written else false
+
+-- it is, and nothing that was written is not flushed
+pub record IsFlushed {Wr : Type 0} (w : AnswerWriter Wr) : Type 0 where
+  pub out : is_out w ≡ true
+  pub none : w.unflushed ≡ []
 
 -- an answer is on its way while it is not out, or an end is due for it
 abbrev pub is_waiting : Option LineEnd → Bool → Bool

@@ -1,10 +1,12 @@
 //! Answers that wait until they are written.
 
-ghost use Rattle.std.specs.Prelude.{◌≡◌, true, [], IfOk, IsTrue};
+ghost use Rattle.std.specs.Prelude.{◌≡◌, ◌≤◌, ◌++◌, ◌∷◌, true, false, [], length, IfOk, IsTrue, IsFalse, OnOk, ◌<◌};
+ghost use Rattle.swim_shell.specs.Writes.{sent_by};
 
 use crate::answers::Answer;
 use arrayvec::ArrayString;
 use std::io::{self, ErrorKind, Write};
+use swim_trace::Trace;
 
 /// The most writes at a time, so that no writer holds anybody up.
 const WRITES_MAX: u32 = 4096;
@@ -20,6 +22,17 @@ pub(crate) enum Sent {
     Failed,
 }
 
+/// What came of writing after a write or a flush that failed so; none if it is tried again.
+fn sent_by(kind: ErrorKind) -> Option<Sent>
+    ensures { result ≡ sent_by kind }
+{
+    match kind {
+        ErrorKind::Interrupted => None,
+        ErrorKind::WouldBlock => Some(Sent::NotYet),
+        _ => Some(Sent::Failed),
+    }
+}
+
 /// Writes answers, and keeps what its writer has not taken yet.
 #[derive(Drop)]
 pub(crate) struct AnswerWriter<Wr: Write + Drop> {
@@ -30,11 +43,17 @@ pub(crate) struct AnswerWriter<Wr: Write + Drop> {
     written: usize,
     /// Whether they are flushed.
     is_flushed: bool,
+    /// How much each write took since the last flush, for proofs.
+    unflushed: Trace<usize>,
+    /// What came of each step, for proofs.
+    steps: Trace<io::Result<bool>>,
 }
 
 impl<Wr: Write + Drop> AnswerWriter<Wr> {
     ghost use Rattle.swim_shell.specs.Answers.{Gives};
-    ghost use Rattle.swim_shell.specs.Views.{is_out, left_of};
+    ghost use Rattle.swim_shell.specs.Tries.{Tried};
+    ghost use Rattle.swim_shell.specs.Views.{IsFlushed, is_out, left_of};
+    ghost use Rattle.swim_shell.specs.Writes.{EndsWith, WritesOn};
 
     /// One that has no answer to write.
     pub(crate) fn new(writer: Wr) -> AnswerWriter<Wr>
@@ -47,6 +66,8 @@ impl<Wr: Write + Drop> AnswerWriter<Wr> {
             answer: ArrayString::new(),
             written: 0,
             is_flushed: true,
+            unflushed: Trace::new(),
+            steps: Trace::new(),
         }
     }
 
@@ -63,49 +84,97 @@ impl<Wr: Write + Drop> AnswerWriter<Wr> {
         requires { left_of self.old ≡ [] }
         ensures writer { self.new.writer ≡ self.old.writer }
         ensures left { left_of self.new ≡ answer.bytes }
+        ensures out { is_out self.new ≡ false }
     {
         self.answer = answer;
         self.written = 0;
         self.is_flushed = false;
     }
 
-    /// Writes some of what is left, or flushes once nothing is. Says whether all is out.
-    #[tactic(auto, using(crate::proofs::Writing::gives_none, crate::proofs::Writing::gives_some))]
-    fn step(&mut self) -> io::Result<bool>
+    /// Flushes what is written, once all is.
+    fn flush(&mut self) -> io::Result<()>
+        requires { length self.old.answer.bytes ≤ self.old.written }
         ensures gives { Gives (Wr.contents self.old.writer) (Wr.contents self.new.writer)
             (left_of self.old) (left_of self.new) [] }
-        ensures out { IfOk result (λ is_out. IsTrue is_out → left_of self.new ≡ []) }
+        ensures out { OnOk result (left_of self.new ≡ []) }
+        ensures flushed { OnOk result (IsFlushed self.new) }
+        ensures steps { self.new.steps ≡ self.old.steps }
     {
-        if self.written >= self.answer.len() {
-            self.writer.flush()?;
-            self.is_flushed = true;
-            return Ok(true);
-        }
+        self.writer.flush()?;
+        self.unflushed = Trace::new();
+        self.is_flushed = true;
+        Ok(())
+    }
+
+    /// Writes some of what is left.
+    fn write(&mut self) -> io::Result<()>
+        requires { self.old.written < length self.old.answer.bytes }
+        ensures gives { Gives (Wr.contents self.old.writer) (Wr.contents self.new.writer)
+            (left_of self.old) (left_of self.new) [] }
+        ensures out { OnOk result (is_out self.new ≡ false) }
+        ensures steps { self.new.steps ≡ self.old.steps }
+    {
         let left = &self.answer.as_str().as_bytes()[self.written..];
         let count = self.writer.write(left)?;
         if count == 0 {
             return Err(io::Error::from(ErrorKind::WriteZero));
         }
+        self.is_flushed = false;
+        self.unflushed = self.unflushed.and(&count);
         self.written += count;
-        Ok(false)
+        Ok(())
+    }
+
+    /// Writes some of what is left, or flushes once nothing is. Says whether all is out.
+    fn advance(&mut self) -> io::Result<bool>
+        ensures gives { Gives (Wr.contents self.old.writer) (Wr.contents self.new.writer)
+            (left_of self.old) (left_of self.new) [] }
+        ensures out { IfOk result (λ done. IsTrue done → left_of self.new ≡ []) }
+        ensures flushed { IfOk result (λ done. IsTrue done → IsFlushed self.new) }
+        ensures on { IfOk result (λ done. IsFalse done → is_out self.new ≡ false) }
+        ensures steps { self.new.steps ≡ self.old.steps }
+    {
+        if self.written < self.answer.len() {
+            self.write()?;
+            return Ok(false);
+        }
+        self.flush()?;
+        Ok(true)
+    }
+
+    /// The same, which is told to proofs.
+    fn step(&mut self) -> io::Result<bool>
+        ensures gives { Gives (Wr.contents self.old.writer) (Wr.contents self.new.writer)
+            (left_of self.old) (left_of self.new) [] }
+        ensures out { IfOk result (λ done. IsTrue done → left_of self.new ≡ []) }
+        ensures flushed { IfOk result (λ done. IsTrue done → IsFlushed self.new) }
+        ensures on { IfOk result (λ done. IsFalse done → is_out self.new ≡ false) }
+        ensures told { self.new.steps ≡ self.old.steps ++ result ∷ [] }
+    {
+        let done = self.advance();
+        self.steps = self.steps.and(&done);
+        done
     }
 
     /// Writes what is left, as far as the writer takes it. A write that a signal interrupts is tried again.
-    #[tactic(auto, using(crate::proofs::Writing::gives_nothing, crate::proofs::Writing::gives_on))]
+    #[tactic(auto, using(crate::proofs::Writing::gives_nothing, crate::proofs::Writing::gives_on, crate::proofs::Trying::trying_none))]
     pub(crate) fn send(&mut self) -> Sent
         ensures gives { Gives (Wr.contents self.old.writer) (Wr.contents self.new.writer)
             (left_of self.old) (left_of self.new) [] }
         ensures out { result ≡ Sent.Out → left_of self.new ≡ [] }
+        ensures flushed { result ≡ Sent.Out → IsFlushed self.new }
+        ensures why { Tried WritesOn (EndsWith result) WRITES_MAX (result ≡ Sent.NotYet)
+            self.old.steps self.new.steps }
     {
         for _ in 0..WRITES_MAX {
             match self.step() {
                 Ok(true) => return Sent::Out,
                 Ok(false) => {}
-                Err(error) => match error.kind() {
-                    ErrorKind::Interrupted => {}
-                    ErrorKind::WouldBlock => return Sent::NotYet,
-                    _ => return Sent::Failed,
-                },
+                Err(error) => {
+                    if let Some(sent) = sent_by(error.kind()) {
+                        return sent;
+                    }
+                }
             }
         }
         Sent::NotYet

@@ -145,7 +145,7 @@ fn carried(due: Option<LineEnd>) -> Option<LineEnd>
 impl<Rd: Read + Drop, Wr: Write + Drop> Conversation<Rd, Wr> {
     ghost use Rattle.std.specs.Prelude.{◌≡◌, false, [], None, OnOk, OnErr, IfErr};
     ghost use Rattle.swim_shell.specs.Views.{left_of, view_of};
-    ghost use Rattle.swim_shell.specs.Control.{HearsLine, HearsNone, Sends};
+    ghost use Rattle.swim_shell.specs.Control.{HearsLine, HearsNone, Sends, is_not_yet};
 
     /// The conversation of a new connection, of which nothing was read or written.
     pub fn new(reader: Rd, writer: Wr) -> Conversation<Rd, Wr>
@@ -167,7 +167,9 @@ impl<Rd: Read + Drop, Wr: Write + Drop> Conversation<Rd, Wr> {
     }
 
     /// Whether nothing had come in its last turn, neither a whole line nor its end.
-    pub fn is_silent(&self) -> bool {
+    pub fn is_silent(&self) -> bool
+        ensures { result ≡ self.now.is_silent }
+    {
         self.is_silent
     }
 
@@ -189,8 +191,11 @@ impl<Rd: Read + Drop, Wr: Write + Drop> Conversation<Rd, Wr> {
         ensures none { IfErr result (HearsNone (view_of Rd.remaining Wr.contents self.old)
             (view_of Rd.remaining Wr.contents self.new)) }
         ensures same { OnErr result (C.known caller.new ≡ C.known caller.old) }
+        ensures silent { IfErr result (λ why. self.new.is_silent ≡ is_not_yet why) }
     {
-        let line = self.lines.next_line()?;
+        let heard = self.lines.next_line();
+        self.is_silent = matches!(heard, Err(NoLine::NotYet));
+        let line = heard?;
         let mut answer = ArrayString::new();
         let asked = understand(&line);
         let refused = respond(caller, &mut answer, asked);
@@ -201,9 +206,11 @@ impl<Rd: Read + Drop, Wr: Write + Drop> Conversation<Rd, Wr> {
 
     /// Writes what is left, and then ends the conversation if that is due.
     fn send(&mut self) -> Option<ControlEnd>
-        ensures { Sends (view_of Rd.remaining Wr.contents self.old)
+        ensures sends { Sends (view_of Rd.remaining Wr.contents self.old)
             (view_of Rd.remaining Wr.contents self.new) result }
+        ensures heard { self.new.is_silent ≡ false }
     {
+        self.is_silent = false;
         match self.answers.send() {
             Sent::Out => match self.due.take()? {
                 LineEnd::Asked => Some(ControlEnd::Asked),
@@ -233,16 +240,12 @@ impl<C: Observer, Rd: Read + Drop, Wr: Write + Drop> Worker<C> for Conversation<
     }
 
     fn turn(&mut self, caller: &mut C) -> Option<ControlEnd> {
-        self.is_silent = false;
         if self.is_waiting() {
             return self.send();
         }
         match self.hear(caller) {
             Ok(()) => self.send(),
-            Err(NoLine::NotYet) => {
-                self.is_silent = true;
-                None
-            }
+            Err(NoLine::NotYet) => None,
             Err(NoLine::Ended) => Some(ControlEnd::Closed),
             Err(NoLine::Failed) => Some(ControlEnd::ReadFault),
         }

@@ -15,6 +15,8 @@ mod inbound;
 mod joiner;
 mod lines;
 mod look;
+mod news_log;
+mod paces;
 mod peers;
 mod receiver;
 mod request;
@@ -29,14 +31,12 @@ pub use conversation::{ControlEnd, Conversation};
 pub use doors::Doors;
 pub use gate::{Gate, Turn};
 pub use inbound::{Inbound, ReceiveFault};
-pub use joiner::{Joiner, Paces};
+pub use joiner::Joiner;
 pub use lines::{LINE_MAX, Line};
+pub use paces::Paces;
 pub use peers::LIST_MAX;
 pub use receiver::{FAILURES_MAX, Receiver};
 pub use request::Request;
 pub use sender::{Outgoing, Sender};
 pub use ticker::Ticker;
 pub use worker::{Worker, WorkerEnd, run};
-
-#[cfg(test)]
-mod tests;

@@ -3,7 +3,7 @@
 ghost use Rattle.std.specs.Prelude.{◌≡◌, ◌≢◌, ◌++◌, ◌∷◌, [], IfSome, IfNone, IfOk, IfErr, OnOk, OnErr};
 ghost use Rattle.std.specs.Io.KnownBytes.{IsAtEnd};
 ghost use Rattle.swim_words.specs.Words.{Lacks};
-ghost use Rattle.swim_shell.specs.Lines.{IsLine, IsPart};
+ghost use Rattle.swim_shell.specs.Lines.{IsLine, IsPart, fault_at};
 
 use arrayvec::ArrayVec;
 use std::io::{self, ErrorKind, Read};
@@ -37,6 +37,17 @@ pub(crate) enum NoLine {
     Ended,
     /// A read failed.
     Failed,
+}
+
+/// Why no line comes after a read that failed so; none if it is tried again.
+fn fault_at(kind: ErrorKind) -> Option<NoLine>
+    ensures { result ≡ fault_at kind }
+{
+    match kind {
+        ErrorKind::Interrupted => None,
+        ErrorKind::WouldBlock => Some(NoLine::NotYet),
+        _ => Some(NoLine::Failed),
+    }
 }
 
 /// The part of a line that was read.
@@ -99,6 +110,8 @@ pub(crate) struct ByteReader<Rd: Read + Drop> {
     ahead: ArrayVec<u8, READ_MAX>,
     /// How many bytes of it were given.
     next: usize,
+    /// What it answered, for proofs.
+    answers: Trace<io::Result<Option<u8>>>,
 }
 
 impl<Rd: Read + Drop> ByteReader<Rd> {
@@ -114,6 +127,7 @@ impl<Rd: Read + Drop> ByteReader<Rd> {
             reader,
             ahead: ArrayVec::new(),
             next: 0,
+            answers: Trace::new(),
         }
     }
 
@@ -122,6 +136,7 @@ impl<Rd: Read + Drop> ByteReader<Rd> {
         ensures reader { self.new.reader ≡ self.old.reader }
         ensures some { IfSome result (λ byte. ahead_of self.old ≡ byte ∷ ahead_of self.new) }
         ensures none { IfNone result ((ahead_of self.old ≡ []) × (ahead_of self.new ≡ [])) }
+        ensures answers { self.new.answers ≡ self.old.answers }
     {
         let byte = *self.ahead.get(self.next)?;
         self.next += 1;
@@ -129,9 +144,10 @@ impl<Rd: Read + Drop> ByteReader<Rd> {
     }
 
     /// The next byte; none at the end of input. After an error the same byte is next.
-    pub(crate) fn next_byte(&mut self) -> io::Result<Option<u8>>
-        ensures { ReadsByte (Rd.remaining self.old.reader) (Rd.remaining self.new.reader)
+    fn read_byte(&mut self) -> io::Result<Option<u8>>
+        ensures byte { ReadsByte (Rd.remaining self.old.reader) (Rd.remaining self.new.reader)
             (ahead_of self.old) (ahead_of self.new) result }
+        ensures answers { self.new.answers ≡ self.old.answers }
     {
         if let Some(byte) = self.give() {
             return Ok(Some(byte));
@@ -143,6 +159,17 @@ impl<Rd: Read + Drop> ByteReader<Rd> {
         self.next = 0;
         Ok(self.give())
     }
+
+    /// The same, which is told to proofs.
+    pub(crate) fn next_byte(&mut self) -> io::Result<Option<u8>>
+        ensures byte { ReadsByte (Rd.remaining self.old.reader) (Rd.remaining self.new.reader)
+            (ahead_of self.old) (ahead_of self.new) result }
+        ensures told { self.new.answers ≡ self.old.answers ++ result ∷ [] }
+    {
+        let answer = self.read_byte();
+        self.answers = self.answers.and(&answer);
+        answer
+    }
 }
 
 /// Reads lines, and keeps what was read of one that is not whole.
@@ -153,7 +180,8 @@ pub(crate) struct LineReader<Rd: Read + Drop> {
 }
 
 impl<Rd: Read + Drop> LineReader<Rd> {
-    ghost use Rattle.swim_shell.specs.Lines.{TakesLine, TakesNoLine};
+    ghost use Rattle.swim_shell.specs.Lines.{TakesLine, TakesNoLine, ReadsOn, EndsFor};
+    ghost use Rattle.swim_shell.specs.Tries.{Tried};
     ghost use Rattle.swim_shell.specs.Views.{kept_of};
 
     /// One of which nothing was read.
@@ -174,23 +202,25 @@ impl<Rd: Read + Drop> LineReader<Rd> {
     /// `NotYet` where the reader has no more just now (`WouldBlock`), or after 4096 bytes of a line; what was read of it
     /// is kept, and the next call goes on with it. `Ended` where the input ends before the line does. `Failed` where a
     /// read fails.
-    #[tactic(auto, using(crate::proofs::Reading::takes_nothing, crate::proofs::Reading::part_more, crate::proofs::Reading::part_same, crate::proofs::Reading::part_whole, crate::proofs::Reading::part_alone, crate::proofs::Reading::not_yet))]
+    #[tactic(auto, using(crate::proofs::Reading::takes_nothing, crate::proofs::Reading::part_more, crate::proofs::Reading::part_same, crate::proofs::Reading::part_whole, crate::proofs::Reading::part_alone, crate::proofs::Reading::not_yet, crate::proofs::Trying::trying_none))]
     pub(crate) fn next_line(&mut self) -> Result<Line, NoLine>
         ensures line { IfOk result (TakesLine (Rd.remaining self.old.input.reader)
             (Rd.remaining self.new.input.reader) (kept_of self.old) (kept_of self.new)) }
         ensures none { IfErr result (TakesNoLine (Rd.remaining self.old.input.reader)
             (Rd.remaining self.new.input.reader) (kept_of self.old) (kept_of self.new)) }
+        ensures why { IfErr result (λ why. Tried ReadsOn (EndsFor why) BYTES_MAX
+            (why ≡ NoLine.NotYet) self.old.input.answers self.new.input.answers) }
     {
         for _ in 0..BYTES_MAX {
             match self.input.next_byte() {
                 Ok(Some(b'\n')) => return Ok(self.part.finish()),
                 Ok(Some(byte)) => self.part.add(byte),
                 Ok(None) => return Err(NoLine::Ended),
-                Err(error) => match error.kind() {
-                    ErrorKind::Interrupted => {}
-                    ErrorKind::WouldBlock => return Err(NoLine::NotYet),
-                    _ => return Err(NoLine::Failed),
-                },
+                Err(error) => {
+                    if let Some(why) = fault_at(error.kind()) {
+                        return Err(why);
+                    }
+                }
             }
         }
         Err(NoLine::NotYet)

@@ -10,25 +10,25 @@ pub returns-then-is_waiting-clause-on : goal.returns-then-is_waiting-clause-on
 returns-then-is_waiting-clause-on g c =
     let view = view_of g.Rd.Read.remaining g.Wr.Write.contents in
     let waits : (view c.args.self.now).waits ≡ true = search rules in
-    goes_on view g.C.Caller.limit c.args.self.now c.send.new.self (g.C.Caller.known c.args.caller.now) (g.C.Caller.known c.args.caller.now) c.send.result (turn_sends g.C.Caller.limit (view c.args.self.now) (view c.send.new.self) (g.C.Caller.known c.args.caller.now) c.send.result waits c.send.ensures)
+    goes_on view g.C.Caller.limit c.args.self.now c.send.new.self (g.C.Caller.known c.args.caller.now) (g.C.Caller.known c.args.caller.now) c.send.result (turn_sends g.C.Caller.limit (view c.args.self.now) (view c.send.new.self) (g.C.Caller.known c.args.caller.now) c.send.result waits c.send.ensures.sends)
 
 pub returns-then-is_waiting-clause-end : goal.returns-then-is_waiting-clause-end
 returns-then-is_waiting-clause-end g c =
     let view = view_of g.Rd.Read.remaining g.Wr.Write.contents in
     let waits : (view c.args.self.now).waits ≡ true = search rules in
-    ends_so view g.C.Caller.limit c.args.self.now c.send.new.self (g.C.Caller.known c.args.caller.now) (g.C.Caller.known c.args.caller.now) c.send.result (turn_sends g.C.Caller.limit (view c.args.self.now) (view c.send.new.self) (g.C.Caller.known c.args.caller.now) c.send.result waits c.send.ensures)
+    ends_so view g.C.Caller.limit c.args.self.now c.send.new.self (g.C.Caller.known c.args.caller.now) (g.C.Caller.known c.args.caller.now) c.send.result (turn_sends g.C.Caller.limit (view c.args.self.now) (view c.send.new.self) (g.C.Caller.known c.args.caller.now) c.send.result waits c.send.ensures.sends)
 
 pub returns-in-Ok-clause-on : goal.returns-in-Ok-clause-on
 returns-in-Ok-clause-on g c =
     let view = view_of g.Rd.Read.remaining g.Wr.Write.contents in
     let free : c.args.self.now.due ≡ None = search rules in
-    goes_on view g.C.Caller.limit c.args.self.now c.send-in-Ok.new.self (g.C.Caller.known c.args.caller.now) (g.C.Caller.known c.hear.new.caller) c.send-in-Ok.result (turn_hears g.C.Caller.limit (view c.args.self.now) (view c.hear.new.self) (view c.send-in-Ok.new.self) (g.C.Caller.known c.args.caller.now) (g.C.Caller.known c.hear.new.caller) c.send-in-Ok.result free c.in-Ok.ensures.line c.send-in-Ok.ensures)
+    goes_on view g.C.Caller.limit c.args.self.now c.send-in-Ok.new.self (g.C.Caller.known c.args.caller.now) (g.C.Caller.known c.hear.new.caller) c.send-in-Ok.result (turn_hears g.C.Caller.limit (view c.args.self.now) (view c.hear.new.self) (view c.send-in-Ok.new.self) (g.C.Caller.known c.args.caller.now) (g.C.Caller.known c.hear.new.caller) c.send-in-Ok.result free c.in-Ok.ensures.line c.send-in-Ok.ensures.sends)
 
 pub returns-in-Ok-clause-end : goal.returns-in-Ok-clause-end
 returns-in-Ok-clause-end g c =
     let view = view_of g.Rd.Read.remaining g.Wr.Write.contents in
     let free : c.args.self.now.due ≡ None = search rules in
-    ends_so view g.C.Caller.limit c.args.self.now c.send-in-Ok.new.self (g.C.Caller.known c.args.caller.now) (g.C.Caller.known c.hear.new.caller) c.send-in-Ok.result (turn_hears g.C.Caller.limit (view c.args.self.now) (view c.hear.new.self) (view c.send-in-Ok.new.self) (g.C.Caller.known c.args.caller.now) (g.C.Caller.known c.hear.new.caller) c.send-in-Ok.result free c.in-Ok.ensures.line c.send-in-Ok.ensures)
+    ends_so view g.C.Caller.limit c.args.self.now c.send-in-Ok.new.self (g.C.Caller.known c.args.caller.now) (g.C.Caller.known c.hear.new.caller) c.send-in-Ok.result (turn_hears g.C.Caller.limit (view c.args.self.now) (view c.hear.new.self) (view c.send-in-Ok.new.self) (g.C.Caller.known c.args.caller.now) (g.C.Caller.known c.hear.new.caller) c.send-in-Ok.result free c.in-Ok.ensures.line c.send-in-Ok.ensures.sends)
 
 pub returns-in-Err-NotYet-clause-on : goal.returns-in-Err-NotYet-clause-on
 returns-in-Err-NotYet-clause-on g c =
