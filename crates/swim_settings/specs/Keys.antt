@@ -4,7 +4,7 @@ use Rattle.swim_settings.specs.declared.key.Key.{Key}
 use Rattle.swim_settings.specs.declared.key.Key.TheVariants.{File, Group, Me, Control, TickMs}
 use Rattle.swim_settings.specs.declared.key.Key.TheVariants.{Lambda, Period, Direct, Suspect}
 use Rattle.swim_settings.specs.declared.key.Key.TheVariants.{Forget, Helpers, Limit, Block, Rules}
-use Rattle.swim_settings.specs.declared.key.Key.TheVariants.{RandomKey, Join, Rejoin}
+use Rattle.swim_settings.specs.declared.key.Key.TheVariants.{RandomKey, Join, Rejoin, Expelled}
 
 -- the key as a file has it
 abbrev pub key_text : Key → List ℕ
@@ -25,11 +25,12 @@ key_text Rules = codes "rules"
 key_text RandomKey = codes "random_key"
 key_text Join = codes "join"
 key_text Rejoin = codes "rejoin"
+key_text Expelled = codes "expelled"
 
 -- all keys, in the order in which a refused one is looked for
 abbrev pub keys : List Key
 keys = File ∷ Group ∷ Me ∷ Control ∷ TickMs ∷ Lambda ∷ Period ∷ Direct ∷ Suspect ∷ Forget ∷ Helpers
-    ∷ Limit ∷ Block ∷ Rules ∷ RandomKey ∷ Join ∷ Rejoin ∷ []
+    ∷ Limit ∷ Block ∷ Rules ∷ RandomKey ∷ Join ∷ Rejoin ∷ Expelled ∷ []
 
 -- how many keys come before it
 abbrev pub key_place : Key → ℕ
@@ -50,6 +51,7 @@ key_place Rules = 13
 key_place RandomKey = 14
 key_place Join = 15
 key_place Rejoin = 16
+key_place Expelled = 17
 
 -- the keys before it
 abbrev pub keys_before : Key → List Key

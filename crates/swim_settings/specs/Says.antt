@@ -1,6 +1,7 @@
 -- What the table of a settings file says.
 use Rattle.std.specs.Prelude.{◌≡◌, ◌⊎◌, ◌≤◌, ◌-◌, ℕ, ℤ, pos, negsuc, List, [], ◌∷◌, string_bytes}
-use Rattle.std.specs.Prelude.{IsUtf8, Option, Some, None, option_and_then, Ok}
+use Rattle.std.specs.Prelude.{IsUtf8, Option, Some, None, option_and_then, Ok, Bool, true, false}
+use Rattle.std.specs.Prelude.{codes}
 use Rattle.std.specs.List.{AllByRecursion}
 use Rattle.hex.specs.Hex.{decode_of}
 use Rattle.toml.specs.Parse.{parse_document}
@@ -12,7 +13,7 @@ use Rattle.swim_settings.specs.declared.key.Key.{Key}
 use Rattle.swim_settings.specs.declared.key.Key.TheVariants.{File, Group, Me, Control, TickMs}
 use Rattle.swim_settings.specs.declared.key.Key.TheVariants.{Lambda, Period, Direct, Suspect}
 use Rattle.swim_settings.specs.declared.key.Key.TheVariants.{Forget, Helpers, Limit, Block, Rules}
-use Rattle.swim_settings.specs.declared.key.Key.TheVariants.{RandomKey, Join, Rejoin}
+use Rattle.swim_settings.specs.declared.key.Key.TheVariants.{RandomKey, Join, Rejoin, Expelled}
 use Rattle.swim_member.specs.declared.settings.TheConstants.{HELPERS_MAX, BLOCK_MAX}
 use Rattle.swim_member.specs.declared.settings.Settings.{Settings}
 use Rattle.swim_settings.specs.declared.refusal.Refusal.{Refusal}
@@ -62,6 +63,17 @@ AreEndpoints key table es =
     × AreTexts items es)
     ⊎ ((value_at key table ≡ None) × (es ≡ []))
 
+-- which of two texts is there, the other one or the usual one, which is also meant where the table
+-- hasn't the key
+abbrev pub IsChoice : Key → (usual other : List ℕ) → Members → (is_other : Bool) → Type 0
+IsChoice key usual other table true = text_at key table ≡ Some other
+IsChoice key usual other table false =
+    (text_at key table ≡ Some usual) ⊎ (value_at key table ≡ None)
+
+-- whether a member ends that is expelled; the usual one stays
+abbrev pub EndsExpelled : Members → Bool → Type 0
+EndsExpelled = IsChoice Expelled (codes "stay") (codes "end")
+
 -- the table says these settings of the member; its group, endpoint, block and rules aside
 pub record SaysMember (table : Members) (settings : Settings) : Type 0 where
   pub lambda : IsNumber Lambda 3 table settings.lambda
@@ -85,6 +97,7 @@ pub record Says (table : Members) (run : RunSettings) : Type 0 where
   pub random_key : AreBytes RandomKey table run.random_key
   pub join : AreEndpoints Join table run.join.items
   pub rejoin : IsNumber Rejoin 300 table run.rejoin
+  pub expelled : EndsExpelled table run.ends_expelled
 
 -- the endpoint whose text is there
 abbrev pub IsEndpointAt : Key → Members → ℕ → Type 0
@@ -112,6 +125,7 @@ IsRefused Limit table = No (IsWithin Limit 4096 1 65536 table)
 IsRefused Block table = No (IsWithin Block 1 1 BLOCK_MAX table)
 IsRefused Rules table = No (IsWithin Rules 1 1 2 table)
 IsRefused Rejoin table = No (IsWithin Rejoin 300 0 1000000 table)
+IsRefused Expelled table = No (EndsExpelled table)
 IsRefused _ table = Unit
 
 -- the refusal is of the text, which is no TOML, or memory ran out
@@ -138,6 +152,7 @@ IsTaken Limit table = (n : ℕ) × IsWithin Limit 4096 1 65536 table n
 IsTaken Block table = (n : ℕ) × IsWithin Block 1 1 BLOCK_MAX table n
 IsTaken Rules table = (n : ℕ) × IsWithin Rules 1 1 2 table n
 IsTaken Rejoin table = (n : ℕ) × IsWithin Rejoin 300 0 1000000 table n
+IsTaken Expelled table = (is_end : Bool) × EndsExpelled table is_end
 IsTaken _ table = Unit
 
 -- all keys before the key have what they take

@@ -42,11 +42,13 @@ pub enum Key {
     Join,
     /// Ticks from one join of a drawn member to the next.
     Rejoin,
+    /// What a member does that is expelled.
+    Expelled,
 }
 
 impl Key {
     /// All keys, in the order in which a refused one is looked for.
-    pub const ALL: [Key; 17] = [
+    pub const ALL: [Key; 18] = [
         Key::File,
         Key::Group,
         Key::Me,
@@ -64,6 +66,7 @@ impl Key {
         Key::RandomKey,
         Key::Join,
         Key::Rejoin,
+        Key::Expelled,
     ];
 
     /// The key as a file has it.
@@ -88,6 +91,7 @@ impl Key {
             Key::RandomKey => "random_key",
             Key::Join => "join",
             Key::Rejoin => "rejoin",
+            Key::Expelled => "expelled",
         }
     }
 }

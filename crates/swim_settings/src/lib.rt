@@ -5,8 +5,6 @@
 mod key;
 mod refusal;
 mod settings;
-#[cfg(test)]
-mod tests;
 mod value;
 
 pub use key::Key;

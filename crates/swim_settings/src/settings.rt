@@ -12,7 +12,7 @@ ghost use Rattle.swim_settings.specs.declared.key.Key.TheVariants as keys;
 use crate::key::Key;
 use crate::refusal::Refusal;
 use crate::value::{
-    read_bytes, read_endpoint_at, read_endpoints, read_number, read_text, read_within,
+    read_bytes, read_choice, read_endpoint_at, read_endpoints, read_number, read_text, read_within,
 };
 use arrayvec::ArrayVec;
 use std::alloc::Global;
@@ -42,6 +42,8 @@ pub struct RunSettings {
     pub join: ArrayVec<Endpoint, JOIN_MAX>,
     /// `rejoin`: ticks from one join of a drawn member to the next, at most 1,000,000; 0 for never.
     pub rejoin: u64,
+    /// `expelled`: whether the member ends once it is expelled.
+    pub ends_expelled: bool,
 }
 
 /// The bytes as a TOML table.
@@ -136,6 +138,7 @@ fn read_keys(alloc: Global, table: &Table) -> Result<RunSettings, Refusal>
     let random_key = read_bytes(table, Key::RandomKey)?;
     let join = read_endpoints(table, Key::Join)?;
     let rejoin = read_within(table, Key::Rejoin, 300, 0, 1_000_000)?;
+    let ends_expelled = read_choice(table, Key::Expelled, "stay", "end")?;
     Ok(RunSettings {
         file: String::from_str(alloc, file)?,
         settings,
@@ -145,6 +148,7 @@ fn read_keys(alloc: Global, table: &Table) -> Result<RunSettings, Refusal>
         random_key,
         join,
         rejoin,
+        ends_expelled,
     })
 }
 

@@ -7,7 +7,7 @@ ghost use Rattle.toml.specs.Data.{as_integer, as_str};
 ghost use Rattle.toml.specs.View.{view, items_view, table_view};
 ghost use Rattle.swim_wire.specs.Numbers.{IsEndpoint};
 ghost use Rattle.swim_words.specs.Words.{endpoint_text, No};
-ghost use Rattle.swim_settings.specs.Says.{value_at, text_at, natural_of, number_at, IsNumber, IsWithin, IsEndpointAt, AreBytes, AreTexts, AreEndpoints};
+ghost use Rattle.swim_settings.specs.Says.{value_at, text_at, natural_of, number_at, IsNumber, IsWithin, IsEndpointAt, IsChoice, AreBytes, AreTexts, AreEndpoints};
 ghost use Rattle.swim_settings.specs.declared.refusal.Refusal.TheVariants as refusals;
 
 use crate::key::Key;
@@ -83,6 +83,31 @@ pub(crate) fn read_text(table: &Table, key: Key) -> Result<&str, Refusal>
     match find(table, key) {
         Some(value) => value.as_str().ok_or(Refusal::Key(key)),
         None => Err(Refusal::Key(key)),
+    }
+}
+
+/// Whether the text at a key is the other one of two. It has to be one of them; the usual one is meant where the key isn't
+/// there.
+pub(crate) fn read_choice(
+    table: &Table,
+    key: Key,
+    usual: &str,
+    other: &str,
+) -> Result<bool, Refusal>
+    ensures choice { IfOk result (IsChoice key usual.now other.now (table_view table.now)) }
+    ensures none { IfErr result (λ refusal. (refusal ≡ refusals.Key key)
+        × No (IsChoice key usual.now other.now (table_view table.now))) }
+{
+    if find(table, key).is_none() {
+        return Ok(false);
+    }
+    let text = read_text(table, key)?;
+    if text == other {
+        Ok(true)
+    } else if text == usual {
+        Ok(false)
+    } else {
+        Err(Refusal::Key(key))
     }
 }
 
