@@ -53,10 +53,6 @@ module _ {S E : Type 0} (does : S → CallerView → S → CallerView → Option
     pub did : does a p b then end
     pub knows : odd ≡ 0 → Knows journal then
 
-  -- the same, however the worker ended
-  abbrev pub Serves : S → CallerView → S → ℕ → List Entry → Type 0
-  Serves a p b odd journal = (end : Option E) × Served a p b end odd journal
-
 module _ {M : Type 0} (took : M → List (ℕ × List ℕ)) (failures : M → ℕ) where
   -- what a contract sees of a ring and its link, after so many turns
   abbrev pub outgoing_of : ℕ → SenderView → M → OutgoingView
@@ -100,11 +96,10 @@ module _ {M : Type 0} (tells : Type 0) (took : M → List (ℕ × List ℕ)) (fa
     }) fates
     pub owes_are : owes ≡ owed_after then.owed then.lost (failures after)
 
-  -- the same by a new ring, however the sender ended
-  abbrev pub SendsAll : (limit owed owes : ℕ) → M → M → ℕ → List Entry → Type 0
-  SendsAll limit owed owes link after odd journal =
-      (ring : SenderView) × (end : Option Refusal) × (ring.got ≡ [])
-      × Sends limit owed ring link after end odd owes journal
+  -- the same by a new ring
+  abbrev pub SendsAll : (limit owed owes : ℕ) → M → M → Option Refusal → ℕ → List Entry → Type 0
+  SendsAll limit owed owes link after end odd journal =
+      (ring : SenderView) × (ring.got ≡ []) × Sends limit owed ring link after end odd owes journal
 
 -- one era of a member from this base on: its journal is a legal history, which each worker's calls
 -- are of; and where the next era begins

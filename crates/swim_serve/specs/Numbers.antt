@@ -1,11 +1,17 @@
--- What received updates say of the own number.
-use Rattle.std.specs.Prelude.{ℕ, ◌==◌, max, if◌then◌else◌, List, [], ◌∷◌, Bool, true, false}
-use Rattle.std.specs.Prelude.{Result, Ok, Err}
+-- What received datagrams say of the own number.
+use Rattle.std.specs.Prelude.{◌≡◌, ◌<◌, ℕ, ◌==◌, max, if◌then◌else◌, List, [], ◌∷◌}
+use Rattle.std.specs.Prelude.{Bool, true, false}
+use Rattle.std.specs.Prelude.{Result, Ok, Err, Option, Some, None}
+use Rattle.swim_member.specs.declared.event.Event.{Event}
+use Rattle.swim_member.specs.declared.event.Event.TheVariants as event
 use Rattle.swim_member.specs.declared.note.Note.{Note}
 use Rattle.swim_member.specs.declared.note.Note.TheVariants as note
+use Rattle.swim_wire.specs.Decoding.{decoded}
 use Rattle.swim_wire.specs.declared.datagram.Datagram.{Datagram}
 use Rattle.swim_wire.specs.declared.fault.WireFault.{WireFault}
 use Rattle.swim_wire.specs.declared.update.Update.{Update}
+use Rattle.swim_serve.specs.declared.number_log.NumberLog.{NumberLog}
+use Rattle.swim_serve.specs.declared.number_log.TheConstants.{LIVES_MAX}
 
 -- the number that an update says of a member, or 0
 abbrev pub number_of : ℕ → Update → ℕ
@@ -21,6 +27,16 @@ abbrev pub number_said : ℕ → Result Datagram WireFault → ℕ
 number_said me (Ok p) = greatest_said me p.updates.items
 number_said me (Err _) = 0
 
+-- what the datagram of an event says of it; nothing if it is of no datagram
+abbrev pub said_in : ℕ → Event → Option ℕ
+said_in me (event.Datagram from bytes) = Some (number_said me (decoded bytes.items))
+said_in me _ = None
+
+-- whence the bytes came that an event is about
+abbrev pub origin_of : Event → Option ℕ
+origin_of (event.Datagram from bytes) = Some from
+origin_of _ = None
+
 -- the note says that a datagram was read, and not taken
 abbrev pub is_refusal : Note → Bool
 is_refusal note.OtherGroup = true
@@ -34,3 +50,9 @@ is_refusal _ = false
 abbrev pub is_refused : List Note → Bool
 is_refused [] = false
 is_refused (n ∷ notes) = is_refusal n
+
+-- the number that a datagram said is one of another life, and is to be logged; these are the notes
+-- of its call
+abbrev pub IsOtherLife : NumberLog → ℕ → List Note → Type 0
+IsOtherLife log said notes = (log.number < said) × (log.told < said) × (log.lives < LIVES_MAX)
+    × (is_refused notes ≡ false)

@@ -53,7 +53,7 @@ impl<S: Drop> Aside<S> {
     /// Takes the next one out.
     pub fn next(&mut self) -> Option<S>
         ensures some { IfSome result (λ next. self.old ≡ next ∷ self.new) }
-        ensures none { IfNone result (self.new ≡ self.old) }
+        ensures none { IfNone result ((self.old ≡ []) × (self.new ≡ [])) }
     {
         self.waiting.pop_front()
     }

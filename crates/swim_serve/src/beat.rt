@@ -1,5 +1,9 @@
 //! When ticks are due.
 
+ghost use Rattle.std.specs.Prelude.{◌≡◌, ◌+◌, ◌-◌, ◌*◌, ◌<◌, ◌≤◌, ◌↔◌, min, max, IsTrue, false};
+ghost use Rattle.std.specs.Prelude.{IfSome, IsSome};
+ghost use Rattle.std.specs.Duration.{as_nanos, max_nanos};
+
 use std::time::{Clock, Duration};
 
 /// When ticks are due, from one era to the next: an era's end puts no tick off, and neither does what a tick takes. It also
@@ -16,10 +20,28 @@ pub struct Beat {
     end_at: u64,
 }
 
+/// When the tick is due that follows one that was due then. One that is late by more than a tick puts the others off.
+fn due_after(due: Duration, tick: Duration, now: Duration) -> Duration
+    ensures on_time { let next = min (as_nanos due + as_nanos tick) max_nanos in
+        as_nanos now ≤ next → as_nanos result ≡ next }
+    ensures late { min (as_nanos due + as_nanos tick) max_nanos < as_nanos now
+        → as_nanos result ≡ min (as_nanos now + as_nanos tick) max_nanos }
+{
+    let next = due.saturating_add(tick);
+    if now.saturating_sub(next).is_zero() {
+        next
+    } else {
+        now.saturating_add(tick)
+    }
+}
+
 impl Beat {
     /// Ticks that last so long, the first one of which begins when it is asked for. An era ends after so many of them at the
     /// latest.
-    pub fn new(tick: Duration, first_end: u64) -> Beat {
+    pub fn new(tick: Duration, first_end: u64) -> Beat
+        ensures tick { (result.tick ≡ tick) × (result.due ≡ None) }
+        ensures era { (result.made ≡ 0) × (result.end_at ≡ first_end) }
+    {
         Beat {
             tick,
             due: None,
@@ -29,7 +51,13 @@ impl Beat {
     }
 
     /// Whether an era ends now for the ticks that were made; the next one does when there are twice as many.
-    pub(crate) fn ends_era(&mut self) -> bool {
+    pub(crate) fn ends_era(&mut self) -> bool
+        ensures yes { IsTrue result ↔ (self.old.end_at ≤ self.old.made) }
+        ensures no { result ≡ false → self.new ≡ self.old }
+        ensures next { IsTrue result → self.new ≡ record self.old {
+          end_at = max (min (self.old.made * 2) u64.MAX) 1;
+        } }
+    {
         if self.made < self.end_at {
             return false;
         }
@@ -37,34 +65,60 @@ impl Beat {
         true
     }
 
-    /// How long it is until a tick is due. A clock that cannot be read says a tick.
-    pub(crate) fn left<C: Clock>(&mut self, clock: &C) -> Duration {
-        let Ok(now) = clock.monotonic() else {
-            return self.tick;
+    /// How long it is from now until a tick is due. The first one is due after a tick.
+    fn left_at(&mut self, now: Duration) -> Duration
+        ensures left { IfSome self.new.due (λ due. as_nanos result
+            ≡ as_nanos due - as_nanos now) }
+        ensures some { IsSome self.new.due }
+        ensures same { IfSome self.old.due (λ due. self.new.due ≡ Some due) }
+        ensures first { self.old.due ≡ None → IfSome self.new.due (λ due. as_nanos due
+            ≡ min (as_nanos now + as_nanos self.old.tick) max_nanos) }
+        ensures rest { self.new ≡ record self.old { due = self.new.due } }
+    {
+        let due = match self.due {
+            Some(due) => due,
+            None => now.saturating_add(self.tick),
         };
-        let due = self.due.unwrap_or(now.saturating_add(self.tick));
         self.due = Some(due);
         due.saturating_sub(now)
     }
 
+    /// How long it is until a tick is due. A clock that cannot be read says a tick.
+    pub(crate) fn left<C: Clock>(&mut self, clock: &C) -> Duration
+        ensures tick { self.new.tick ≡ self.old.tick }
+        ensures era { (self.new.made ≡ self.old.made) × (self.new.end_at ≡ self.old.end_at) }
+        ensures same { IfSome self.old.due (λ due. self.new.due ≡ Some due) }
+    {
+        match clock.monotonic() {
+            Ok(now) => self.left_at(now),
+            Err(_) => self.tick,
+        }
+    }
+
     /// The tick that was due is made. One that is late by more than a tick puts the others off.
-    pub(crate) fn go_on<C: Clock>(&mut self, clock: &C) {
+    pub(crate) fn go_on<C: Clock>(&mut self, clock: &C)
+        ensures made { self.new.made ≡ min (self.old.made + 1) u64.MAX }
+        ensures same { (self.new.tick ≡ self.old.tick) × (self.new.end_at ≡ self.old.end_at) }
+    {
         self.made = self.made.saturating_add(1);
-        let (Some(due), Ok(now)) = (self.due, clock.monotonic()) else {
-            return;
-        };
-        let next = due.saturating_add(self.tick);
-        self.due = Some(if next < now {
-            now.saturating_add(self.tick)
-        } else {
-            next
-        });
+        if let (Some(due), Ok(now)) = (self.due, clock.monotonic()) {
+            self.due = Some(due_after(due, self.tick, now));
+        }
     }
 
     /// The tick that was made last is due again if it found the era full.
-    pub(crate) fn repeat_if(&mut self, was_full: bool) {
-        if was_full {
-            self.due = self.due.map(|due| due.saturating_sub(self.tick));
+    pub(crate) fn repeat_if(&mut self, was_full: bool)
+        ensures no { was_full ≡ false → self.new ≡ self.old }
+        ensures again { IsTrue was_full → IfSome self.old.due (λ due. IfSome self.new.due
+            (λ again. as_nanos again ≡ as_nanos due - as_nanos self.old.tick)) }
+        ensures some { IsSome self.old.due → IsSome self.new.due }
+        ensures rest { self.new ≡ record self.old { due = self.new.due } }
+    {
+        if !was_full {
+            return;
+        }
+        if let Some(due) = self.due {
+            self.due = Some(due.saturating_sub(self.tick));
         }
     }
 }

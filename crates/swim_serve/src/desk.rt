@@ -1,7 +1,7 @@
 //! The worker that answers control lines and joins members.
 
 ghost use Rattle.std.specs.Prelude.{◌≡◌, ◌<◌, ◌≤◌, [], ◌∷◌, ◌++◌, None, IfNone, IfSome, IfOk, IfErr};
-ghost use Rattle.std.specs.Prelude.{OnErr, IsSome, IsTrue, false, ◌+◌, length, option_to_list};
+ghost use Rattle.std.specs.Prelude.{OnErr, OnOk, IsSome, IsTrue, false, ◌+◌, length, option_to_list, min, if◌then◌else◌};
 ghost use Rattle.swim_serve.specs.declared.aside.TheConstants.{OPEN_MAX};
 ghost use Rattle.swim_shell.specs.Joins.{Asks, AsksInVain};
 ghost use Rattle.swim_shell.specs.Calls.{CallerView};
@@ -42,6 +42,17 @@ fn is_of_connection(end: ControlEnd) -> bool
     )
 }
 
+/// To how many connections in a row nothing has come, after one more.
+fn silent_after(silent: usize, is_silent: bool) -> usize
+    ensures { result ≡ (if is_silent then min (silent + 1) usize.MAX else 0) }
+{
+    if is_silent {
+        silent.saturating_add(1)
+    } else {
+        0
+    }
+}
+
 impl<W: Log + Clock + Drop, O: Doors + Drop> Desk<W, O> {
     /// A desk at these doors, with no connection open.
     pub fn new(alloc: Global, rt: W, joiner: Joiner, doors: O) -> Result<Desk<W, O>, AllocError>
@@ -68,11 +79,7 @@ impl<W: Log + Clock + Drop, O: Doors + Drop> Desk<W, O> {
         ensures same { (self.new.conversation ≡ self.old.conversation)
             × (self.new.joiner ≡ self.old.joiner) }
     {
-        self.silent = if conversation.is_silent() {
-            self.silent.saturating_add(1)
-        } else {
-            0
-        };
+        self.silent = silent_after(self.silent, conversation.is_silent());
         self.others.push(conversation);
     }
 
@@ -113,6 +120,7 @@ impl<W: Log + Clock + Drop, O: Doors + Drop> Desk<W, O> {
             ≡ next ∷ self.new.others) }
         ensures none { IfNone result (self.new.others ≡ self.old.others) }
         ensures room { IfSome result (λ _. length self.new.others < OPEN_MAX) }
+        ensures silent { IfNone result (length self.old.others ≤ self.old.silent) }
         ensures same { (self.new.conversation ≡ self.old.conversation)
             × (self.new.joiner ≡ self.old.joiner) }
     {
@@ -151,6 +159,10 @@ impl<W: Log + Clock + Drop, O: Doors + Drop> Desk<W, O> {
         ensures nobody { OnErr result ((self.new.conversation ≡ None)
             × (self.new.others ≡ self.old.others)) }
         ensures list { self.new.joiner.peers.list ≡ self.old.joiner.peers.list }
+
+        // Nobody gets the turns only where nothing had come to any of the others.
+        ensures silent { OnOk result (self.new.conversation ≡ None
+            → length self.old.others ≤ self.old.silent) }
     {
         self.joiner.turn(&self.rt, caller)?;
         if self.others.len() < OPEN_MAX {

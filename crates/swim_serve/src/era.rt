@@ -56,6 +56,7 @@ fn callers_of<'x, N: Name, D: Disk, R: Wait + Log + Clock + Drop>(
     passes: &mut Vec<Pass<N>>,
     watches: &mut Vec<Watch<N>>,
     logs: &Logs,
+    pace: &'x Pace,
 ) -> Option<(Callers<'x, Share<'x, N, D, R>, R>, Shown<'x, N, D, R>)>
     requires { passes.old.items ≡ new_passes CALLERS }
     ensures receiver { IfSome result (λ c. known_of c.0.receiver.caller ≡ new_caller 0) }
@@ -63,6 +64,9 @@ fn callers_of<'x, N: Name, D: Disk, R: Wait + Log + Clock + Drop>(
     ensures sender { IfSome result (λ c. known_of c.0.sender ≡ new_caller 2) }
     ensures control { IfSome result (λ c. known_of c.1.handle ≡ new_caller 3) }
     ensures all { IfSome result (λ _. passes.new.items ≡ []) }
+    ensures logs { IfSome result (λ c. (c.0.receiver.numbers ≡ logs.now.numbers)
+        × (c.0.receiver.caller.notes ≡ logs.now.receiver) × (c.0.ticker.notes ≡ logs.now.ticker)
+        × (c.0.sender.notes ≡ logs.now.sender) × (c.1.handle.notes ≡ logs.now.control)) }
 {
     let control = Handle::new(rt, shared, passes.pop()?, logs.control);
     let control = Observing::new(control, watches.pop()?);
@@ -70,7 +74,7 @@ fn callers_of<'x, N: Name, D: Disk, R: Wait + Log + Clock + Drop>(
     let ticker = Handle::new(rt, shared, passes.pop()?, logs.ticker);
     let receiver = Handle::new(rt, shared, passes.pop()?, logs.receiver);
     let callers = Callers {
-        receiver: Minding::new(rt, receiver, logs.numbers),
+        receiver: Minding::new(rt, pace, receiver, logs.numbers),
         ticker,
         sender,
     };
@@ -201,6 +205,14 @@ fn take_apart<
         × (result.passes.control ≡ control.entry.caller.handle.pass)
         × (result.ends.control ≡ control.entry.end) × IsPass N.base result.passes.control }
     ensures room { result.room ≡ room }
+    ensures logs { result.outside.logs ≡ record {
+      numbers = receiver.entry.caller.numbers;
+      receiver = receiver.entry.caller.caller.notes;
+      ticker = ticker.entry.caller.notes;
+      sender = sender.entry.caller.notes;
+      control = control.entry.caller.handle.notes;
+    } }
+    ensures rest { (result.outside.beat ≡ beat) × (result.outside.owed ≡ 0) }
 {
     let (handle, numbers) = receiver.caller.into_parts();
     let (receiver_pass, receiver_notes) = handle.into_parts();
@@ -323,7 +335,8 @@ fn work<
         owed,
         mut beat,
     } = outside;
-    let made = callers_of(rt, shared, &mut passes, &mut watches, &logs);
+    let pace = ending.pace();
+    let made = callers_of(rt, shared, &mut passes, &mut watches, &logs, pace);
     let (mut callers, shown) = made.ok_or(Refusal::Memory)?;
     tell(&mut callers.sender, owed)?;
     let workers = Workers {
@@ -337,7 +350,7 @@ fn work<
         rt,
         worker: desk,
         caller: shown,
-        gate: Ringing::new(ending.pace()),
+        gate: Ringing::new(pace),
         ending,
     };
     let ends = attend_shared(rt, ending, &mut beat, callers, workers, control);

@@ -1,6 +1,9 @@
 //! How fast the workers turn. All but the sender ring a bell between two turns, and the sender rests until it rings, so that
 //! what a call put into the outbox goes out at once and nobody spins.
 
+ghost use Rattle.std.specs.Prelude.{◌≡◌, if◌then◌else◌};
+ghost use Rattle.swim_shell.specs.declared.gate.Turn.TheVariants as turning;
+
 use crate::beat::Beat;
 use crate::bell::Bell;
 use std::sync::Wait;
@@ -8,6 +11,13 @@ use std::sync::atomic::{AtomicBool, Ordering};
 use std::thread::Parker;
 use std::time::{Clock, Duration};
 use swim_shell::{Gate, Turn};
+
+/// Whether a worker goes on in an era that is over, or is not.
+fn turn_if_over(is_over: bool) -> Turn
+    ensures { result ≡ (if is_over then turning.Stop else turning.Go) }
+{
+    if is_over { Turn::Stop } else { Turn::Go }
+}
 
 /// What the gates of an era share.
 #[derive(Drop)]
@@ -46,11 +56,7 @@ impl Pace {
 
     /// Whether a worker goes on: until one has ended.
     fn turn(&self) -> Turn {
-        if self.has_ended.load(Ordering::SeqCst) {
-            Turn::Stop
-        } else {
-            Turn::Go
-        }
+        turn_if_over(self.has_ended.load(Ordering::SeqCst))
     }
 }
 

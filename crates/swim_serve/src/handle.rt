@@ -3,6 +3,7 @@
 ghost use Rattle.std.specs.Prelude.{◌≡◌, [], false};
 ghost use Rattle.swim_node.specs.History.{IsLegal};
 ghost use Rattle.swim_shared.specs.Passes.{IsPass};
+ghost use Rattle.swim_serve.specs.Numbers.{origin_of};
 
 use crate::note_log::NoteLog;
 use log::Log;
@@ -30,7 +31,9 @@ pub struct Handle<'a, N: Name, D: Disk, L: Link, R: Wait + Drop, W: Wait + Log +
 }
 
 /// Whence the bytes came that the event is about.
-fn origin_of(event: &Event) -> Option<Endpoint> {
+fn origin_of(event: &Event) -> Option<Endpoint>
+    ensures { result ≡ origin_of event.now }
+{
     match event {
         Event::Datagram { from, .. } => Some(*from),
         _ => None,
@@ -50,6 +53,7 @@ impl<'a, N: Name, D: Disk, L: Link, R: Wait + Drop, W: Wait + Log + Clock> Handl
         ensures pass { result.pass ≡ pass }
         ensures spent { result.is_spent ≡ false }
         ensures asked { result.asked ≡ [] }
+        ensures notes { result.notes ≡ notes }
     {
         Handle {
             rt,
@@ -72,6 +76,7 @@ impl<'a, N: Name, D: Disk, L: Link, R: Wait + Drop, W: Wait + Log + Clock> Handl
     pub fn into_parts(self) -> (Pass<N>, NoteLog)
         ensures pass { result.0 ≡ self.entry.pass }
         ensures is_pass { IsPass N.base result.0 }
+        ensures notes { result.1 ≡ self.entry.notes }
     {
         let _ = self.pass.calls();
         let Handle {

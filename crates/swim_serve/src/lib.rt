@@ -33,7 +33,7 @@ pub use minding::Minding;
 pub use note_log::{LOGGED_MAX, NoteLog};
 pub use number_log::NumberLog;
 pub use outgoing::{RingLink, RingSender};
-pub use serving::{Fault, run_member};
+pub use serving::{Fault, MemberEnd, run_member};
 
 #[cfg(test)]
 mod tests;

@@ -1,37 +1,54 @@
-//! A caller that minds what datagrams say of the own number.
+//! A caller that minds what datagrams say of the member.
 
 ghost use Rattle.std.specs.Prelude.{◌≡◌};
+ghost use Rattle.swim_member.specs.declared.note.Note.TheVariants as noted;
+ghost use Rattle.swim_serve.specs.Notes.{has_note};
+ghost use Rattle.swim_serve.specs.Numbers.{said_in};
 
+use crate::gates::Pace;
+use crate::note_log::has_note;
 use crate::number_log::NumberLog;
 use log::Log;
-use swim_member::Event;
+use swim_member::{Event, Note};
 use swim_node::Reply;
 use swim_shell::{Caller, Refusal};
 
-/// Calls as its caller does, and logs what each datagram that it enters shows of the own number.
+/// Calls as its caller does, logs what each datagram that it enters shows of the own number, and ends the era in which one
+/// expels the member.
 #[derive(Drop)]
 pub struct Minding<'a, C: Caller + Drop, W: Log> {
     rt: &'a W,
+    pace: &'a Pace,
     caller: C,
     numbers: NumberLog,
 }
 
 /// The greatest number that the datagram of an event says of the member; none if it is of no datagram.
-fn said_in(numbers: &NumberLog, event: &Event) -> Option<u64> {
+fn said_in(numbers: &NumberLog, event: &Event) -> Option<u64>
+    ensures { result ≡ said_in numbers.now.me event.now }
+{
     match event {
         Event::Datagram { bytes, .. } => Some(numbers.said_by(bytes.as_slice())),
         _ => None,
     }
 }
 
+/// Whether the call that was answered so expelled the member.
+fn is_expulsion(reply: &Reply) -> bool
+    ensures { result ≡ has_note noted.Expelled reply.now.notes.items }
+{
+    has_note(reply.notes.as_slice(), Note::Expelled)
+}
+
 impl<'a, C: Caller + Drop, W: Log> Minding<'a, C, W> {
-    /// Calls by this caller, and goes on with what was logged.
-    pub fn new(rt: &'a W, caller: C, numbers: NumberLog) -> Self
+    /// Calls by this caller in the era of this pace, and goes on with what was logged.
+    pub fn new(rt: &'a W, pace: &'a Pace, caller: C, numbers: NumberLog) -> Self
         ensures caller { result.caller ≡ caller }
         ensures numbers { result.numbers ≡ numbers }
     {
         Minding {
             rt,
+            pace,
             caller,
             numbers,
         }
@@ -44,6 +61,7 @@ impl<'a, C: Caller + Drop, W: Log> Minding<'a, C, W> {
     {
         let Minding {
             rt: _,
+            pace: _,
             caller,
             numbers,
         } = self;
@@ -62,6 +80,9 @@ impl<'a, C: Caller + Drop, W: Log> Caller for Minding<'a, C, W> {
             Ok(reply) => {
                 if let Some(said) = said {
                     self.numbers.log(self.rt, said, &reply);
+                }
+                if is_expulsion(&reply) {
+                    self.pace.end();
                 }
                 Ok(reply)
             }

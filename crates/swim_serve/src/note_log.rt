@@ -1,6 +1,7 @@
 //! What the workers write to the log: the notes of their calls, and how many they left out.
 
-ghost use Rattle.std.specs.Prelude.{◌<◌};
+ghost use Rattle.std.specs.Prelude.{◌≡◌, ◌<◌, ◌+◌, ◌↔◌, min, IsTrue, false};
+ghost use Rattle.swim_serve.specs.Notes.{has_note};
 
 use log::{Log, warn};
 use std::time::Clock;
@@ -23,6 +24,27 @@ struct Kind {
     left_out: u32,
 }
 
+impl Kind {
+    /// Whether one more note of the kind is written in this second. One that is not is counted.
+    fn takes(&mut self, note: Note) -> bool
+        ensures yes { IsTrue result ↔ (self.old.logged < LOGGED_MAX) }
+        ensures written { IsTrue result
+            → self.new ≡ record self.old { logged = self.old.logged + 1 } }
+        ensures left_out { result ≡ false → self.new ≡ record self.old {
+          note = note;
+          left_out = min (self.old.left_out + 1) u32.MAX;
+        } }
+    {
+        if self.logged < LOGGED_MAX {
+            self.logged += 1;
+            return true;
+        }
+        self.note = note;
+        self.left_out = self.left_out.saturating_add(1);
+        false
+    }
+}
+
 const NOTHING: Kind = Kind {
     note: Note::Stopped,
     logged: 0,
@@ -37,6 +59,19 @@ pub struct NoteLog {
     has_left_out: bool,
     has_stopped: bool,
     kinds: [Kind; KINDS],
+}
+
+/// Whether one of the notes has the number of this one.
+pub(crate) fn has_note(notes: &[Note], wanted: Note) -> bool
+    ensures { result ≡ has_note wanted notes.now }
+{
+    let number = wanted.number();
+    for note in notes {
+        if note.number() == number {
+            return true;
+        }
+    }
+    false
 }
 
 /// Writes one note, with whence the datagram came that it is about.
@@ -76,15 +111,13 @@ impl NoteLog {
     /// Writes a note, or counts it where too many of its kind were written in this second.
     fn add<W: Log>(&mut self, rt: &W, note: Note, from: &Option<Endpoint>) {
         let place = usize::from(note.number()) - 1;
-        let kind = self.kinds[place];
-        if kind.logged < LOGGED_MAX {
-            self.kinds[place].logged = kind.logged + 1;
+        let mut kind = self.kinds[place];
+        if kind.takes(note) {
             write(rt, note, from);
         } else {
-            self.kinds[place].note = note;
-            self.kinds[place].left_out = kind.left_out.saturating_add(1);
             self.has_left_out = true;
         }
+        self.kinds[place] = kind;
     }
 
     /// Logs the notes of a reply. A clock that cannot be read begins no second.

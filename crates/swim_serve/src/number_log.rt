@@ -1,9 +1,12 @@
 //! What the receiver writes to the log of the own number: that the group knows a greater one, and that none can be saved.
 
-ghost use Rattle.std.specs.Prelude.{◌≡◌, ◌<◌, ◌↔◌, IsTrue, false};
+ghost use Rattle.std.specs.Prelude.{◌≡◌, ◌≢◌, ◌+◌, ◌↔◌, IsTrue, false};
+ghost use Rattle.swim_member.specs.declared.note.Note.TheVariants as noted;
 ghost use Rattle.swim_wire.specs.Decoding.{decoded};
-ghost use Rattle.swim_serve.specs.Numbers.{number_of, greatest_said, number_said, is_refusal, is_refused};
+ghost use Rattle.swim_serve.specs.Notes.{has_note};
+ghost use Rattle.swim_serve.specs.Numbers.{number_of, greatest_said, number_said, is_refusal, is_refused, IsOtherLife};
 
+use crate::note_log::has_note;
 use log::{Log, error};
 use swim_member::{Note, Phase};
 use swim_node::{Reply, Status};
@@ -119,16 +122,18 @@ impl NumberLog {
 
     /// Whether a number that a datagram said is one of another life, and is to be logged. The reply is that to the datagram.
     fn is_other_life(&self, said: u64, reply: &Reply) -> bool
-        ensures { IsTrue result ↔ (self.now.number < said) × (self.now.told < said)
-            × (self.now.lives < LIVES_MAX) × (is_refused reply.now.notes.items ≡ false) }
+        ensures { IsTrue result ↔ IsOtherLife self.now said reply.now.notes.items }
     {
         let is_news = self.told < said && self.lives < LIVES_MAX;
         self.number < said && is_news && !is_refused(reply.notes.as_slice())
     }
 
     /// Whether a save failed, for the first time since one was done.
-    fn is_first_failure(&self, reply: &Reply) -> bool {
-        let failed = reply.notes.as_slice().contains(&Note::SaveFailed);
+    fn is_first_failure(&self, reply: &Reply) -> bool
+        ensures { IsTrue result ↔ IsTrue (has_note noted.SaveFailed reply.now.notes.items)
+            × (self.now.failed_at ≢ Some reply.now.status.number) }
+    {
+        let failed = has_note(reply.notes.as_slice(), Note::SaveFailed);
         failed && self.failed_at != Some(reply.status.number)
     }
 
@@ -136,6 +141,14 @@ impl NumberLog {
     pub(crate) fn log<W: Log>(&mut self, rt: &W, said: u64, reply: &Reply)
         ensures me { self.new.me ≡ self.old.me }
         ensures number { self.new.number ≡ reply.now.status.number }
+        ensures other { IsOtherLife self.old said reply.now.notes.items
+            → (self.new.told ≡ said) × (self.new.lives ≡ self.old.lives + 1) }
+        ensures same { ¬ IsOtherLife self.old said reply.now.notes.items
+            → (self.new.told ≡ self.old.told) × (self.new.lives ≡ self.old.lives) }
+        ensures failed { IsTrue (has_note noted.SaveFailed reply.now.notes.items)
+            → self.new.failed_at ≡ Some reply.now.status.number }
+        ensures saved { has_note noted.SaveFailed reply.now.notes.items ≡ false
+            → self.new.failed_at ≡ self.old.failed_at }
     {
         if self.is_other_life(said, reply) {
             self.told = said;

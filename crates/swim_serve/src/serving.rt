@@ -1,14 +1,13 @@
 //! A member from one era to the next.
 
-ghost use Rattle.std.specs.Prelude.{◌≡◌, [], IfOk, IfSome};
+ghost use Rattle.std.specs.Prelude.{◌≡◌, [], IfOk};
 ghost use Rattle.swim_node.specs.Lives.{IsRaised};
 ghost use Rattle.swim_node.specs.Node.{next_base};
 ghost use Rattle.swim_shell.specs.Ticks.{answers};
-ghost use Rattle.swim_serve.specs.Desks.{Tended, desk_of};
-ghost use Rattle.swim_serve.specs.Eras.{EraOf, SendsAll, Serves};
+ghost use Rattle.swim_serve.specs.Desks.{desk_of};
 ghost use Rattle.swim_serve.specs.Faults.{by_desk, by_receiver, by_refusal, fault_by, fault_of};
-ghost use Rattle.swim_serve.specs.Views.{new_caller};
-ghost use Rattle.swim_serve.specs.Works.{Received, Ticked, receiver_of};
+ghost use Rattle.swim_serve.specs.Members.{Era, Lived, end_by_phase, member_end, member_of};
+ghost use Rattle.swim_serve.specs.Works.{receiver_of};
 
 use crate::era::{CALLERS, EraEnd, EraEnds, Outside, WATCHES, run_era};
 use log::{Log, warn};
@@ -18,6 +17,7 @@ use std::sync::{Wait, WaitMethods};
 use std::thread::Threads;
 use std::time::Clock;
 use swim_disk::Disk;
+use swim_member::Phase;
 use swim_node::{Link, Node};
 use swim_shared::{Outbox, Parts, Sender as Ring};
 use swim_shell::{Alarmed, ControlEnd, Doors, Refusal, WorkerEnd};
@@ -32,6 +32,15 @@ pub enum Fault {
     Memory,
     /// A worker ended so.
     Worker(WorkerEnd),
+}
+
+/// How a member ends that no fault ends.
+#[derive(Clone, Copy, Debug, PartialEq, Eq)]
+pub enum MemberEnd {
+    /// The line `stop` told it to.
+    Stopped,
+    /// It was expelled.
+    Expelled,
 }
 
 /// What a refusal of an era's beginning comes to.
@@ -117,11 +126,7 @@ fn outbox_of(alloc: Global) -> Result<(Outbox, Ring), Fault>
     Outbox::new(alloc, OUTBOX_PLACES).ok().ok_or(Fault::Memory)
 }
 
-/// What is left of an era, at the beginning of the next.
-type Left<D, I, M, R, O> = (Node<D>, Outside<I, M, R, O>);
-
-/// One era of a node, and what the next one begins with; none where the line `stop` ended it. A tick that found the era full
-/// is due again.
+/// One era of a node, and what the next one begins with. A tick that found the era full is due again.
 fn one_era<
     D: Disk + Send + Drop,
     R: Threads + Wait + Log + Clock + Send + Sync + Copy + Drop,
@@ -134,51 +139,65 @@ fn one_era<
     node: Node<D>,
     outside: Outside<I, M, R, O>,
     alarms: &[I::Alarm],
-) -> Result<Option<Left<D, I, M, R, O>>, Fault>
+) -> Result<EraEnd<D, I, M, R, O>, Fault>
     requires { node.entries ≡ [] }
-    ensures entries { IfOk result (λ next. IfSome next (λ left. left.0.entries ≡ [])) }
-    ensures owner { IfOk result (λ next. IfSome next (λ left. left.0.owner ≡ node.owner)) }
-    ensures first { IfOk result (λ next. IfSome next (λ left. left.0.first ≡ node.first)) }
-    ensures era { IfOk result (λ next. IfSome next (λ left. EraOf node.base left.0.base
-        (Serves (Received I.tells node.base.limit)
-        (receiver_of I.came I.failures outside.receiver) (new_caller 0)
-        (receiver_of I.came I.failures left.1.receiver))
-        (Serves (Ticked node.base.limit) (answers outside.ticker.rng) (new_caller 1)
-        (answers left.1.ticker.rng))
-        (SendsAll M.tells M.took M.failures node.base.limit outside.owed left.1.owed
-        outside.link left.1.link)
-        (Serves (Tended O.Reader.remaining O.Writer.contents node.base.limit)
-        (desk_of outside.desk.joiner outside.desk.conversation outside.desk.others)
-        (new_caller 3)
-        (desk_of left.1.desk.joiner left.1.desk.conversation left.1.desk.others)))) }
+    ensures entries { IfOk result (λ end. end.node.entries ≡ []) }
+    ensures owner { IfOk result (λ end. end.node.owner ≡ node.owner) }
+    ensures first { IfOk result (λ end. end.node.first ≡ node.first) }
+    ensures era { IfOk result (λ end. Era I.tells M.tells M.took M.failures O.Reader.remaining
+        O.Writer.contents
+        (member_of node.base (receiver_of I.came I.failures outside.receiver)
+        (answers outside.ticker.rng) outside.link outside.owed
+        (desk_of outside.desk.joiner outside.desk.conversation outside.desk.others))
+        (member_of end.node.base (receiver_of I.came I.failures end.outside.receiver)
+        (answers end.outside.ticker.rng) end.outside.link end.outside.owed
+        (desk_of end.outside.desk.joiner end.outside.desk.conversation
+        end.outside.desk.others)) end.ends) }
 {
     let (outbox, ring) = outbox_of(alloc)?;
     let parts = Parts::new(node, outbox, CALLERS, WATCHES);
     let ended = run_era::<Brand, _, _, _, _, _>(rt, alloc, parts, ring, outside, alarms);
-    let EraEnd {
-        mut node,
-        mut outside,
-        ends,
-        odd: _,
-    } = match ended {
+    let mut end = match ended {
         Ok(end) => end,
         Err(why) => return Err(fault_by(why)),
     };
-    if let Some(fault) = fault_of(&ends) {
+    if let Some(fault) = fault_of(&end.ends) {
         return Err(fault);
     }
-    end_era(rt, &mut node);
-    if ends.control == Some(ControlEnd::Asked) {
-        return Ok(None);
-    }
-    outside
-        .beat
-        .repeat_if(ends.ticker == Some(Refusal::EraFull));
-    Ok(Some((node, outside)))
+    end_era(rt, &mut end.node);
+    let was_full = end.ends.ticker == Some(Refusal::EraFull);
+    end.outside.beat.repeat_if(was_full);
+    Ok(end)
 }
 
-/// Runs a member era after era, until the line `stop` is answered or a worker ends otherwise than by a full era. The alarms
-/// end the waits of its sockets.
+/// How a member in this phase ends by it, if it does.
+fn end_by_phase(phase: Phase, ends_expelled: bool) -> Option<MemberEnd>
+    ensures { result ≡ end_by_phase phase ends_expelled }
+{
+    match phase {
+        Phase::Expelled => {
+            if ends_expelled {
+                Some(MemberEnd::Expelled)
+            } else {
+                None
+            }
+        }
+        Phase::Running | Phase::Left => None,
+    }
+}
+
+/// How the member ends after an era, if it does: told by the line `stop`, or else by its phase.
+fn member_end(control: Option<ControlEnd>, phase: Phase, ends_expelled: bool) -> Option<MemberEnd>
+    ensures { result ≡ member_end control phase ends_expelled }
+{
+    match control {
+        Some(ControlEnd::Asked) => Some(MemberEnd::Stopped),
+        _ => end_by_phase(phase, ends_expelled),
+    }
+}
+
+/// Runs a member era after era, until the line `stop` is answered, or a worker ends otherwise than by a full era, or, if
+/// it is to end then, until it is expelled. The alarms end the waits of its sockets.
 pub fn run_member<
     D: Disk + Send + Drop,
     R: Threads + Wait + Log + Clock + Send + Sync + Copy + Drop,
@@ -191,15 +210,23 @@ pub fn run_member<
     node: Node<D>,
     outside: Outside<I, M, R, O>,
     alarms: &[I::Alarm],
-) -> Result<(), Fault>
+    ends_expelled: bool,
+) -> Result<MemberEnd, Fault>
     requires { node.entries ≡ [] }
+    ensures { IfOk result (Lived I.tells M.tells M.took M.failures O.Reader.remaining
+        O.Writer.contents ends_expelled
+        (member_of node.base (receiver_of I.came I.failures outside.receiver)
+        (answers outside.ticker.rng) outside.link outside.owed
+        (desk_of outside.desk.joiner outside.desk.conversation outside.desk.others))) }
 {
     let mut left = (node, outside);
     for _ in rt.forever() {
-        match one_era(rt, alloc, left.0, left.1, alarms)? {
-            Some(next) => left = next,
-            None => return Ok(()),
+        let era = one_era(rt, alloc, left.0, left.1, alarms)?;
+        let phase = era.node.status().phase;
+        if let Some(end) = member_end(era.ends.control, phase, ends_expelled) {
+            return Ok(end);
         }
+        left = (era.node, era.outside);
     }
     unreachable!()
 }

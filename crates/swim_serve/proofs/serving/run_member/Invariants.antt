@@ -1,6 +1,17 @@
 use Rattle.std.proofs.Common.{◌≡◌, []}
+use Rattle.swim_shell.specs.Ticks.{answers}
+use Rattle.swim_serve.specs.Desks.{desk_of}
+use Rattle.swim_serve.specs.Members.{Era, Eras, member_of}
+use Rattle.swim_serve.specs.Works.{receiver_of}
 use Rattle.swim_serve.proofs.serving.run_member.Given as goal
 
--- each era begins with an empty journal
+-- each era begins with an empty journal, after those that were
 abbrev pub invariant-loop : goal.invariant-loop
-invariant-loop g l = l.left.0.entries ≡ []
+invariant-loop g l =
+    let came = receiver_of g.I.Inbound.came g.I.Inbound.failures in
+    let first = l.fn.outside in
+    let now = l.left.1 in
+    (l.left.0.entries ≡ []) × Eras
+    (Era g.I.Inbound.tells g.M.Link.tells g.M.Link.took g.M.Link.failures g.O.Reader.Read.remaining g.O.Writer.Write.contents)
+    (member_of l.fn.node.base (came first.receiver) (answers first.ticker.rng) first.link first.owed (desk_of first.desk.joiner first.desk.conversation first.desk.others))
+    (member_of l.left.0.base (came now.receiver) (answers now.ticker.rng) now.link now.owed (desk_of now.desk.joiner now.desk.conversation now.desk.others))
