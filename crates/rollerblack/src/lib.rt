@@ -93,7 +93,8 @@
 //! # Over UDP
 //!
 //! `run_member` gives a member workers on threads of their own: one takes datagrams, one ticks, one sends, and one answers control
-//! lines and joins other members. It ends by the control line `stop`, or by a fault.
+//! lines and joins other members. It ends by the control line `stop`, by a fault, or, if it is told to end then, once it is
+//! expelled. This one stays.
 //!
 //! ```text
 //! /// Opens a member on its state file.
@@ -148,7 +149,10 @@
 //!         desk,
 //!         logs: Logs::new(settings.me, node.first()),
 //!     };
-//!     run_member(logged, alloc, node, outside, &[datagrams, connections]).map_err(|_| "a worker")
+//!     let alarms = [datagrams, connections];
+//!     let ended = run_member(logged, alloc, node, outside, &alarms, false);
+//!     ended.map_err(|_| "a worker")?;
+//!     Ok(())
 //! }
 //! ```
 //!
@@ -220,7 +224,7 @@ pub use swim_node::{
 pub use swim_shared::{CallFault, Closed, ClosedSent, Name, Outbox, Parts, Pass, Shared, Watch};
 
 // The workers of a member that runs, and what they ask of their surroundings.
-pub use swim_serve::{Beat, Desk, Fault, Logs, Outside, run_member};
+pub use swim_serve::{Beat, Desk, Fault, Logs, MemberEnd, Outside, run_member};
 pub use swim_shell::{
     Alarm, Alarmed, Caller, ControlEnd, Doors, Inbound, Joiner, LIST_MAX, Observer, Paces,
     ReceiveFault, Receiver, Refusal, Ticker, WorkerEnd,

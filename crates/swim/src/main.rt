@@ -1,34 +1,35 @@
 //! A member of a group, as a program: `swim init` makes its state file, `swim run` runs it, `swim ctl`,
-//! `swim members` and `swim watch` ask it, and `swim play` plays a script over a member in memory.
+//! `swim members` and `swim watch` ask it, `swim play` plays a script over a member in memory, `swim check` looks at
+//! what the members of a group sent, and `swim simulate` plays whole groups.
 #![tactic(auto)]
 
 use clap::Error;
 use clap::error::ErrorKind;
 use log::{Log, Logged};
-use std::env;
 use std::io::{self, Read, Write};
 use std::process::ExitCode;
 use std::sync::Wait;
 use std::thread::Threads;
 use std::time::Clock;
+use std::{env, fs};
+use swim_check::{Stop, check};
 use swim_cli::{
     Ending, LogStream, Stamped, Subcommand, ask, hold_standard, level, make, read_words, run,
     show_members, watch_members,
 };
 use swim_play::play;
 use swim_script::ScriptFault;
+use swim_simulate::{Asked, AskedFault};
 
 /// The exit status where the words are refused.
 const REFUSED: u8 = 2;
 
-/// All of standard input.
-fn read_input(rt: &HostRuntime) -> Result<Vec<u8>, Ending> {
-    let mut script = Vec::new(rt.alloc());
-    match rt.stdin().read_to_end(&mut script) {
-        Ok(_) => Ok(script),
-        Err(error) if error.kind() == io::ErrorKind::OutOfMemory => {
-            Err(Ending::Script(ScriptFault::NO_MEMORY))
-        }
+/// All of standard input, or this ending where there is no memory for it.
+fn read_input(rt: &HostRuntime, lacks: Ending) -> Result<Vec<u8>, Ending> {
+    let mut input = Vec::new(rt.alloc());
+    match rt.stdin().read_to_end(&mut input) {
+        Ok(_) => Ok(input),
+        Err(error) if error.kind() == io::ErrorKind::OutOfMemory => Err(lacks),
         Err(_) => Err(Ending::File),
     }
 }
@@ -40,10 +41,30 @@ fn print_bytes(rt: &HostRuntime, bytes: &[u8]) -> Result<(), Ending> {
 
 /// Plays the script on standard input, and prints its transcript.
 fn play_input(rt: &HostRuntime) -> Result<ExitCode, Ending> {
-    let script = read_input(rt)?;
+    let script = read_input(rt, Ending::Script(ScriptFault::NO_MEMORY))?;
     let transcript = play(rt.alloc(), &script).map_err(Ending::Script)?;
     print_bytes(rt, transcript.text.as_bytes())?;
     Ok(ExitCode::SUCCESS)
+}
+
+/// Says whether the capture on standard input keeps the law of the group, or which of its datagrams breaks it first.
+fn check_input(rt: &HostRuntime) -> Result<ExitCode, Ending> {
+    let capture = read_input(rt, Ending::Memory)?;
+    match check(rt.alloc(), &capture) {
+        Ok(count) => {
+            println!(rt; "{count} datagrams keep the law").map_err(|_| Ending::File)?;
+            Ok(ExitCode::SUCCESS)
+        }
+        Err(stop @ Stop::Broken(..)) => {
+            println!(rt; "{stop}").map_err(|_| Ending::File)?;
+            Ok(ExitCode::FAILURE)
+        }
+        Err(Stop::NoMemory) => Err(Ending::Memory),
+        Err(stop) => {
+            let _ = eprintln!(rt; "swim: capture refused {stop}");
+            Ok(ExitCode::from(REFUSED))
+        }
+    }
 }
 
 /// Asks a member, and prints its answer. The status says whether it begins with `ok`.
@@ -54,6 +75,22 @@ fn ask_member(rt: &HostRuntime, to: &str, line: &str) -> Result<ExitCode, Ending
         ExitCode::SUCCESS
     } else {
         ExitCode::FAILURE
+    })
+}
+
+/// Simulates a group, and prints what was measured. A refused plan is named on standard error.
+fn simulate_group(rt: &HostRuntime, asked: &Asked<'_>) -> Result<ExitCode, Ending> {
+    let fault = match swim_simulate::answer(rt, asked) {
+        Ok(text) => {
+            print_bytes(rt, text.as_bytes())?;
+            return Ok(ExitCode::SUCCESS);
+        }
+        Err(fault) => fault,
+    };
+    let _ = eprintln!(rt; "swim: {fault}");
+    Ok(match fault {
+        AskedFault::Plan(_) => ExitCode::from(REFUSED),
+        _ => ExitCode::FAILURE,
     })
 }
 
@@ -87,6 +124,21 @@ fn answer<T: Threads + Wait + Log + Clock + Send + Sync + Copy + Drop>(
             Ok(ExitCode::SUCCESS)
         }
         Subcommand::Play => play_input(rt),
+        Subcommand::Check => check_input(rt),
+        Subcommand::Simulate {
+            plan,
+            seed,
+            runs,
+            csv,
+        } => {
+            let asked = Asked {
+                plan,
+                seed,
+                runs,
+                csv,
+            };
+            simulate_group(rt, &asked)
+        }
     }
 }
 

@@ -10,6 +10,9 @@ const NUMBER_LIMIT: u64 = 9_223_372_036_854_775_807;
 /// The most milliseconds from one comparison to the next, an hour.
 const EVERY_LIMIT: u64 = 3_600_000;
 
+/// The most runs of a simulation.
+const RUNS_LIMIT: u64 = 100_000;
+
 /// What the words ask for.
 #[derive(Clone, Copy, Debug, PartialEq, Eq)]
 pub enum Subcommand<'a> {
@@ -54,6 +57,19 @@ pub enum Subcommand<'a> {
     },
     /// A script from standard input.
     Play,
+    /// A capture from standard input.
+    Check,
+    /// A group that is simulated.
+    Simulate {
+        /// The path of its plan, if there is one.
+        plan: Option<&'a str>,
+        /// What all that is drawn comes from.
+        seed: u64,
+        /// How many runs.
+        runs: u64,
+        /// The path of a file for the kills, if one is wanted.
+        csv: Option<&'a str>,
+    },
 }
 
 /// A word that has to be there, by its place.
@@ -147,12 +163,37 @@ fn ctl_command<'a>(alloc: Global) -> Result<Command<'a>, Error> {
     Ok(command)
 }
 
+/// `swim simulate [PLAN] [--seed N] [--runs N] [--csv FILE]`.
+fn simulate_command<'a>(alloc: Global) -> Result<Command<'a>, Error> {
+    let seed = number(alloc, "seed", "What all that is drawn comes from").default_value("1");
+    let runs = number(alloc, "runs", "How many runs, each by the next seed")
+        .value_parser(ValueParser::unsigned(1, RUNS_LIMIT))
+        .default_value("1");
+    let csv = word(
+        alloc,
+        "csv",
+        "FILE",
+        "A new file for the kills, a line each",
+    )
+    .long("csv");
+    let command = Command::new(alloc, "simulate")
+        .about("Simulates a group, and prints how soon it noticed who was killed")
+        .arg(word(alloc, "plan", "PLAN", "What is simulated, a TOML table").required(false))?
+        .arg(seed)?
+        .arg(runs)?
+        .arg(csv.required(false))?;
+    Ok(command)
+}
+
 /// All that the program takes.
 fn command<'a>(alloc: Global) -> Result<Command<'a>, Error> {
     let run = Command::new(alloc, "run")
         .about("Runs a member until it is stopped")
         .arg(word(alloc, "config", "CONFIG", "The settings, a TOML table"))?;
     let play = Command::new(alloc, "play").about("Plays a script from standard input");
+    let check = Command::new(alloc, "check").about(
+        "Looks in a capture from standard input for a datagram that breaks the law of the group",
+    );
     let command = Command::new(alloc, "swim")
         .version("0.1.0")
         .about("A member of a SWIM group that survives its own restarts")
@@ -164,7 +205,9 @@ fn command<'a>(alloc: Global) -> Result<Command<'a>, Error> {
         .subcommand(ctl_command(alloc)?)?
         .subcommand(members_command(alloc)?)?
         .subcommand(watch_command(alloc)?)?
-        .subcommand(play)?;
+        .subcommand(play)?
+        .subcommand(check)?
+        .subcommand(simulate_command(alloc)?)?;
     Ok(command)
 }
 
@@ -199,6 +242,13 @@ fn chosen<'a>(matches: &ArgMatches<'a>) -> Option<Subcommand<'a>> {
             every: words.get_one::<u64>("every")?,
         }),
         ("play", _) => Some(Subcommand::Play),
+        ("check", _) => Some(Subcommand::Check),
+        ("simulate", words) => Some(Subcommand::Simulate {
+            plan: words.get_str("plan"),
+            seed: words.get_one::<u64>("seed")?,
+            runs: words.get_one::<u64>("runs")?,
+            csv: words.get_str("csv"),
+        }),
         _ => None,
     }
 }

@@ -15,6 +15,9 @@ const FAILED: u8 = 1;
 /// The exit status where words, settings or a script are refused.
 const REFUSED: u8 = 2;
 
+/// The exit status of a member that ended because it was expelled.
+const EXPELLED: u8 = 3;
+
 /// Why the program ends. Each prints its one line, after `swim: `, and some have a hint for a second one.
 #[derive(Debug, Drop, Error)]
 pub enum Ending {
@@ -36,6 +39,9 @@ pub enum Ending {
     /// A worker ended by itself.
     #[error("worker ended {0}")]
     Worker(WorkerEnd),
+    /// The member was expelled, and was to end then.
+    #[error("expelled")]
+    Expelled,
     /// There is no memory.
     #[error("memory")]
     Memory,
@@ -55,6 +61,10 @@ const MAYBE_PART: &str =
     "if `swim init` was cut off before it was done, this is the part that it left: no number was sent then, so delete it and run `swim init` again. If a member has run on the file, keep it, and see \"A lost state file\" in OPERATIONS.md";
 
 impl Ending {
+    ghost use Rattle.std.specs.Prelude.{◌≡◌};
+    ghost use Rattle.std.specs.Process.{exit_status};
+    ghost use Rattle.swim_cli.specs.Ending.{ending_status};
+
     /// What else there is to say, on a line of its own.
     pub fn hint(&self) -> Option<&'static str> {
         match self {
@@ -75,10 +85,13 @@ impl Ending {
         }
     }
 
-    /// The exit status.
-    pub fn status(&self) -> ExitCode {
+    /// The exit status: 2 where what was written is at fault, 3 where the member was expelled and was to end then, and 1 else.
+    pub fn status(&self) -> ExitCode
+        ensures { exit_status result ≡ ending_status self.now }
+    {
         match self {
             Ending::Address | Ending::Settings(_) | Ending::Script(_) => ExitCode::from(REFUSED),
+            Ending::Expelled => ExitCode::from(EXPELLED),
             _ => ExitCode::from(FAILED),
         }
     }

@@ -1,5 +1,7 @@
 //! All rows of a running member, asked for page by page by control lines.
 
+ghost use Rattle.std.specs.Prelude.{◌≡◌, ◌≢◌, ◌+◌, length, IfSome};
+
 use crate::asking::exchange;
 use crate::ending::Ending;
 use arrayvec::ArrayString;
@@ -47,7 +49,9 @@ fn read_row(line: &[u8]) -> Option<Update> {
 
 /// Adds the rows of an answer, and says how many lines it has; none if a line is no row, or one that is not after the
 /// others.
-fn add_rows(rows: &mut Rows, lines: &[u8]) -> Option<usize> {
+fn add_rows(rows: &mut Rows, lines: &[u8]) -> Option<usize>
+    ensures { IfSome result (λ count. length rows.new ≡ length rows.old + count) }
+{
     let mut left = lines;
     for count in 0..MEMBERS_MAX {
         let Some((line, rest)) = split_at_byte(left, b'\n') else {
@@ -61,8 +65,11 @@ fn add_rows(rows: &mut Rows, lines: &[u8]) -> Option<usize> {
     None
 }
 
-/// Adds the rows of the whole answer to a line `members`.
-fn take_answer(rows: &mut Rows, answer: &[u8]) -> Result<Page, Ending> {
+/// Adds the rows of the whole answer to a line `members`. A page with as many rows as one has at most is not the last one.
+fn take_answer(rows: &mut Rows, answer: &[u8]) -> Result<Page, Ending>
+    ensures full { result ≡ Ok Page.Full → length rows.new ≡ length rows.old + UPDATES_MAX }
+    ensures last { result ≡ Ok Page.Last → length rows.new ≢ length rows.old + UPDATES_MAX }
+{
     if answer.starts_with(ERA_FULL) {
         return Ok(Page::EraFull);
     }

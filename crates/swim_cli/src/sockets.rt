@@ -1,5 +1,8 @@
 //! What a running member holds of the network.
 
+ghost use Rattle.std.specs.Prelude.{◌≡◌, ◌*◌, min};
+ghost use Rattle.std.specs.Duration.{as_nanos};
+
 use crate::ending::Ending;
 use std::net::{Net, SocketAddr, TcpListener, TcpStream};
 use std::rt::Clock;
@@ -14,7 +17,9 @@ const WAIT_MAX_MILLIS: u64 = 1000;
 const DOORS_WAIT_MAX_MILLIS: u64 = 250;
 
 /// How long a socket waits at most: one tick, or a second if that is less.
-pub(crate) fn wait_of(tick_millis: u64) -> Duration {
+pub(crate) fn wait_of(tick_millis: u64) -> Duration
+    ensures { as_nanos result ≡ min tick_millis WAIT_MAX_MILLIS * 1000000 }
+{
     Duration::from_millis(tick_millis.min(WAIT_MAX_MILLIS))
 }
 

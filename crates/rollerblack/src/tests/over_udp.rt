@@ -75,7 +75,10 @@ where
         desk,
         logs: Logs::new(settings.me, node.first()),
     };
-    run_member(logged, alloc, node, outside, &[datagrams, connections]).map_err(|_| "a worker")
+    let alarms = [datagrams, connections];
+    let ended = run_member(logged, alloc, node, outside, &alarms, false);
+    ended.map_err(|_| "a worker")?;
+    Ok(())
 }
 
 /// An address of this machine with a port that is free.

@@ -1,0 +1,106 @@
+//! Whether a path still names the file that was opened there.
+
+ghost use Rattle.std.specs.Prelude.{◌≡◌};
+
+use crate::watched_disk::Watch;
+use std::alloc::{AllocError, Global};
+use std::fs::{self, File, Metadata};
+use std::io::{self, ErrorKind};
+use std::os::unix::fs::MetadataExt;
+use std::rt::Files;
+use std::sync::Arc;
+use std::sync::atomic::{AtomicBool, AtomicU64, Ordering};
+use swim_trace::Trace;
+
+/// What all know who watch the same file.
+#[derive(Drop)]
+struct Known {
+    path: String,
+    device: u64,
+    inode: u64,
+    /// The greatest length that it was seen to have, in bytes.
+    length: AtomicU64,
+    is_lost: AtomicBool,
+}
+
+impl Known {
+    /// Whether this is the file, and no shorter than it was.
+    fn is_of(&self, found: &Metadata) -> bool {
+        if found.dev() != self.device || found.ino() != self.inode {
+            return false;
+        }
+        found.len() >= self.length.fetch_max(found.len(), Ordering::SeqCst)
+    }
+}
+
+/// A file that was opened at a path, as it stands there. It is lost where the path names no file, another one, or this one cut
+/// short. Once lost it stays so, for all who watch it: what was written meanwhile may be in another file.
+#[derive(Drop)]
+pub(crate) struct OwnFile<R> {
+    files: R,
+    known: Arc<Known, Global>,
+    asked: Trace<bool>,
+}
+
+impl<R: Files<File = File> + Copy> OwnFile<R> {
+    /// This open file at this path. An error is the system's, or there was no memory.
+    pub(crate) fn new(files: R, alloc: Global, path: &str, file: &File) -> io::Result<OwnFile<R>> {
+        let found = file.metadata()?;
+        let known = Known {
+            path: String::from_str(alloc, path)?,
+            device: found.dev(),
+            inode: found.ino(),
+            length: AtomicU64::new(found.len()),
+            is_lost: AtomicBool::new(false),
+        };
+        Ok(OwnFile {
+            files,
+            known: Arc::new(alloc, known)?,
+            asked: Trace::new(),
+        })
+    }
+
+    /// One more who watches the file.
+    pub(crate) fn try_clone(&self) -> Result<OwnFile<R>, AllocError> {
+        Ok(OwnFile {
+            files: self.files,
+            known: Arc::try_clone(&self.known)?,
+            asked: Trace::new(),
+        })
+    }
+
+    /// Its path.
+    pub(crate) fn path(&self) -> &str {
+        self.known.path.as_str()
+    }
+
+    /// Whether the path names the file now. What the system cannot tell is no loss.
+    fn is_there(&self) -> bool {
+        match fs::metadata(&self.files, self.path()) {
+            Ok(found) => self.known.is_of(&found),
+            Err(error) => !matches!(error.kind(), ErrorKind::NotFound | ErrorKind::NotADirectory),
+        }
+    }
+
+    /// Whether it is lost, by now or since an earlier look of anyone.
+    fn is_lost(&self) -> bool {
+        let was_lost = self.known.is_lost.load(Ordering::SeqCst);
+        let is_lost = was_lost || !self.is_there();
+        if is_lost {
+            self.known.is_lost.store(true, Ordering::SeqCst);
+        }
+        is_lost
+    }
+}
+
+impl<R: Files<File = File> + Copy> Watch for OwnFile<R> {
+    ghost use Rattle.std.specs.Prelude.{◌≡◌};
+
+    ghost asked = { λ f. f.asked };
+
+    fn is_own(&mut self) -> bool {
+        let is_own = !self.is_lost();
+        self.asked = self.asked.and(&is_own);
+        is_own
+    }
+}
