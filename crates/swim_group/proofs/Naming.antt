@@ -4,7 +4,6 @@ use Rattle.std.specs.List.{AllByRecursion, IsDistinct, list_any}
 use Rattle.std.proofs.lemmas.Bool.{or_parts}
 use Rattle.std.proofs.lemmas.List.Elements.{All-append, All-cons, All-nil}
 use Rattle.std.proofs.lemmas.Map.Keys.{IsDistinct-tail}
-use Rattle.swim_member.specs.Checks.{AreSound}
 use Rattle.swim_member.specs.declared.settings.Settings.{Settings}
 use Rattle.swim_group.specs.Real.{names_in}
 
@@ -37,11 +36,11 @@ any-none x [] a = refl
 any-none x (y ∷ ys) a = ap (λ b. b || list_any (λ z. x == z) ys) a.0 ∙ any-none x ys a.1
 
 -- the settings up to a place, with one more
-pub take-last : (xs : List Settings) (k : ℕ) (x : Settings) → k < length xs → x ≡ slice_index_or xs k x → take (k + 1) xs ≡ take k xs ++ x ∷ []
+pub take-last : {X : Type 0} → (xs : List X) (k : ℕ) (x : X) → k < length xs → x ≡ slice_index_or xs k x → take (k + 1) xs ≡ take k xs ++ x ∷ []
 take-last [] k x m f = absurd (omega arith)
 take-last (y ∷ xs) zero x m f = ap (λ z. z ∷ []) (sym f)
 take-last (y ∷ xs) (suc k) x m f = ap (λ n. take n (y ∷ xs)) (let same : suc k + 1 ≡ suc (k + 1) = omega arith in same) ∙ ap (λ zs. y ∷ zs) (take-last xs k x (omega arith) f)
 
--- one more is sound
-pub sound-more : (settings : List Settings) (i : ℕ) (s : Settings) → i < length settings → s ≡ slice_index_or settings i s → AreSound s → All AreSound (take i settings) → All AreSound (take (i + 1) settings)
-sound-more settings i s l e sound all = rw (take-last settings i s l e) (All-append AreSound (take i settings) (s ∷ []) all (All-cons AreSound s [] sound (All-nil AreSound)))
+-- one more has it
+pub all-more : {X : Type 0} → (Q : X → Type 0) (xs : List X) (i : ℕ) (x : X) → i < length xs → x ≡ slice_index_or xs i x → Q x → All Q (take i xs) → All Q (take (i + 1) xs)
+all-more Q xs i x l e q all = rw (take-last xs i x l e) (All-append Q (take i xs) (x ∷ []) all (All-cons Q x [] q (All-nil Q)))

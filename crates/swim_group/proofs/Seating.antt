@@ -188,6 +188,13 @@ seat-sound seats kept which seat there h =
     let at : Sitting (after_node_moves h.group h.moves).lives which seat = seat-at (after_node_moves h.group h.moves).lives seats which seat h.lives there in
     at.sits.sound
 
+-- of the owner of its node
+pub seat-owner : (seats : List Seat) (kept : List Out) (which : ℕ) (seat : Seat) (node : NodeView MemDisk) → slice_get seats which ≡ Some seat → seat ≡ seat_with seat.settings node → HasNodeRun seats kept → owner_of seat.settings ≡ node.owner
+seat-owner seats kept which seat node there is h =
+    let at : Sitting (after_node_moves h.group h.moves).lives which seat = seat-at (after_node_moves h.group h.moves).lives seats which seat h.lives there in
+    let alive : IsLifeOf at.life node = subst (λ (s : Seat). IsLifeIn at.life s.node) is at.sits.alive in
+    at.sits.owner ∙ sym alive.living.same_owner
+
 -- Calls
 
 abbrev pub real : List Seat → List Out → ℕ → ℕ → RealNodes

@@ -386,12 +386,12 @@ module _ (x : ℕ) where
 
 -- Groups
 
-at-changed : (f : Place → Place) (places : List Place) (k : ℕ) → place_at (change_at places k f) k ≡ option_map f (place_at places k)
+pub at-changed : (f : Place → Place) (places : List Place) (k : ℕ) → place_at (change_at places k f) k ≡ option_map f (place_at places k)
 at-changed f [] k = refl
 at-changed f (p ∷ places) zero = refl
 at-changed f (p ∷ places) (suc k) = at-changed f places k
 
-at-unchanged : (f : Place → Place) (places : List Place) (k which : ℕ) → k ≢ which → place_at (change_at places k f) which ≡ place_at places which
+pub at-unchanged : (f : Place → Place) (places : List Place) (k which : ℕ) → k ≢ which → place_at (change_at places k f) which ≡ place_at places which
 at-unchanged f [] k which ne = refl
 at-unchanged f (p ∷ places) zero zero ne = absurd (ne refl)
 at-unchanged f (p ∷ places) zero (suc which) ne = refl

@@ -1,6 +1,7 @@
 -- Real members of a group with what is kept of their datagrams, and what each call makes of them.
 use Rattle.std.specs.Prelude.{◌≡◌, ◌≢◌, ℕ, ◌+◌, ◌<◌, ◌≤◌, max, List, [], ◌∷◌, ◌++◌, map, take}
-use Rattle.std.specs.Prelude.{slice_get, slice_set, Option, Some, None, Ok, IsOk, All, Any, ◌==◌}
+use Rattle.std.specs.Prelude.{length, slice_get, slice_set, Option, Some, None, Ok, IsOk, All, Any}
+use Rattle.std.specs.Prelude.{◌==◌}
 use Rattle.std.specs.List.{AllByRecursion, IsDistinct}
 use Rattle.swim_wire.specs.Decoding.{decoded}
 use Rattle.swim_wire.specs.Spelling.{HasText}
@@ -17,7 +18,8 @@ use Rattle.swim_group.specs.Network.{WasSent}
 use Rattle.swim_group.specs.Numbers.{IsTold, IsUnpassed}
 use Rattle.swim_group.specs.declared.fault.GroupFault.{GroupFault}
 use Rattle.swim_group.specs.declared.fault.GroupFault.TheVariants.{OtherName, Unsound, NoNumberLeft}
-use Rattle.swim_group.specs.declared.fault.GroupFault.TheVariants.{SameName, NoMemory}
+use Rattle.swim_group.specs.declared.fault.GroupFault.TheVariants.{SameName, NoMember}
+use Rattle.swim_group.specs.declared.fault.GroupFault.TheVariants.{NoDatagram, Readable, NoMemory}
 use Rattle.swim_member.specs.declared.event.Event.TheVariants as event
 
 -- what a group of real members is seen as: their states, the datagrams
@@ -61,14 +63,18 @@ pub record MayBegin (settings : List Settings) : Type 0 where
   pub sound : All AreSound settings
   pub names : IsDistinct (λ x y. x == y) (names_in settings)
 
--- and why they do not: one has a setting out of its range, or
--- all are sound and two have one name, or nothing but memory lacks
+-- and why they may not: one has a setting out of its range,
+-- or all are sound and two have one name
 abbrev pub IsUnfit : List Settings → GroupFault → Type 0
 IsUnfit settings (Unsound fault) = Any (λ s. fault_of s ≡ Some fault) settings
 IsUnfit settings SameName =
     All AreSound settings × ¬ (IsDistinct (λ x y. x == y) (names_in settings))
-IsUnfit settings NoMemory = MayBegin settings
 IsUnfit settings _ = ⊥
+
+-- why a group does not begin: that, or nothing but memory lacks
+abbrev pub IsUnbegun : List Settings → GroupFault → Type 0
+IsUnbegun settings NoMemory = MayBegin settings
+IsUnbegun settings fault = IsUnfit settings fault
 
 -- Events
 
@@ -116,6 +122,21 @@ pub record Delivers (old new : RealGroup) (member datagram granted : ℕ) : Type
   pub event : Event
   pub arrives : Arrives out event
   pub moved : after_event old member event granted ≡ Some new
+
+-- why an event does not come to a member: there is none,
+-- the bytes are a datagram, or memory lacks
+abbrev pub IsNoEvent : RealGroup → ℕ → Event → GroupFault → Type 0
+IsNoEvent g k event NoMember = length g.members ≤ k
+IsNoEvent g k event Readable = IsReadable event
+IsNoEvent g k event NoMemory = Unit {0}
+IsNoEvent g k event _ = ⊥
+
+-- and a datagram: there is no member, none that is kept, or no memory
+abbrev pub IsNoArrival : RealGroup → ℕ → ℕ → GroupFault → Type 0
+IsNoArrival g k datagram NoMember = length g.members ≤ k
+IsNoArrival g k datagram NoDatagram = length g.kept ≤ datagram
+IsNoArrival g k datagram NoMemory = Unit {0}
+IsNoArrival g k datagram _ = ⊥
 
 -- Restarts
 

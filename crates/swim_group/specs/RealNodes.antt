@@ -2,7 +2,7 @@
 -- their datagrams, and what each call makes of them.
 use Rattle.std.specs.Prelude.{◌≡◌, ℕ, List, [], ◌∷◌, ◌++◌, take, slice_get, slice_set}
 use Rattle.std.specs.Prelude.{Option, Some, None}
-use Rattle.std.specs.List.{AllByRecursion}
+use Rattle.std.specs.List.{AllByRecursion, swap_remove}
 use Rattle.swim_disk.specs.declared.mem.MemDisk.{MemDisk}
 use Rattle.swim_disk.specs.MemDisk.{state_of}
 use Rattle.swim_wire.specs.Spelling.{HasText}
@@ -16,9 +16,6 @@ use Rattle.swim_node.specs.History.{fresh_base}
 use Rattle.swim_node.specs.Lives.{Life, IsLiving, life_of}
 use Rattle.swim_node.specs.Node.{NodeView, owner_of, next_base}
 use Rattle.swim_node.specs.Sending.{HasTexts}
-use Rattle.swim_group.specs.declared.fault.NodesFault.{NodesFault}
-use Rattle.swim_group.specs.declared.fault.NodesFault.TheVariants.{Gone, Refused, NotOpened}
-use Rattle.swim_group.specs.declared.fault.NodesFault.TheVariants.{NoMemory}
 use Rattle.swim_group.specs.declared.seat.Seat.{Seat}
 use Rattle.swim_group.specs.Network.{WasSent, IsNotInvented}
 use Rattle.swim_group.specs.Nodes.{NodeGroup, NodeMove, Calls, Rebases, Opens, NodesBegin}
@@ -35,15 +32,6 @@ pub record RealNodes : Type 0 where
   pub kept : List Out
   pub room : ℕ
   pub limit : ℕ
-
--- a refusal that comes from the node: it is gone, it did not enter the
--- call, it was not opened, or there was no memory
-abbrev pub IsOwnFault : NodesFault → Type 0
-IsOwnFault Gone = Unit {0}
-IsOwnFault (Refused why) = Unit {0}
-IsOwnFault (NotOpened why) = Unit {0}
-IsOwnFault NoMemory = Unit {0}
-IsOwnFault _ = ⊥
 
 -- this is the life of that node
 pub record IsLifeOf (life : Life MemDisk) (node : NodeView MemDisk) : Type 0 where
@@ -172,6 +160,13 @@ pub record EraEndsAt (old new : RealNodes) (which : ℕ) : Type 0 where
   pub found : slice_get old.seats which ≡ Some seat
   pub ends : EraEndsThere seat next
   pub is : new ≡ record old { seats = slice_set old.seats which next }
+
+-- the kept datagram with this number is kept no more, the
+-- last one has its place, and nothing else changed
+pub record LosesAt (old new : RealNodes) (datagram : ℕ) : Type 0 where
+  pub out : Out
+  pub kept : slice_get old.kept datagram ≡ Some out
+  pub is : new ≡ record old { kept = swap_remove old.kept datagram out }
 
 -- a node that was opened with these settings and did nothing yet
 pub record IsNewNode (settings : Settings) (limit : ℕ) (seat : Seat) : Type 0 where

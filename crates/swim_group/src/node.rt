@@ -1,14 +1,16 @@
 //! Nodes with their state files: each of these calls is a move of whichever group the node lives in.
 
-ghost use Rattle.std.specs.Prelude.{◌≡◌, ◌<◌, ◌++◌, ◌∷◌, [], IfOk, OnOk, OnErr};
+ghost use Rattle.std.specs.Prelude.{◌≡◌, ◌<◌, ◌++◌, ◌∷◌, [], ℕ, List, IfOk, IfErr, OnOk, OnErr};
 ghost use Rattle.swim_disk.specs.MemDisk.{state_of};
 ghost use Rattle.swim_member.specs.Checks.{AreSound};
+ghost use Rattle.swim_state.specs.Held.{Held};
 ghost use Rattle.swim_node.specs.declared.entry.Entry.{Entry as Entries};
 ghost use Rattle.swim_node.specs.History.{fresh_base};
 ghost use Rattle.swim_node.specs.Lives.{IsLiving, MayEnd, life_of};
-ghost use Rattle.swim_node.specs.Node.{owner_of, next_base};
+ghost use Rattle.swim_node.specs.Node.{Refused, owner_of, next_base};
 ghost use Rattle.swim_node.specs.Sending.{HasTexts};
 ghost use Rattle.swim_group.specs.Network.{IsNotInvented};
+ghost use Rattle.swim_group.specs.Refusing.{IsNoLimit, IsUnopened};
 ghost use Rattle.swim_group.specs.Nodes.{IsMoveOf, IsOpeningOf, Calls, Rebases, Raises, Opens};
 
 use std::alloc::Global;
@@ -34,6 +36,7 @@ pub fn hear<D: Disk, L: Link>(
         × (D.keeps_model → IsMoveOf D.state node.old node.new
         (λ sent. IsNotInvented sent event) (λ which. Calls which e node.new.disk))) }
     ensures err { OnErr result (node.new ≡ node.old) }
+    ensures refused { IfErr result (λ fault. Refused node.old.base node.old.entries tag fault) }
 {
     let reply = node.apply(link, tag, event)?;
     // what a life that ends now was
@@ -86,6 +89,9 @@ pub fn open_again<D: Disk>(
     ensures lived { D.keeps_model
         → IfOk result (λ node. IsLiving D.state node.owner (life_of settings limit disk [] node)
         × MayEnd D.state node) }
+    ensures limit { OnOk result (IsNoLimit limit → ⊥) }
+    ensures refused { D.keeps_model → (b : ℕ) → Held (owner_of settings) (D.state disk) b
+        → IfErr result (λ fault. IsUnopened limit (D.state disk).content fault.1) }
 {
     let node = Node::open(alloc, disk, settings, limit)?;
     // what a life that ends now was
@@ -109,6 +115,9 @@ pub fn crash(
         × IsMoveOf state_of node new
         (λ sent. owner_of settings ≡ node.owner)
         (λ which. Opens which settings limit new.first opened new.disk)) }
+    ensures refused { owner_of settings ≡ node.owner → IfErr result (λ fault. (content : List ℕ)
+        × (state_of node.disk).images content
+        × IsUnopened limit content fault.1) }
 {
     let disk = node.into_disk().crash(choice);
     open_again(alloc, disk, settings, limit)

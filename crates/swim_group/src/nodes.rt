@@ -1,10 +1,11 @@
 //! A group of real nodes on disks in memory, and the datagrams of theirs that may still come.
 
-ghost use Rattle.std.specs.Prelude.{◌≡◌, ◌⊎◌, ◌≤◌, ◌<◌, ◌↔◌, [], length, IfOk, IfErr, OnOk, OnErr, Err};
+ghost use Rattle.std.specs.Prelude.{◌≡◌, ◌≤◌, ◌<◌, ◌↔◌, [], length, IfOk, IfErr, OnOk, OnErr, Err};
 ghost use Rattle.swim_group.specs.declared.fault.NodesFault.TheVariants as fault;
 ghost use Rattle.swim_group.specs.Network.{IsNotInvented};
-ghost use Rattle.swim_group.specs.Real.{MayBegin, IsReadable};
-ghost use Rattle.swim_group.specs.RealNodes.{HasSoundNodeRun, HearsAt, DeliversAt, OpensAt, LeavesAt, EraEndsAt, AreNewNodes, IsOwnFault};
+ghost use Rattle.swim_group.specs.Real.{MayBegin};
+ghost use Rattle.swim_group.specs.RealNodes.{HasSoundNodeRun, HearsAt, DeliversAt, OpensAt, EraEndsAt, LosesAt, AreNewNodes};
+ghost use Rattle.swim_group.specs.Refusing.{IsNoLimit, AreUnbegun, IsUnheard, IsNoStep, IsNoDelivery, IsNoOpening, IsNoEnd};
 
 use crate::beginning::may_begin;
 use crate::fault::NodesFault;
@@ -56,6 +57,10 @@ impl Nodes {
         ensures seats { IfOk result (λ group. AreNewNodes limit settings.now group.seats) }
         ensures kept { IfOk result (λ group. group.kept ≡ []) }
         ensures room { IfOk result (λ group. (group.room ≡ room) × (group.limit ≡ limit)) }
+        // no node, or a limit that an era can have
+        ensures limit { OnOk result (IsNoLimit limit → settings.now ≡ []) }
+        // unfit settings, no such limit, or no memory
+        ensures refused { IfErr result (λ fault. AreUnbegun settings.now limit fault) }
         ensures run { IfOk result HasSoundNodeRun }
     {
         if let Err(fault) = may_begin(settings) {
@@ -102,7 +107,7 @@ impl Nodes {
         requires there { node < length self.old.seats }
         requires sent { IsNotInvented self.old.kept event }
         ensures ok { IfOk result (λ reply. HearsAt self.old self.new node event reply) }
-        ensures own { IfErr result IsOwnFault }
+        ensures refused { IfErr result (λ fault. IsUnheard self.old node fault) }
         ensures err { OnErr result (self.new ≡ self.old) }
         ensures run { HasSoundNodeRun self.new }
     {
@@ -123,7 +128,8 @@ impl Nodes {
     /// is kept as far as there is room.
     pub fn step(&mut self, node: usize, event: Event) -> Result<Reply, NodesFault>
         ensures ok { IfOk result (λ reply. HearsAt self.old self.new node event reply) }
-        ensures readable { result ≡ Err fault.Readable → IsReadable event }
+        // no such node, a datagram, a node that is gone, an era that is full, or no memory
+        ensures refused { IfErr result (λ fault. IsNoStep self.old node event fault) }
         ensures err { OnErr result (self.new ≡ self.old) }
         // these are the nodes and datagrams of a run in which nothing is invented and no number is passed
         ensures run { HasSoundNodeRun self.new }
@@ -138,7 +144,8 @@ impl Nodes {
     /// A datagram that is kept comes to a node, whomever it was sent to. It stays, and may come again.
     pub fn deliver(&mut self, node: usize, datagram: usize) -> Result<Reply, NodesFault>
         ensures ok { IfOk result (λ reply. DeliversAt self.old self.new node datagram reply) }
-        ensures no_datagram { result ≡ Err fault.NoDatagram → length self.old.kept ≤ datagram }
+        // no such node, no such datagram, a node that is gone, an era that is full, or no memory
+        ensures refused { IfErr result (λ fault. IsNoDelivery self.old node datagram fault) }
         ensures err { OnErr result (self.new ≡ self.old) }
         ensures run { HasSoundNodeRun self.new }
     {
@@ -154,8 +161,9 @@ impl Nodes {
     /// opened, it is gone.
     pub fn crash(&mut self, node: usize, choice: Choice) -> Result<(), NodesFault>
         ensures ok { OnOk result (OpensAt self.old self.new node) }
-        ensures missing { (result ≡ Err fault.NoNode) ↔ (length self.old.seats ≤ node) }
-        ensures err { OnErr result ((self.new ≡ self.old) ⊎ LeavesAt self.old self.new node) }
+        // no such node, one that was gone before, or one that is gone now: for an era that has no such limit, for a floor
+        // above which there is no number, or for want of memory
+        ensures refused { IfErr result (λ fault. IsNoOpening self.old self.new node fault) }
         ensures run { HasSoundNodeRun self.new }
     {
         self.find(node)?;
@@ -169,7 +177,8 @@ impl Nodes {
     /// The era of a node ends, so that its journal has room again.
     pub fn end_era(&mut self, node: usize) -> Result<(), NodesFault>
         ensures ok { OnOk result (EraEndsAt self.old self.new node) }
-        ensures missing { (result ≡ Err fault.NoNode) ↔ (length self.old.seats ≤ node) }
+        // no such node, or one that is gone
+        ensures refused { IfErr result (λ fault. IsNoEnd self.old node fault) }
         ensures err { OnErr result (self.new ≡ self.old) }
         ensures run { HasSoundNodeRun self.new }
     {
@@ -177,6 +186,20 @@ impl Nodes {
         if let Err(fault) = end_there(&mut self.seats[node]) {
             return Err(fault);
         }
+        Ok(())
+    }
+
+    /// A datagram that is kept is lost. The last one takes its place.
+    pub fn lose(&mut self, datagram: usize) -> Result<(), NodesFault>
+        ensures ok { OnOk result (LosesAt self.old self.new datagram) }
+        ensures missing { (result ≡ Err fault.NoDatagram) ↔ (length self.old.kept ≤ datagram) }
+        ensures err { OnErr result (self.new ≡ self.old) }
+        ensures run { HasSoundNodeRun self.new }
+    {
+        if self.kept.len() <= datagram {
+            return Err(NodesFault::NoDatagram);
+        }
+        let _ = self.kept.swap_remove(datagram);
         Ok(())
     }
 }

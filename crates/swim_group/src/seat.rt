@@ -1,13 +1,17 @@
 //! A place in a group of real nodes, and what happens to who sits there.
 
-ghost use Rattle.std.specs.Prelude.{◌≡◌, ◌++◌, ◌∷◌, [], All, None, List, IfOk, IfErr, OnOk, OnErr};
+ghost use Rattle.std.specs.Prelude.{◌≡◌, ◌++◌, ◌∷◌, [], ℕ, All, None, List, IfOk, IfErr, OnOk, OnErr};
 ghost use Rattle.swim_wire.specs.Spelling.{HasText};
 ghost use Rattle.swim_member.specs.Checks.{AreSound};
 ghost use Rattle.swim_member.specs.declared.settings.Settings.{Settings as Options};
 ghost use Rattle.swim_disk.specs.declared.mem.MemDisk.{MemDisk as Disks};
 ghost use Rattle.swim_node.specs.declared.entry.Entry.{Entry as Entries};
-ghost use Rattle.swim_node.specs.Node.{NodeView};
-ghost use Rattle.swim_group.specs.RealNodes.{HearsThere, OpensThere, EraEndsThere, IsNewNode, AreNewNodes, IsOwnFault, seat_with};
+ghost use Rattle.swim_node.specs.Node.{NodeView, owner_of};
+ghost use Rattle.swim_disk.specs.MemDisk.{state_of};
+ghost use Rattle.swim_state.specs.File.{floor, IsSound};
+ghost use Rattle.swim_group.specs.declared.fault.NodesFault.TheVariants as nodes;
+ghost use Rattle.swim_group.specs.RealNodes.{HearsThere, OpensThere, EraEndsThere, IsNewNode, AreNewNodes, seat_with};
+ghost use Rattle.swim_group.specs.Refusing.{IsDeaf, IsShut, IsNoLimit, IsNotMade, IsUnseated};
 
 use crate::fault::NodesFault;
 use crate::node::{crash, end_era, hear, open_again};
@@ -52,7 +56,7 @@ impl Link for Nowhere {
 /// An event comes to the node that sits there.
 pub(crate) fn hear_there(seat: &mut Seat, event: Event) -> Result<Reply, NodesFault>
     ensures ok { IfOk result (λ reply. HearsThere seat.old seat.new event reply) }
-    ensures own { IfErr result IsOwnFault }
+    ensures refused { IfErr result (λ fault. IsDeaf seat.old fault) }
     ensures err { OnErr result (seat.new ≡ seat.old) }
 {
     let Some(node) = &mut seat.node else {
@@ -117,8 +121,11 @@ pub(crate) fn open_there(
     limit: u32,
 ) -> Result<(), NodesFault>
     requires sound { AreSound seat.old.settings }
+    requires owner { (node : NodeView Disks)
+        → seat.old ≡ seat_with seat.old.settings node
+        → owner_of seat.old.settings ≡ node.owner }
     ensures ok { OnOk result (OpensThere seat.old seat.new limit) }
-    ensures own { IfErr result IsOwnFault }
+    ensures refused { IfErr result (λ fault. IsShut seat.old limit fault) }
     ensures err { OnErr result
         (seat.new ≡ record { settings = seat.old.settings; node = None }) }
 {
@@ -137,7 +144,7 @@ pub(crate) fn open_there(
 /// The era of the node that sits there ends.
 pub(crate) fn end_there(seat: &mut Seat) -> Result<(), NodesFault>
     ensures ok { OnOk result (EraEndsThere seat.old seat.new) }
-    ensures own { IfErr result IsOwnFault }
+    ensures gone { IfErr result (λ fault. (fault ≡ nodes.Gone) × (seat.old.node ≡ None)) }
     ensures err { OnErr result (seat.new ≡ seat.old) }
 {
     let Some(node) = &mut seat.node else {
@@ -148,7 +155,11 @@ pub(crate) fn end_there(seat: &mut Seat) -> Result<(), NodesFault>
 }
 
 /// A disk with this number, and a new state file on it.
-fn made(alloc: Global, number: u64, owner: Owner) -> Result<MemDisk, InitFault> {
+fn made(alloc: Global, number: u64, owner: Owner) -> Result<MemDisk, InitFault>
+    ensures made { IfOk result (λ disk. (c : List ℕ) → (state_of disk).images c
+        → IsSound owner c × (floor c ≡ 0)) }
+    ensures refused { IfErr result (λ why. IsNotMade why) }
+{
     let mut disk = MemDisk::new(alloc, number, Vec::new(alloc));
     init(&mut disk, owner, 0)?;
     Ok(disk)
@@ -156,8 +167,12 @@ fn made(alloc: Global, number: u64, owner: Owner) -> Result<MemDisk, InitFault> 
 
 /// A node is opened for the first time, on this disk, and sits there.
 fn first_there(alloc: Global, seat: &mut Seat, disk: MemDisk, limit: u32) -> Result<(), NodesFault>
-    requires { AreSound seat.old.settings }
-    ensures { OnOk result (IsNewNode seat.old.settings limit seat.new) }
+    requires sound { AreSound seat.old.settings }
+    requires made { (c : List ℕ) → (state_of disk).images c
+        → IsSound (owner_of seat.old.settings) c × (floor c ≡ 0) }
+    ensures ok { OnOk result (IsNewNode seat.old.settings limit seat.new) }
+    ensures limit { OnOk result (IsNoLimit limit → ⊥) }
+    ensures refused { IfErr result (λ fault. IsUnseated limit fault) }
 {
     match open_again(alloc, disk, seat.settings, limit) {
         Ok(node) => {
@@ -176,7 +191,9 @@ fn first_seat(
     limit: u32,
 ) -> Result<Seat, NodesFault>
     requires { AreSound settings }
-    ensures { IfOk result (λ seat. IsNewNode settings limit seat) }
+    ensures ok { IfOk result (λ seat. IsNewNode settings limit seat) }
+    ensures limit { OnOk result (IsNoLimit limit → ⊥) }
+    ensures refused { IfErr result (λ fault. IsUnseated limit fault) }
 {
     let owner = Owner {
         group: settings.group,
@@ -201,7 +218,9 @@ pub(crate) fn first_seats(
     limit: u32,
 ) -> Result<Vec<Seat>, NodesFault>
     requires { All AreSound settings.now }
-    ensures { IfOk result (λ seats. AreNewNodes limit settings.now seats.items) }
+    ensures ok { IfOk result (λ seats. AreNewNodes limit settings.now seats.items) }
+    ensures limit { OnOk result (IsNoLimit limit → settings.now ≡ []) }
+    ensures refused { IfErr result (λ fault. IsUnseated limit fault) }
 {
     let mut seats = Vec::new(alloc);
     for i in 0..settings.len() {

@@ -6,7 +6,7 @@ ghost use Rattle.swim_wire.specs.Spelling.{HasText};
 ghost use Rattle.swim_member.specs.declared.answer.TheConstants.{OUTS_MAX};
 ghost use Rattle.swim_group.specs.declared.fault.GroupFault.TheVariants as fault;
 ghost use Rattle.swim_group.specs.Network.{IsNotInvented};
-ghost use Rattle.swim_group.specs.Real.{HasRun, HasSoundRun, IsReadable, Arrives, Delivers, after_event};
+ghost use Rattle.swim_group.specs.Real.{HasRun, HasSoundRun, IsReadable, IsNoEvent, IsNoArrival, Arrives, Delivers, after_event};
 
 use crate::fault::GroupFault;
 use crate::group::Group;
@@ -76,8 +76,6 @@ pub(crate) fn arrival(out: &Out) -> Event
     if bytes.try_extend_from_slice(text.as_slice()).is_err() {
         unreachable!()
     }
-    // the text is read as this datagram
-    let _ = decode(bytes.as_slice());
     Event::Datagram {
         from: out.datagram.sender,
         bytes,
@@ -127,7 +125,8 @@ impl Group {
         // the member goes on by this event, no other changes, and nothing but what it sends is kept
         ensures ok { OnOk result (after_event self.old member event.now granted ≡ Some self.new) }
         ensures missing { (result ≡ Err fault.NoMember) ↔ (length self.old.members ≤ member) }
-        ensures readable { result ≡ Err fault.Readable → IsReadable event.now }
+        // no such member, a datagram, or no memory
+        ensures refused { IfErr result (λ why. IsNoEvent self.old member event.now why) }
         ensures err { OnErr result (self.new ≡ self.old) }
         // these are the members and datagrams of a run in which nothing is invented and no number is passed
         ensures run { HasSoundRun self.new }
@@ -149,7 +148,8 @@ impl Group {
     ) -> Result<(), GroupFault>
         ensures ok { OnOk result (Delivers self.old self.new member datagram granted) }
         ensures missing { (result ≡ Err fault.NoMember) ↔ (length self.old.members ≤ member) }
-        ensures no_datagram { result ≡ Err fault.NoDatagram → length self.old.kept ≤ datagram }
+        // no such member, no such datagram, or no memory
+        ensures refused { IfErr result (λ why. IsNoArrival self.old member datagram why) }
         ensures err { OnErr result (self.new ≡ self.old) }
         ensures run { HasSoundRun self.new }
     {

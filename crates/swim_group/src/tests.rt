@@ -6,8 +6,8 @@ use super::*;
 use std::alloc::Global;
 use std::process::Abort;
 use swim_disk::Choice;
-use swim_member::{Event, Settings, SettingsFault};
-use swim_wire::Endpoint;
+use swim_member::{Event, Out, Settings, SettingsFault};
+use swim_wire::{Datagram, Endpoint, Update, UpdateKind};
 
 /// The endpoint 10.0.0.`last`:7000.
 fn endpoint(last: u32) -> Endpoint
@@ -217,4 +217,54 @@ fn nodes_refuse(rt: HostRuntime) {
     assert!(rt; group.step(0, Event::Leave).is_err());
     assert_eq!(rt; group.end_era(0), Ok(()));
     assert!(rt; group.step(0, Event::Leave).is_ok());
+}
+
+/// A datagram of 10.0.0.`sender`:7000 that says this.
+fn says(sender: u32, update: &Update) -> Datagram
+    requires { sender < 200 }
+{
+    let mut datagram = Out::default().datagram;
+    datagram.sender = endpoint(sender);
+    datagram.updates.push(*update);
+    datagram
+}
+
+/// What the checker answers to it, if it breaks the law so.
+fn answer(update: &Update, breach: Option<Breach>) -> Result<(), CheckFault> {
+    match breach {
+        None => Ok(()),
+        Some(breach) => Err(CheckFault::Broken(*update, breach)),
+    }
+}
+
+#[test]
+fn checks(rt: HostRuntime) {
+    // who says of whom which number; and how that breaks the law
+    let rows = [
+        (1, 1, 3, None),
+        (2, 1, 3, None),
+        (2, 1, 4, Some(Breach::Passed)),
+        (2, 1, 2, Some(Breach::Invented)),
+        (2, 3, 1, Some(Breach::Passed)),
+        (1, 1, 5, None),
+        (2, 1, 4, Some(Breach::Invented)),
+        (2, 1, 5, None),
+        (3, 1, 3, None),
+        (1, 1, 4, Some(Breach::WentBack)),
+        (1, 1, 5, None),
+    ];
+    let mut checker = Checker::new(rt.alloc());
+    for (sender, about, number, breach) in rows {
+        let update = Update {
+            kind: UpdateKind::Alive,
+            who: endpoint(about % 200),
+            number,
+        };
+        let datagram = says(sender % 200, &update);
+        assert_eq!(rt;
+            checker.check(&datagram),
+            answer(&update, breach),
+            "{sender} {about} {number}"
+        );
+    }
 }

@@ -2,7 +2,7 @@ use Rattle.std.proofs.Common.{rules, ◌≡◌, ◌≤◌, ◌<◌, true, false,
 use Rattle.std.proofs.lemmas.Bool.{false≢true}
 use Rattle.swim_member.specs.Checks.{AreSound}
 use Rattle.swim_group.proofs.Holding.{take-past}
-use Rattle.swim_group.proofs.Naming.{sound-more}
+use Rattle.swim_group.proofs.Naming.{all-more}
 use Rattle.swim_group.proofs.beginning.may_begin.Goals as goal
 
 pub loop-one-preserved : goal.loop-one-preserved
@@ -10,7 +10,7 @@ loop-one-preserved c =
     let there : c.loop-one.one-index < length c.args.settings.now = search rules in
     let at : c.one-item.result ≡ slice_index_or c.args.settings.now c.loop-one.one-index c.one-item.result = search rules in
     let sound : AreSound c.one-item.result = search rules in
-    sound-more c.args.settings.now c.loop-one.one-index c.one-item.result there at sound c.loop-one.invariant
+    all-more AreSound c.args.settings.now c.loop-one.one-index c.one-item.result there at sound c.loop-one.invariant
 
 pub returns-then-not-are_apart-clause-err : goal.returns-then-not-are_apart-clause-err
 returns-then-not-are_apart-clause-err c =

@@ -1,4 +1,8 @@
+use Rattle.std.proofs.Common.{rules, ◌≡◌, Err, IfErr, subst, sym}
+use Rattle.swim_node.specs.Node.{owner_of}
+use Rattle.swim_group.specs.Refusing.{IsUnopened}
 use Rattle.swim_group.proofs.Calling.{opened-moves}
+use Rattle.swim_group.proofs.Refusing.{unopened, within-limit}
 use Rattle.swim_group.proofs.node.open_again.Goals as goal
 
 pub returns-clause-moved : goal.returns-clause-moved
@@ -7,3 +11,12 @@ returns-clause-moved g c keeps =
 
 pub returns-clause-lived : goal.returns-clause-lived
 returns-clause-lived g c keeps = (c.in_ok-node.ensures.living keeps, c.disk.ensures.lived keeps)
+
+pub returns-clause-limit : goal.returns-clause-limit
+returns-clause-limit g c = within-limit c.args.limit c.in_ok-node.ensures.limit.0 c.in_ok-node.ensures.limit.1
+
+pub returns-in_err-node-clause-refused : goal.returns-in_err-node-clause-refused
+returns-in_err-node-clause-refused g c keeps b held =
+    let same : c.from_residual.result ≡ Err c.in_err-node.field-0.0 = search rules in
+    subst (λ r. IfErr r (λ fault. IsUnopened c.args.limit (g.D.Disk.state c.args.disk).content fault.1)) (sym same)
+    (unopened c.args.limit (owner_of c.args.settings) (g.D.Disk.state c.args.disk).content c.in_err-node.field-0.0.1 c.in_err-node.ensures.range.0 (c.in_err-node.ensures.from_held keeps b held) (c.in_err-node.ensures.fault keeps))

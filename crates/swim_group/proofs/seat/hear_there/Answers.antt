@@ -1,4 +1,5 @@
-use Rattle.std.proofs.Common.{refl, ap}
+use Rattle.std.proofs.Common.{◌+◌, refl, ap}
+use Rattle.swim_group.proofs.Refusing.{unentered}
 use Rattle.swim_group.proofs.Seating.{seat_of}
 use Rattle.swim_group.proofs.seat.hear_there.Goals as goal
 
@@ -17,3 +18,9 @@ returns-in-Ok-clause-ok c =
       texts = heard.4;
       moves = heard.5 (tt {0});
     }
+
+pub returns-in-Err-clause-refused : goal.returns-in-Err-clause-refused
+returns-in-Err-clause-refused c = (
+  record { node = c.in-Some.node; sits = ap (seat_of c.args.seat.now.settings) c.in-Some.is },
+  unentered c.in-Some.node (record { caller = 0; turn = c.turns-turn.result + 1 }) c.in-Err.fault (ap (λ n. n + 1) c.turns-turn.ensures.value) c.in-Err.ensures.refused,
+)

@@ -4,6 +4,7 @@ use Rattle.swim_group.specs.declared.seat.Seat.{Seat as Seats}
 use Rattle.swim_group.specs.Network.{IsNotInvented}
 use Rattle.swim_group.specs.RealNodes.{HasNodeRun, HearsThere}
 use Rattle.swim_group.proofs.Seating.{sound-node-run, set-back, index-set, heard-at, heard-run, real}
+use Rattle.swim_group.proofs.Refusing.{unheard}
 use Rattle.swim_group.proofs.nodes.Nodes.bring.Goals as goal
 
 pub returns-then-is_err-clause-run : goal.returns-then-is_err-clause-run
@@ -51,3 +52,9 @@ returns-in-Ok-clause-ok c =
 
 pub returns-in-Ok-clause-run : goal.returns-in-Ok-clause-run
 returns-in-Ok-clause-run c = sound-node-run (real (slice_set c.self.inside.seats.items c.args.node c.hear_there.new.seat) c.keep.new.kept.items c.self.inside.room c.self.inside.limit) (ran c)
+
+pub returns-in-Err-clause-refused : goal.returns-in-Err-clause-refused
+returns-in-Err-clause-refused c =
+    let there : c.args.node < length c.self.inside.seats.items = search rules in
+    rw (← c.self.view_is)
+    (unheard c.self.inside.seats.items c.self.inside.kept.items c.self.inside.room c.self.inside.limit c.args.node c.index_mut.result.now there c.index_mut.ensures.value c.in-Err.fault c.in-Err.ensures.refused)

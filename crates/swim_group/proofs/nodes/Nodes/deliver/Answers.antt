@@ -1,7 +1,8 @@
 use Rattle.std.proofs.Common.{rules, ◌≡◌, ◌<◌, List, length, slice_index_or, ap, subst}
-use Rattle.std.proofs.lemmas.Result.{IfOk-weaker}
+use Rattle.std.proofs.lemmas.Result.{IfOk-weaker, IfErr-weaker}
 use Rattle.swim_member.specs.declared.answer.Out.{Out as Outs}
 use Rattle.swim_group.proofs.Holding.{arrived, get-at}
+use Rattle.swim_group.proofs.Refusing.{no-delivery}
 use Rattle.swim_group.proofs.nodes.Nodes.deliver.Goals as goal
 
 pub bring-requires-clause-sent : goal.bring-requires-clause-sent
@@ -23,3 +24,6 @@ returns-clause-ok c =
       arrives = c.arrival-event.ensures;
       heard = heard;
     }) c.bring.ensures.ok
+
+pub returns-clause-refused : goal.returns-clause-refused
+returns-clause-refused c = IfErr-weaker c.bring.result _ _ (λ fault h. no-delivery c.args.self.now c.args.node c.args.datagram fault h) c.bring.ensures.refused
