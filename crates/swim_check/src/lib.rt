@@ -1,0 +1,11 @@
+//! What `swim check` does: it reads a capture of a group, a line for each datagram that a member sent, and says the first
+//! that breaks the law of the group.
+#![tactic(auto)]
+
+mod capture;
+mod line;
+#[cfg(test)]
+mod tests;
+
+pub use capture::{Stop, check, read_capture};
+pub use line::{LineFault, read_line};
