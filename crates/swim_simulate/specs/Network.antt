@@ -1,0 +1,34 @@
+-- The network.
+use Rattle.std.specs.Prelude.{◌≡◌, ◌⊎◌, ◌+◌, ◌%◌, ◌<◌, ◌≤◌, ℕ, List, Bool, nat_lt, cond, ◌||◌}
+use Rattle.swim_simulate.specs.declared.key.Key.TheVariants.{Loss, Repeats, Delay, Jitter}
+use Rattle.swim_simulate.specs.declared.key.Key.TheVariants.{CutMembers, CutAt, CutFor}
+use Rattle.swim_simulate.specs.declared.network.Draw.{Draw}
+use Rattle.swim_simulate.specs.declared.network.Fate.{Fate}
+use Rattle.swim_simulate.specs.declared.network.Fate.TheVariants.{Lost, Comes, ComesTwice}
+use Rattle.swim_simulate.specs.Plan.{number_at}
+
+-- one of the two is among the first so many, and the other is not
+abbrev pub IsApart : ℕ → ℕ → ℕ → Type 0
+IsApart count m n = ((m < count) × (count ≤ n)) ⊎ ((n < count) × (count ≤ m))
+
+-- in this second the plan has the two members in two parts
+pub record IsCutOff (plan : List ℕ) (second from to : ℕ) : Type 0 where
+  pub begun : number_at CutAt plan ≤ second
+  pub lasts : second < number_at CutAt plan + number_at CutFor plan
+  pub apart : IsApart (number_at CutMembers plan) from to
+
+-- how many ticks a datagram takes
+abbrev pub delay_of : List ℕ → ℕ → ℕ
+delay_of plan word = number_at Delay plan + word % (number_at Jitter plan + 1)
+
+-- what becomes of a datagram that is not lost
+abbrev pub way_of : List ℕ → Draw → Fate
+way_of plan draw =
+    cond (nat_lt (draw.repeat % 100) (number_at Repeats plan))
+    (ComesTwice (delay_of plan draw.delay) (delay_of plan draw.second))
+    (Comes (delay_of plan draw.delay))
+
+-- what becomes of a datagram. One to another part never comes
+abbrev pub fate_of : List ℕ → Bool → Draw → Fate
+fate_of plan cut draw =
+    cond (cut || nat_lt (draw.loss % 100) (number_at Loss plan)) Lost (way_of plan draw)

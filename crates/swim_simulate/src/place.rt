@@ -1,0 +1,87 @@
+//! The names of the members, and what is known of each beside its node.
+
+ghost use Rattle.std.specs.Prelude.{◌≡◌, ◌+◌, ◌*◌, ◌<◌};
+
+use crate::joining::Joins;
+use crate::key::Key;
+use crate::plan::Plan;
+use swim_member::{Deal, Settings};
+use swim_wire::Endpoint;
+
+/// The address of the first member, 10.0.0.1.
+const FIRST: u32 = 0x0a00_0001;
+
+/// The port of each member.
+const PORT: u16 = 7000;
+
+/// The endpoint of the member with this place.
+pub(crate) fn endpoint_of(place: usize) -> Endpoint
+    requires { place < 1000 }
+{
+    match Endpoint::new(FIRST + place as u32, PORT) {
+        Some(endpoint) => endpoint,
+        None => unreachable!(),
+    }
+}
+
+/// The place of the member with this endpoint. It is that of no member if it is not below their count.
+pub(crate) fn place_of(endpoint: Endpoint) -> usize {
+    endpoint.address().wrapping_sub(FIRST) as usize
+}
+
+/// The settings of the member with this place.
+pub(crate) fn settings_of(plan: &Plan, place: usize) -> Settings
+    requires { place < 1000 }
+{
+    Settings {
+        group: 1,
+        me: endpoint_of(place),
+        lambda: plan.get(Key::Lambda) as u32,
+        period: plan.get(Key::Period),
+        direct: plan.get(Key::Direct),
+        suspect: plan.get(Key::Suspect),
+        forget: plan.get(Key::Forget),
+        helpers: plan.get(Key::Helpers) as usize,
+        block: plan.get(Key::Block),
+        rules: plan.get(Key::Rules) as u32,
+    }
+}
+
+/// What is known of a member beside its node.
+#[derive(Clone, Copy, Drop)]
+pub(crate) struct Place {
+    /// Whether it runs.
+    pub(crate) is_up: bool,
+    /// When it begins, or begins again if it was killed; none if it does not.
+    pub(crate) begins: Option<u64>,
+    /// How far its clock is to the next tick, in hundredths.
+    pub(crate) clock: u64,
+    /// How many of its ticks are left until it draws a new order.
+    pub(crate) until_deal: u64,
+    /// The order for the next turn list.
+    pub(crate) deal: Deal,
+    /// How far it is with its joins.
+    pub(crate) joins: Joins,
+    /// How many rows of each kind it has: alive, suspected, and the rest.
+    pub(crate) rows: [usize; 3],
+}
+
+impl Place {
+    /// A member that does not run yet.
+    pub(crate) fn new(begins: u64) -> Place {
+        Place {
+            is_up: false,
+            begins: Some(begins),
+            clock: 0,
+            until_deal: 0,
+            deal: Deal::from_first(0),
+            joins: Joins::none(),
+            rows: [0; 3],
+        }
+    }
+
+    /// Whether it holds nobody for alive or suspected.
+    pub(crate) fn is_alone(&self) -> bool {
+        self.rows[0] == 0 && self.rows[1] == 0
+    }
+}

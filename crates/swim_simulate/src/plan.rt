@@ -1,0 +1,166 @@
+//! Plans: what is simulated. A plan has a number for each key.
+
+ghost use Rattle.std.specs.Prelude.{◌≡◌, ◌≢◌, ◌<◌, ◌≤◌, Some, None, IfOk, IfErr, option_and_then, option_map};
+ghost use Rattle.toml.specs.Data.{Members, as_integer};
+ghost use Rattle.toml.specs.Parse.{parse_document};
+ghost use Rattle.toml.specs.View.{table_view, view};
+ghost use Rattle.swim_settings.specs.Says.{natural_of};
+ghost use Rattle.swim_simulate.specs.declared.key.Key.TheVariants as keys;
+ghost use Rattle.swim_simulate.specs.Keys.{range_of};
+ghost use Rattle.swim_simulate.specs.Plan.{AreDefaults, IsFirstKey, IsUnknownKey, IsPlanReason, Says, kill_tick, number_at, taken_at, taken_from, tick_count, data_at};
+
+use crate::key::{KEYS, Key, Range};
+use crate::refusal::PlanRefusal;
+use std::alloc::Global;
+use std::marker::Model;
+use swim_settings::Refusal;
+use toml::{Table, Value};
+
+/// What is simulated: a number for each key, which is in the range of the key.
+#[derive(Clone, Copy)]
+pub struct Plan {
+    numbers: [u64; KEYS],
+}
+
+impl Model for Plan {
+    ghost use Rattle.std.specs.Prelude.{ℕ, List};
+    ghost use Rattle.swim_simulate.specs.Plan.{AreInRanges};
+
+    ghost Value = { List ℕ };
+
+    ghost view = { λ p. p.numbers };
+
+    ghost invariant = { λ p. AreInRanges p.numbers };
+
+    ghost inverse = { λ numbers. record { numbers = numbers } };
+}
+
+/// The number that a value is, unless it is none or below 0.
+fn as_number(value: &Value) -> Option<u64>
+    ensures { result ≡ option_and_then natural_of (as_integer (view value.now)) }
+{
+    match value.as_integer() {
+        Some(number) => u64::try_from(number).ok(),
+        None => None,
+    }
+}
+
+/// What stands at a key.
+fn find(table: &Table, key: Key) -> Option<&Value>
+    ensures { option_map (λ value. view value.now) result ≡ data_at key (table_view table.now) }
+{
+    table.get(key.text())
+}
+
+/// The number, if it is in the range.
+fn within(range: Range, number: u64) -> Option<u64>
+    ensures { result ≡ taken_from range number }
+{
+    if number < range.least || range.most < number {
+        return None;
+    }
+    Some(number)
+}
+
+/// The number that the table gives a key, or else its default; none where the key does not take it.
+fn taken(table: &Table, key: Key) -> Option<u64>
+    ensures { result ≡ taken_at key (table_view table.now) }
+{
+    let range = key.range();
+    match find(table, key) {
+        Some(value) => within(range, as_number(value)?),
+        None => within(range, range.default),
+    }
+}
+
+/// The plan of a table, or the first key that does not take its number.
+fn read_keys(table: &Table) -> Result<Plan, Key>
+    ensures ok { IfOk result (Says (table_view table.now)) }
+    ensures refused { IfErr result (λ key. IsFirstKey key (table_view table.now)) }
+{
+    let mut numbers = [0; KEYS];
+    for place in 0..KEYS {
+        let key = Key::ALL[place];
+        match taken(table, key) {
+            Some(number) => numbers[place] = number,
+            None => return Err(key),
+        }
+    }
+    Ok(Plan { numbers })
+}
+
+/// Refuses a key that is none of the known ones; of several the least, by its bytes.
+fn refuse_unknown(alloc: Global, table: &Table) -> Result<(), PlanRefusal>
+    ensures { IfErr result IsUnknownKey }
+{
+    for key in table.keys() {
+        if !Key::ALL.iter().any(|known| known.text() == key.as_str()) {
+            let unknown = String::from_str(alloc, key.as_str())?;
+            return Err(PlanRefusal::Text(Refusal::Unknown(unknown)));
+        }
+    }
+    Ok(())
+}
+
+impl Plan {
+    /// The plan with the default of each key.
+    pub fn default() -> Plan
+        ensures { AreDefaults result }
+    {
+        let mut numbers = [0; KEYS];
+        for place in 0..KEYS {
+            numbers[place] = Key::ALL[place].range().default;
+        }
+        Plan { numbers }
+    }
+
+    /// The number of a key.
+    pub fn get(&self, key: Key) -> u64
+        ensures value { result ≡ number_at key self.now }
+        ensures low { (range_of key).least ≤ result }
+        ensures high { result ≤ (range_of key).most }
+    {
+        self.numbers[key.place()]
+    }
+
+    /// How many ticks are simulated.
+    pub fn ticks(&self) -> u64
+        ensures value { result ≡ tick_count self.now }
+        ensures high { result ≤ 86400000 }
+    {
+        self.get(Key::Minutes) * 60_000 / self.get(Key::TickMs)
+    }
+
+    /// In which tick the kill with this number comes, counted from 0.
+    pub fn kill_tick(&self, kill: u64) -> u64
+        requires { kill < number_at keys.Kills self.now }
+        ensures { result ≡ kill_tick self.now kill }
+    {
+        let kills = self.get(Key::Kills);
+        self.ticks() * (kill + 1) / (kills + 1)
+    }
+
+    /// The plan that the bytes of a file say.
+    pub fn read(alloc: Global, bytes: &[u8]) -> Result<Plan, PlanRefusal>
+        ensures said { IfOk result (λ plan. (table : Members)
+            × (parse_document bytes.now ≡ Some table) × Says table plan) }
+        ensures direct { IfOk result (λ plan. number_at keys.Direct plan
+            < number_at keys.Period plan) }
+        ensures refused { IfErr result (IsPlanReason bytes.now) }
+    {
+        let table = match toml::table_from_slice(alloc, bytes) {
+            Ok(table) => table,
+            Err(error) if error.is_memory() => return Err(PlanRefusal::Text(Refusal::Memory)),
+            Err(_) => return Err(PlanRefusal::Text(Refusal::Toml)),
+        };
+        let plan = match read_keys(&table) {
+            Ok(plan) => plan,
+            Err(key) => return Err(PlanRefusal::Key(key)),
+        };
+        refuse_unknown(alloc, &table)?;
+        if plan.get(Key::Direct) >= plan.get(Key::Period) {
+            return Err(PlanRefusal::Key(Key::Direct));
+        }
+        Ok(plan)
+    }
+}

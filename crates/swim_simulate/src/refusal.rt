@@ -1,0 +1,40 @@
+//! Why a plan is refused.
+
+ghost use Rattle.std.specs.Prelude.{◌≡◌};
+ghost use Rattle.swim_simulate.specs.declared.refusal.PlanRefusal.TheVariants as refusals;
+
+use crate::key::Key;
+use std::alloc::AllocError;
+use std::{error, fmt};
+use swim_settings::Refusal;
+
+/// Why a plan is refused. It prints the key, or what is wrong with the text, always on one line.
+#[derive(Debug, PartialEq, Eq, Drop)]
+pub enum PlanRefusal {
+    /// This key has another value than it takes.
+    Key(Key),
+    /// The text is no TOML, or has a key that no plan has, or memory ran out.
+    Text(Refusal),
+}
+
+impl From<AllocError> for PlanRefusal {
+    ghost use Rattle.swim_settings.specs.declared.refusal.Refusal.TheVariants.{Memory};
+
+    ghost from_gives = { λ _ refusal. refusal ≡ refusals.Text Memory };
+
+    fn from(_: AllocError) -> PlanRefusal {
+        PlanRefusal::Text(Refusal::Memory)
+    }
+}
+
+impl fmt::Display for PlanRefusal {
+    /// The key; one that TOML does not take without quotes is quoted and escaped.
+    fn fmt<W: fmt::Write>(&self, f: &mut fmt::Formatter<W>) -> fmt::Result {
+        match self {
+            PlanRefusal::Key(key) => write!(f, "{key}"),
+            PlanRefusal::Text(refusal) => write!(f, "{refusal}"),
+        }
+    }
+}
+
+impl error::Error for PlanRefusal {}

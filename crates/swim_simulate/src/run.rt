@@ -1,0 +1,514 @@
+//! A run: a group of real nodes, a clock in ticks, and the network between them.
+
+ghost use Rattle.std.specs.Prelude.{IfOk};
+ghost use Rattle.swim_group.specs.RealNodes.{HasSoundNodeRun};
+
+use crate::dice::Dice;
+use crate::fault::SimulateFault;
+use crate::joining::{Due, Joins};
+use crate::key::Key;
+use crate::measures::{Measures, count};
+use crate::network::{Fate, fate_by, is_cut, size_of_datagram};
+use crate::place::{Place, endpoint_of, place_of, settings_of};
+use crate::plan::Plan;
+use crate::views::{View, Views};
+use std::alloc::Global;
+use swim_disk::Choice;
+use swim_group::{Nodes, NodesFault};
+use swim_member::{Event, Phase};
+use swim_node::{Save, Status};
+use swim_wire::{Cursor, MEMBERS_MAX, UPDATES_MAX};
+
+/// The most datagrams that are on their way at a time.
+const ROOM: usize = 1 << 20;
+
+/// The most pages of rows that a member has.
+const PAGES_MAX: usize = 10;
+
+/// The way of a datagram that the group keeps, in the same place there.
+#[derive(Clone, Copy, Drop)]
+struct Flight {
+    to: usize,
+    due: u64,
+    /// How many ticks after that it comes once more.
+    again: Option<u64>,
+    is_lost: bool,
+}
+
+/// A run.
+#[derive(Drop)]
+pub(crate) struct Run {
+    plan: Plan,
+    dice: Dice,
+    nodes: Nodes,
+    flights: Vec<Flight>,
+    places: Vec<Place>,
+    views: Views,
+    measures: Measures,
+    kills: u64,
+    now: u64,
+}
+
+impl Run {
+    /// A group that did nothing yet.
+    pub(crate) fn new(alloc: Global, plan: &Plan, seed: u64) -> Result<Run, SimulateFault> {
+        let members = plan.get(Key::Members) as usize;
+        let mut dice = Dice::new(seed);
+        let mut settings = Vec::new(alloc);
+        let mut places = Vec::new(alloc);
+        for place in 0..members {
+            settings.push(settings_of(plan, place))?;
+            let begins = dice.below(plan.get(Key::Period) as usize);
+            places.push(Place::new(begins as u64))?;
+        }
+        let limit = plan.get(Key::Limit) as u32;
+        let nodes = Nodes::new(alloc, settings.as_slice(), limit, ROOM)?;
+        Ok(Run {
+            plan: *plan,
+            dice,
+            nodes,
+            flights: Vec::new(alloc),
+            places,
+            views: Views::new(alloc, members)?,
+            measures: Measures::new(alloc),
+            kills: 0,
+            now: 0,
+        })
+    }
+
+    /// What is left of the run.
+    pub(crate) fn done(self) -> Done
+        ensures { HasSoundNodeRun result.nodes }
+    {
+        let mut nodes = self.nodes;
+        // there is no such datagram, so nothing changes
+        let _ = nodes.lose(usize::MAX);
+        Done {
+            nodes,
+            measures: self.measures,
+        }
+    }
+
+    /// Whether a member runs.
+    fn is_up(&self, who: usize) -> bool {
+        match self.places.get(who) {
+            Some(place) => place.is_up,
+            None => false,
+        }
+    }
+
+    /// Which second it is.
+    fn second(&self) -> u64 {
+        self.now.saturating_mul(self.plan.get(Key::TickMs)) / 1000
+    }
+
+    /// Where the datagram goes that is kept in this place, and how many bytes it has.
+    fn kept(&self, index: usize) -> Option<(usize, u64)> {
+        let out = self.nodes.kept().get(index)?;
+        Some((place_of(out.to), size_of_datagram(&out.datagram)))
+    }
+
+    /// The way of a datagram from this member to that one.
+    fn flight(&mut self, from: usize, to: usize) -> Flight {
+        let is_cut = is_cut(&self.plan, self.second(), from, to);
+        let draw = self.dice.draw();
+        let (delay, again) = match fate_by(&self.plan, is_cut, draw) {
+            Fate::Lost => (None, None),
+            Fate::Comes(first) => (Some(first), None),
+            Fate::ComesTwice(first, second) => (Some(first), Some(second)),
+        };
+        Flight {
+            to,
+            due: self.now.saturating_add(delay.unwrap_or(0)),
+            again,
+            is_lost: delay.is_none(),
+        }
+    }
+
+    /// What this member sent goes its ways.
+    fn send(&mut self, from: usize) -> Result<(), SimulateFault> {
+        for index in self.flights.len()..self.nodes.kept().len() {
+            if let Some((to, size)) = self.kept(index) {
+                let flight = self.flight(from, to);
+                self.measures.counts.send(size, flight.is_lost);
+                self.flights.push(flight)?;
+            }
+        }
+        Ok(())
+    }
+
+    /// Whether a member saved its ceiling at its last event.
+    fn has_saved(&self, who: usize) -> bool {
+        match self.nodes.seats().get(who) {
+            Some(seat) => match &seat.node {
+                Some(node) if node.len() > 0 => node.last().save == Save::Done,
+                _ => false,
+            },
+            None => false,
+        }
+    }
+
+    /// What a member did goes into the network and the counts. Its era ends where it is full.
+    fn settle(&mut self, who: usize, status: &Status) -> Result<(), SimulateFault> {
+        if self.has_saved(who) {
+            count(&mut self.measures.counts.saves);
+        }
+        self.send(who)?;
+        if status.length as u64 >= self.plan.get(Key::Limit) {
+            self.nodes.end_era(who)?;
+        }
+        Ok(())
+    }
+
+    /// A member that runs held something else of another before.
+    fn mark(&mut self, observer: usize, who: usize, view: View) {
+        let was = self.views.set(observer, who, view);
+        if was == view || observer == who {
+            return;
+        }
+        self.measures.see(who, view, self.now);
+        if self.measures.is_unknown(who) && self.is_known(who) {
+            self.measures.know(who, self.now);
+        }
+    }
+
+    /// Whether no other member that runs holds this one for alive or suspected.
+    fn is_known(&self, who: usize) -> bool {
+        for observer in 0..self.places.len() {
+            let view = self.views.get(observer, who);
+            let holds = view == View::Alive || view == View::Suspect;
+            if observer != who && self.is_up(observer) && holds {
+                return false;
+            }
+        }
+        true
+    }
+
+    /// A member shows all its rows.
+    fn read_rows(&mut self, observer: usize) -> Result<(), SimulateFault> {
+        let mut after = Cursor::zero();
+        let mut next = 0;
+        for _ in 0..PAGES_MAX {
+            let reply = self.nodes.step(observer, Event::Members { after })?;
+            self.settle(observer, &reply.status)?;
+            for update in reply.page.as_slice() {
+                let who = place_of(update.who);
+                for other in next..who.min(MEMBERS_MAX) {
+                    self.mark(observer, other, View::Unknown);
+                }
+                self.mark(observer, who, View::from(update.kind));
+                next = who.saturating_add(1);
+                after = Cursor::at(update.who);
+            }
+            if reply.page.len() < UPDATES_MAX {
+                break;
+            }
+        }
+        for other in next..self.places.len() {
+            self.mark(observer, other, View::Unknown);
+        }
+        Ok(())
+    }
+
+    /// What changed of a member's rows is seen.
+    fn look(&mut self, who: usize, status: &Status, is_hidden: bool) -> Result<(), SimulateFault> {
+        let rows = [status.alive, status.suspect, status.confirmed];
+        let Some(place) = self.places.get_mut(who) else {
+            return Ok(());
+        };
+        if place.is_up && status.phase != Phase::Running {
+            place.is_up = false;
+            count(&mut self.measures.counts.expelled);
+            return Ok(());
+        }
+        let is_same = place.rows == rows;
+        place.rows = rows;
+        if is_same && !is_hidden {
+            return Ok(());
+        }
+        self.read_rows(who)
+    }
+
+    /// An event comes to a member.
+    fn happen(&mut self, who: usize, event: Event) -> Result<(), SimulateFault> {
+        let reply = self.nodes.step(who, event)?;
+        self.settle(who, &reply.status)?;
+        self.look(who, &reply.status, false)
+    }
+
+    /// Whether a datagram says several things that a member does not hold: then its rows may change, and their counts not.
+    fn may_hide(&self, index: usize, to: usize) -> bool {
+        let Some(out) = self.nodes.kept().get(index) else {
+            return false;
+        };
+        let mut news = 0u32;
+        for update in out.datagram.updates.as_slice() {
+            if self.views.get(to, place_of(update.who)) != View::from(update.kind) {
+                news = news.saturating_add(1);
+            }
+        }
+        news > 1
+    }
+
+    /// The datagram that is kept in this place comes to a member.
+    fn receive(&mut self, index: usize, to: usize) -> Result<(), SimulateFault> {
+        if !self.is_up(to) {
+            return Ok(());
+        }
+        count(&mut self.measures.counts.came);
+        let is_hidden = self.may_hide(index, to);
+        let reply = self.nodes.deliver(to, index)?;
+        self.settle(to, &reply.status)?;
+        self.look(to, &reply.status, is_hidden)
+    }
+
+    /// The datagram that is kept in this place comes once more.
+    fn repeat(&mut self, index: usize, delay: u64) {
+        if let Some(flight) = self.flights.get_mut(index) {
+            flight.due = self.now.saturating_add(delay);
+            flight.again = None;
+        }
+    }
+
+    /// What is due of the datagram that is kept in this place.
+    fn arrive(&mut self, index: usize) -> Result<(), SimulateFault> {
+        let Some(flight) = self.flights.get(index).copied() else {
+            return Ok(());
+        };
+        if self.now < flight.due {
+            return Ok(());
+        }
+        if !flight.is_lost {
+            self.receive(index, flight.to)?;
+        }
+        if let Some(delay) = flight.again {
+            self.repeat(index, delay);
+            return Ok(());
+        }
+        self.nodes.lose(index)?;
+        if index < self.flights.len() {
+            let _ = self.flights.swap_remove(index);
+        }
+        Ok(())
+    }
+
+    /// The member that a member joins: one that is drawn from its rows, itself left out.
+    fn drawn(&mut self, who: usize) -> Option<usize> {
+        let mut eligible = 0usize;
+        for other in 0..self.places.len() {
+            if self.is_eligible(who, other) {
+                eligible = eligible.saturating_add(1);
+            }
+        }
+        if eligible == 0 {
+            return None;
+        }
+        let mut left = self.dice.below(eligible);
+        for other in 0..self.places.len() {
+            if self.is_eligible(who, other) {
+                if left == 0 {
+                    return Some(other);
+                }
+                left -= 1;
+            }
+        }
+        None
+    }
+
+    /// Whether a member holds another for alive or suspected.
+    fn is_eligible(&self, who: usize, other: usize) -> bool {
+        let view = self.views.get(who, other);
+        other != who && (view == View::Alive || view == View::Suspect)
+    }
+
+    /// Whom a member joins now.
+    fn peer(&mut self, who: usize) -> Option<usize> {
+        let plan = self.plan;
+        let place = self.places.get_mut(who)?;
+        let due = place.joins.due(&plan, place.is_alone());
+        if due == Due::Nobody {
+            return None;
+        }
+        let listed = plan.get(Key::Listed).min(plan.get(Key::Members));
+        let next = (place.joins.count % listed) as usize;
+        place.joins.count = place.joins.count.saturating_add(1);
+        place.joins.since = 0;
+        let is_lists = due == Due::Listed
+            || plan.get(Key::Rules) == 2 && self.dice.word() % 2 == 1
+            || self.views.get(who, next) == View::Unknown;
+        if is_lists && next != who {
+            return Some(next);
+        }
+        if due == Due::Listed {
+            return None;
+        }
+        self.drawn(who)
+    }
+
+    /// The order of a member's next turn list, which is drawn once in a period.
+    fn tick_of(&mut self, who: usize) -> Option<Event> {
+        let place = self.places.get_mut(who)?;
+        if place.until_deal == 0 {
+            place.deal = self.dice.deal();
+            place.until_deal = self.plan.get(Key::Period);
+        }
+        place.until_deal -= 1;
+        place.joins.since = place.joins.since.saturating_add(1);
+        Some(Event::Tick { deal: place.deal })
+    }
+
+    /// A tick of a member's own clock.
+    fn tick(&mut self, who: usize) -> Result<(), SimulateFault> {
+        let Some(event) = self.tick_of(who) else {
+            return Ok(());
+        };
+        count(&mut self.measures.counts.ticks);
+        self.happen(who, event)?;
+        if let Some(peer) = self.peer(who) {
+            if peer < MEMBERS_MAX {
+                let peer = endpoint_of(peer);
+                self.happen(who, Event::Join { peer })?;
+            }
+        }
+        Ok(())
+    }
+
+    /// How many ticks a member's clock makes now.
+    fn beats(&mut self, who: usize) -> u64 {
+        let odd = self.plan.get(Key::OddClocks);
+        let is_odd = (who as u64).saturating_add(odd) >= self.plan.get(Key::Members);
+        let rate = if is_odd {
+            self.plan.get(Key::ClockRate)
+        } else {
+            100
+        };
+        match self.places.get_mut(who) {
+            Some(place) if place.is_up => {
+                let clock = place.clock.saturating_add(rate);
+                place.clock = clock % 100;
+                clock / 100
+            }
+            _ => 0,
+        }
+    }
+
+    /// What a crash leaves of what was not synced.
+    fn choice(&mut self) -> Choice {
+        let chance = u64::from(self.dice.word() % 100);
+        let dropped = self.plan.get(Key::Dropped);
+        if chance < dropped {
+            Choice::Drop
+        } else if chance < dropped + self.plan.get(Key::Filled) {
+            Choice::Fill((self.dice.word() % 256) as u8)
+        } else {
+            Choice::Keep
+        }
+    }
+
+    /// A member that was killed is opened again. It knows nobody.
+    fn restart(&mut self, who: usize) -> Result<(), SimulateFault> {
+        let choice = self.choice();
+        match self.nodes.crash(who, choice) {
+            Ok(()) => self.measures.restart(who, self.now),
+            Err(NodesFault::NotOpened(_)) => {
+                count(&mut self.measures.counts.gone);
+                return Ok(());
+            }
+            Err(fault) => return Err(SimulateFault::from(fault)),
+        }
+        for other in 0..self.places.len() {
+            let _ = self.views.set(who, other, View::Unknown);
+        }
+        if let Some(place) = self.places.get_mut(who) {
+            *place = Place::new(0);
+            place.begins = None;
+            place.is_up = true;
+        }
+        Ok(())
+    }
+
+    /// A member begins, if it is time.
+    fn begin(&mut self, who: usize) -> Result<(), SimulateFault> {
+        let now = self.now;
+        let was_killed = self.measures.was_killed(who);
+        match self.places.get_mut(who) {
+            Some(place) if place.begins == Some(now) => {
+                place.begins = None;
+                place.is_up = !was_killed;
+            }
+            _ => return Ok(()),
+        }
+        if was_killed {
+            self.restart(who)?;
+        }
+        Ok(())
+    }
+
+    /// A member that runs is killed, if it is time. It is opened again later, if the plan says so.
+    fn kill(&mut self) -> Result<(), SimulateFault> {
+        if self.kills >= self.plan.get(Key::Kills) || self.now < self.plan.kill_tick(self.kills) {
+            return Ok(());
+        }
+        self.kills += 1;
+        let after = self.plan.get(Key::RestartAfter);
+        let begins = if after == 0 {
+            None
+        } else {
+            Some(self.now.saturating_add(after))
+        };
+        let up = self.places.iter().filter(|place| place.is_up).count();
+        if up == 0 {
+            return Ok(());
+        }
+        let mut left = self.dice.below(up);
+        for (who, place) in self.places.iter_mut().enumerate() {
+            if place.is_up && left == 0 {
+                place.is_up = false;
+                place.begins = begins;
+                self.measures.kill(who, self.now)?;
+                return Ok(());
+            }
+            if place.is_up {
+                left -= 1;
+            }
+        }
+        Ok(())
+    }
+
+    /// A tick of the group.
+    pub(crate) fn turn(&mut self) -> Result<(), SimulateFault> {
+        self.kill()?;
+        for index in (0..self.flights.len()).rev() {
+            self.arrive(index)?;
+        }
+        for who in 0..self.places.len() {
+            self.begin(who)?;
+            for _ in 0..self.beats(who) {
+                self.tick(who)?;
+            }
+        }
+        self.now = self.now.saturating_add(1);
+        Ok(())
+    }
+}
+
+/// What is left of a run.
+#[derive(Drop)]
+pub struct Done {
+    /// The nodes.
+    pub nodes: Nodes,
+    /// What was measured.
+    pub measures: Measures,
+}
+
+/// Runs a group by a plan and a seed.
+pub fn simulate(alloc: Global, plan: &Plan, seed: u64) -> Result<Done, SimulateFault>
+    // the nodes are those of a run in which nothing is invented and no number is passed
+    ensures run { IfOk result (λ done. HasSoundNodeRun done.nodes) }
+{
+    let mut run = Run::new(alloc, plan, seed)?;
+    for _ in 0..plan.ticks() {
+        run.turn()?;
+    }
+    Ok(run.done())
+}
