@@ -20,11 +20,14 @@ class Wire:
         self.ended = [None] * count  # when a life was ended
         self.told = {}  # when, by kind and place, one was first told after that
         self.accused = {}  # who first told, and in what, that a member is confirmed which lives, by its place
+        self.homes = []
+        self.capture = bytearray()  # all that was sent, as `swim check` reads it
 
     def see(self, source, data):
         """One datagram, as it leaves the member at this place."""
         self.datagrams += 1
         self.bytes += len(data)
+        self.capture += f"{self.homes[source].public} {data.hex()}\n".encode()
         try:
             datagram = decode(data, self.rules)
         except Wrong as wrong:
