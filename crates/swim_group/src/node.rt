@@ -59,6 +59,18 @@ pub fn end_era<D: Disk>(node: &mut Node<D>) -> Era
     era
 }
 
+/// Begins an era of a node, as `Node::rebase` does. That is the next move of each group in which the node lives.
+pub fn rebase<D: Disk>(node: &mut Node<D>)
+    ensures base { node.new.base ≡ next_base node.old.base node.old.entries }
+    ensures entries { node.new.entries ≡ [] }
+    ensures moved { D.keeps_model
+        → IsMoveOf D.state node.old node.new (λ sent. Unit {0}) (λ which. Rebases which) }
+{
+    node.rebase();
+    // what a life that ends now was
+    let _ = node.disk();
+}
+
 /// Saves the peers of a node, as `Node::keep_peers` does. That is the next move of each group in which the node lives,
 /// also where the save fails.
 pub fn keep_peers<D: Disk>(node: &mut Node<D>) -> Result<(), SaveFault>

@@ -9,8 +9,8 @@ ghost use Rattle.swim_group.specs.Refusing.{IsNoLimit, AreUnbegun, IsUnheard, Is
 
 use crate::beginning::may_begin;
 use crate::fault::NodesFault;
-use crate::seat::{Seat, end_there, first_seats, hear_there, last_outs, open_there};
-use crate::step::{arrival, is_readable, keep};
+use crate::seat::{Seat, end_there, first_seats, hear_there, keep_last, open_there};
+use crate::step::{arrival, is_readable};
 use std::alloc::Global;
 use std::marker::Model;
 use swim_disk::Choice;
@@ -117,8 +117,7 @@ impl Nodes {
         match hear_there(&mut self.seats[node], event) {
             Err(fault) => Err(fault),
             Ok(reply) => {
-                let outs = last_outs(&self.seats[node]);
-                keep(&mut self.kept, self.room, outs);
+                keep_last(&self.seats[node], &mut self.kept, self.room);
                 Ok(reply)
             }
         }

@@ -1,7 +1,8 @@
 //! A place in a group of real nodes, and what happens to who sits there.
 
-ghost use Rattle.std.specs.Prelude.{◌≡◌, ◌++◌, ◌∷◌, [], ℕ, All, None, List, IfOk, IfErr, OnOk, OnErr};
-ghost use Rattle.swim_wire.specs.Spelling.{HasText};
+ghost use Rattle.std.specs.Prelude.{◌≡◌, ◌+◌, ◌≤◌, ◌++◌, ◌∷◌, [], ℕ, All, None, List, length, take, vec_len, IfOk, IfErr, OnOk, OnErr};
+ghost use Rattle.std.specs.Vec.{vec_capacity};
+ghost use Rattle.swim_member.specs.declared.answer.TheConstants.{OUTS_MAX};
 ghost use Rattle.swim_member.specs.Checks.{AreSound};
 ghost use Rattle.swim_member.specs.declared.settings.Settings.{Settings as Options};
 ghost use Rattle.swim_disk.specs.declared.mem.MemDisk.{MemDisk as Disks};
@@ -14,14 +15,14 @@ ghost use Rattle.swim_group.specs.RealNodes.{HearsThere, OpensThere, EraEndsTher
 ghost use Rattle.swim_group.specs.Refusing.{IsDeaf, IsShut, IsNoLimit, IsNotMade, IsUnseated};
 
 use crate::fault::NodesFault;
-use crate::node::{crash, end_era, hear, open_again};
-use arrayvec::ArrayVec;
+use crate::node::{crash, hear, open_again, rebase};
+use crate::step::keep;
 use std::alloc::Global;
 use swim_disk::{Choice, MemDisk};
 use swim_member::{Event, OUTS_MAX, Out, Settings};
 use swim_node::{Link, LinkFault, Node, Reply, Tag};
 use swim_state::{InitFault, Owner, init};
-use swim_wire::{Endpoint, decode, encode};
+use swim_wire::Endpoint;
 
 /// A node on a disk in memory, or none where it was not opened again, and the settings with which it is opened.
 #[derive(Drop)]
@@ -69,48 +70,24 @@ pub(crate) fn hear_there(seat: &mut Seat, event: Event) -> Result<Reply, NodesFa
     }
 }
 
-/// A copy of a datagram with its destination.
-fn copy(out: &Out) -> Out
-    requires { HasText out.now.datagram }
-    ensures { result ≡ out.now }
-{
-    let text = encode(&out.datagram);
-    match decode(text.as_slice()) {
-        Ok(datagram) => Out {
-            to: out.to,
-            datagram,
-        },
-        Err(_) => unreachable!(),
-    }
-}
-
-/// Copies of datagrams.
-fn copies(outs: &ArrayVec<Out, OUTS_MAX>) -> ArrayVec<Out, OUTS_MAX>
-    requires { All (λ out. HasText out.datagram) outs.now.items }
-    ensures { result.items ≡ outs.now.items }
-{
-    let mut copies = ArrayVec::new();
-    for out in outs.as_slice() {
-        copies.push(copy(out));
-    }
-    copies
-}
-
-/// The datagrams of the last entry of the node that sits there.
-pub(crate) fn last_outs(seat: &Seat) -> ArrayVec<Out, OUTS_MAX>
-    ensures { (settings : Options) → (node : NodeView Disks)
+/// Keeps the datagrams of the last entry of the node that sits there, as far as there is room. The rest is lost.
+pub(crate) fn keep_last(seat: &Seat, kept: &mut Vec<Out>, room: usize)
+    requires within { length kept.old.items ≤ room }
+    requires memory { vec_len kept.old + OUTS_MAX ≤ vec_capacity kept.old }
+    ensures kept { (settings : Options) → (node : NodeView Disks)
         → (before : List Entries) → (e : Entries)
         → seat.now ≡ seat_with settings node
         → node.entries ≡ before ++ e ∷ []
-        → result.items ≡ e.outs.items }
+        → kept.new.items ≡ take room (kept.old.items ++ e.outs.items) }
+    ensures within { length kept.new.items ≤ room }
 {
     let Some(node) = &seat.node else {
-        return ArrayVec::new();
+        return;
     };
     if node.len() == 0 {
-        return ArrayVec::new();
+        return;
     }
-    copies(&node.last().outs)
+    keep(kept, room, &node.last().outs);
 }
 
 /// The node that sits there crashes, and is opened anew on what is left of its disk, if it can be.
@@ -150,7 +127,7 @@ pub(crate) fn end_there(seat: &mut Seat) -> Result<(), NodesFault>
     let Some(node) = &mut seat.node else {
         return Err(NodesFault::Gone);
     };
-    let _ = end_era(node);
+    rebase(node);
     Ok(())
 }
 

@@ -12,19 +12,39 @@ use crate::fault::GroupFault;
 use crate::group::Group;
 use arrayvec::ArrayVec;
 use swim_member::{Event, Member, OUTS_MAX, Out};
-use swim_wire::{decode, encode};
+use swim_wire::{Datagram, decode, encode};
 
-/// Keeps datagrams as far as there is room. The rest is lost.
-pub(crate) fn keep(kept: &mut Vec<Out>, room: usize, outs: ArrayVec<Out, OUTS_MAX>)
+/// A copy of a datagram with its destination.
+fn copy(out: &Out) -> Out
+    ensures { result ≡ out.now }
+{
+    let datagram = &out.datagram;
+    let mut updates = ArrayVec::new();
+    let _ = updates.try_extend_from_slice(datagram.updates.as_slice());
+    Out {
+        to: out.to,
+        datagram: Datagram {
+            version: datagram.version,
+            kind: datagram.kind,
+            group: datagram.group,
+            seq: datagram.seq,
+            sender: datagram.sender,
+            subject: datagram.subject,
+            updates,
+        },
+    }
+}
+
+/// Keeps copies of datagrams as far as there is room. The rest is lost.
+pub(crate) fn keep(kept: &mut Vec<Out>, room: usize, outs: &ArrayVec<Out, OUTS_MAX>)
     requires within { length kept.old.items ≤ room }
     requires memory { vec_len kept.old + OUTS_MAX ≤ vec_capacity kept.old }
-    ensures kept { kept.new.items ≡ take room (kept.old.items ++ outs.items) }
+    ensures kept { kept.new.items ≡ take room (kept.old.items ++ outs.now.items) }
     ensures within { length kept.new.items ≤ room }
 {
-    let mut left = outs;
-    let count = left.len().min(room - kept.len());
-    for i in 0..count {
-        kept.push_reserved(left.remove(0));
+    let count = outs.len().min(room - kept.len());
+    for out in &outs.as_slice()[..count] {
+        kept.push_reserved(copy(out));
     }
 }
 
@@ -53,7 +73,7 @@ fn happen(
     // a history may go on from the state as it is
     let _ = members[member].base();
     let answer = members[member].step(event, ceiling);
-    keep(kept, room, answer.outs);
+    keep(kept, room, &answer.outs);
 }
 
 /// Whether what comes is a datagram.

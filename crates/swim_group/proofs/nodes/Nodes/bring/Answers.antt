@@ -20,7 +20,7 @@ returns-in-Err-clause-run c =
     sound-node-run (real (slice_set c.self.inside.seats.items c.args.node c.hear_there.new.seat) c.reserve.new.self.items c.self.inside.room c.self.inside.limit)
     (subst (λ (ss : List Seats). HasNodeRun ss c.reserve.new.self.items) (sym same) (subst (HasNodeRun c.self.inside.seats.items) (sym c.reserve.ensures.items) c.self.invariant.0))
 
-module _ (c : goal.After-keep) where
+module _ (c : goal.After-keep_last) where
   there : c.args.node < length c.self.inside.seats.items
   there = search rules
 
@@ -28,30 +28,28 @@ module _ (c : goal.After-keep) where
   heard = c.in-Ok.ensures.ok
 
   -- what is kept is what the entry sent
-  keeps : c.keep.new.kept.items ≡ take c.self.inside.room (c.self.inside.kept.items ++ heard.e.outs.items)
+  keeps : c.keep_last.new.kept.items ≡ take c.self.inside.room (c.self.inside.kept.items ++ heard.e.outs.items)
   keeps =
       let seat : c.index.result.now ≡ c.hear_there.new.seat = c.index.ensures ∙ index-set c.self.inside.seats.items c.args.node c.hear_there.new.seat c.index.result.now there in
-      let outs : c.last_outs-outs.result.items ≡ heard.e.outs.items = c.last_outs-outs.ensures c.index_mut.result.now.settings heard.after heard.before.entries heard.e (seat ∙ heard.is) heard.entries in
-      c.keep.ensures.kept
-      ∙ ap (λ (ks : List Outs). take c.self.inside.room (ks ++ c.last_outs-outs.result.items)) c.reserve.ensures.items
-      ∙ ap (λ (os : List Outs). take c.self.inside.room (c.self.inside.kept.items ++ os)) outs
+      c.keep_last.ensures.kept c.index_mut.result.now.settings heard.after heard.before.entries heard.e (seat ∙ heard.is) heard.entries
+      ∙ ap (λ (ks : List Outs). take c.self.inside.room (ks ++ heard.e.outs.items)) c.reserve.ensures.items
 
-  ran : HasNodeRun (slice_set c.self.inside.seats.items c.args.node c.hear_there.new.seat) c.keep.new.kept.items
+  ran : HasNodeRun (slice_set c.self.inside.seats.items c.args.node c.hear_there.new.seat) c.keep_last.new.kept.items
   ran =
       let kept : c.self.inside.kept.items ≡ c.args.self.now.kept = ap (λ v. v.kept) c.self.view_is in
-      heard-run c.self.inside.seats.items c.self.inside.kept.items c.keep.new.kept.items c.self.inside.room c.args.node c.index_mut.result.now c.hear_there.new.seat c.args.event c.in-Ok.reply there c.index_mut.ensures.value heard keeps
+      heard-run c.self.inside.seats.items c.self.inside.kept.items c.keep_last.new.kept.items c.self.inside.room c.args.node c.index_mut.result.now c.hear_there.new.seat c.args.event c.in-Ok.reply there c.index_mut.ensures.value heard keeps
       (subst (λ (ks : List Outs). IsNotInvented ks c.args.event) (sym kept) c.requires.sent) c.self.invariant.0
 
 pub invariant_of-self-in-Ok : goal.invariant_of-self-in-Ok
-invariant_of-self-in-Ok c = (ran c, c.keep.ensures.within)
+invariant_of-self-in-Ok c = (ran c, c.keep_last.ensures.within)
 
 pub returns-in-Ok-clause-ok : goal.returns-in-Ok-clause-ok
 returns-in-Ok-clause-ok c =
     rw (← c.self.view_is)
-    (heard-at c.self.inside.seats.items c.self.inside.kept.items c.keep.new.kept.items c.self.inside.room c.self.inside.limit c.args.node c.index_mut.result.now c.hear_there.new.seat c.args.event c.in-Ok.reply (there c) c.index_mut.ensures.value (heard c) (keeps c))
+    (heard-at c.self.inside.seats.items c.self.inside.kept.items c.keep_last.new.kept.items c.self.inside.room c.self.inside.limit c.args.node c.index_mut.result.now c.hear_there.new.seat c.args.event c.in-Ok.reply (there c) c.index_mut.ensures.value (heard c) (keeps c))
 
 pub returns-in-Ok-clause-run : goal.returns-in-Ok-clause-run
-returns-in-Ok-clause-run c = sound-node-run (real (slice_set c.self.inside.seats.items c.args.node c.hear_there.new.seat) c.keep.new.kept.items c.self.inside.room c.self.inside.limit) (ran c)
+returns-in-Ok-clause-run c = sound-node-run (real (slice_set c.self.inside.seats.items c.args.node c.hear_there.new.seat) c.keep_last.new.kept.items c.self.inside.room c.self.inside.limit) (ran c)
 
 pub returns-in-Err-clause-refused : goal.returns-in-Err-clause-refused
 returns-in-Err-clause-refused c =
