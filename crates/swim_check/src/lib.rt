@@ -4,8 +4,6 @@
 
 mod capture;
 mod line;
-#[cfg(test)]
-mod tests;
 
 pub use capture::{Stop, check, read_capture};
 pub use line::{LineFault, read_line};

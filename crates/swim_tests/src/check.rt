@@ -1,8 +1,8 @@
 //! Captures that were written by hand.
 
-use crate::{LineFault, Stop, check};
 use std::alloc::{AllocError, Global};
 use std::process::Abort;
+use swim_check::{LineFault, Stop, check};
 use swim_group::Breach;
 use swim_wire::{Endpoint, Update, UpdateKind, WireFault};
 

@@ -2,10 +2,10 @@
 
 ghost use Rattle.std.specs.Prelude.{◌<◌};
 
-use super::*;
 use std::alloc::Global;
 use std::process::Abort;
 use swim_disk::Choice;
+use swim_group::{Breach, CheckFault, Checker, Group, GroupFault, Nodes, NodesFault};
 use swim_member::{Event, Out, Settings, SettingsFault};
 use swim_wire::{Datagram, Endpoint, Update, UpdateKind};
 
