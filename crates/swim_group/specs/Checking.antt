@@ -59,6 +59,10 @@ IsNoted old sender updates new = (x n : ℕ)
 abbrev pub as_sent : List Datagram → List Out
 as_sent datagrams = map (λ (d : Datagram). record { to = 0; datagram = d }) datagrams
 
+-- datagrams without whom they were sent to
+abbrev pub datagrams_of : List Out → List Datagram
+datagrams_of outs = map (λ (out : Out). out.datagram) outs
+
 -- the datagram in this place breaks the law, and none before it does; or there was no memory for it
 pub record IsFirstBroken (datagrams : List Datagram) (k : ℕ) (fault : CheckFault) : Type 0 where
   pub datagram : Datagram

@@ -4,7 +4,9 @@ ghost use Rattle.std.specs.Prelude.{◌≡◌, ◌≢◌, ◌+◌, ◌<◌, ◌�
 ghost use Rattle.std.specs.Vec.{vec_capacity};
 ghost use Rattle.swim_member.specs.declared.answer.Out.{Out};
 ghost use Rattle.swim_group.specs.Numbers.{HasNumber};
-ghost use Rattle.swim_group.specs.Checking.{MaySay, Breaks, MayFollow, KeepTheLaw, IsBroken, IsFirstBroken, Remembers, IsNoted, as_sent};
+ghost use Rattle.swim_group.specs.Checking.{MaySay, Breaks, MayFollow, KeepTheLaw, IsBroken, IsFirstBroken, Remembers, IsNoted, as_sent, datagrams_of};
+ghost use Rattle.swim_group.specs.Group.{Group, Move, Begins, IsRunOf, after_moves};
+ghost use Rattle.swim_group.specs.declared.checker.CheckFault.TheVariants.{NoMemory};
 
 use std::alloc::Global;
 use std::marker::Model;
@@ -176,6 +178,12 @@ impl Checker {
 pub fn check_all(alloc: Global, datagrams: &[Datagram]) -> Result<(), (usize, CheckFault)>
     ensures ok { OnOk result (KeepTheLaw [] (as_sent datagrams.now)) }
     ensures err { IfErr result (λ refused. IsFirstBroken datagrams.now refused.0 refused.1) }
+    // what the members of a run sent is refused for nothing but want of memory
+    ensures run { (group : Group) → (moves : List Move)
+        → Begins group
+        → IsRunOf group moves
+        → datagrams.now ≡ datagrams_of (after_moves group moves).sent
+        → IfErr result (λ refused. refused.1 ≡ NoMemory) }
 {
     let mut checker = Checker::new(alloc);
     for i in 0..datagrams.len() {

@@ -1,6 +1,8 @@
 use Rattle.std.proofs.Common.{◌≡◌, ◌+◌, ◌++◌, ◌∷◌, ◌∙◌, [], refl, subst, sym, ap, take}
 use Rattle.swim_group.specs.Checking.{KeepTheLaw, MayFollow, Remembers, as_sent}
 use Rattle.swim_group.proofs.Checking.{law-snoc, as_sent-snoc}
+use Rattle.swim_group.proofs.Holding.{get-at}
+use Rattle.swim_group.proofs.Keeping.{run-passes}
 use Rattle.swim_group.proofs.Naming.{take-last}
 use Rattle.swim_group.proofs.checker.check_all.Goals as goal
 
@@ -13,4 +15,13 @@ loop-i-preserved c =
     record {
       law = subst (KeepTheLaw []) (sym next) (law-snoc [] (as_sent (take c.loop-i.i c.args.datagrams.now)) (record { to = 0; datagram = c.index-datagrams-i.result }) c.loop-i.invariant.law both.0);
       known = subst (Remembers c.check.new.self) (sym next) both.1;
+    }
+
+pub returns-in-Err-clause-run : goal.returns-in-Err-clause-run
+returns-in-Err-clause-run c group moves begins run same =
+    run-passes group moves c.args.datagrams.now c.loop-i.i c.in-Err.fault begins run same record {
+      datagram = c.index-datagrams-i.result;
+      found = get-at c.args.datagrams.now c.loop-i.i c.index-datagrams-i.result c.loop-i-test.true c.index-datagrams-i.is;
+      before = c.loop-i.invariant.law;
+      broken = c.in-Err.ensures.broken (as_sent (take c.loop-i.i c.args.datagrams.now)) c.loop-i.invariant.known;
     }
