@@ -3,7 +3,7 @@
 ghost use Rattle.std.specs.Prelude.{◌≡◌, ◌≤◌, ◌<◌, ◌↔◌, [], length, IfOk, IfErr, OnOk, OnErr, Err};
 ghost use Rattle.swim_group.specs.declared.fault.NodesFault.TheVariants as fault;
 ghost use Rattle.swim_group.specs.Network.{IsNotInvented};
-ghost use Rattle.swim_group.specs.Real.{MayBegin};
+ghost use Rattle.swim_group.specs.Real.{MayBegin, IsReadable};
 ghost use Rattle.swim_group.specs.RealNodes.{HasSoundNodeRun, HearsAt, DeliversAt, OpensAt, EraEndsAt, LosesAt, AreNewNodes};
 ghost use Rattle.swim_group.specs.Refusing.{IsNoLimit, AreUnbegun, IsUnheard, IsNoStep, IsNoDelivery, IsNoOpening, IsNoEnd};
 
@@ -127,6 +127,7 @@ impl Nodes {
     /// is kept as far as there is room.
     pub fn step(&mut self, node: usize, event: Event) -> Result<Reply, NodesFault>
         ensures ok { IfOk result (λ reply. HearsAt self.old self.new node event reply) }
+        ensures unforged { OnOk result (IsReadable event → ⊥) }
         // no such node, a datagram, a node that is gone, an era that is full, or no memory
         ensures refused { IfErr result (λ fault. IsNoStep self.old node event fault) }
         ensures err { OnErr result (self.new ≡ self.old) }

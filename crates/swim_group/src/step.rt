@@ -144,6 +144,7 @@ impl Group {
     pub fn step(&mut self, member: usize, event: &Event, granted: u64) -> Result<(), GroupFault>
         // the member goes on by this event, no other changes, and nothing but what it sends is kept
         ensures ok { OnOk result (after_event self.old member event.now granted ≡ Some self.new) }
+        ensures unforged { OnOk result (IsReadable event.now → ⊥) }
         ensures missing { (result ≡ Err fault.NoMember) ↔ (length self.old.members ≤ member) }
         // no such member, a datagram, or no memory
         ensures refused { IfErr result (λ why. IsNoEvent self.old member event.now why) }
