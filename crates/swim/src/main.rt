@@ -19,7 +19,7 @@ use swim_cli::{
 };
 use swim_play::play;
 use swim_script::ScriptFault;
-use swim_simulate::{Asked, AskedFault};
+use swim_survey::{Asked, AskedFault};
 
 /// The exit status where the words are refused.
 const REFUSED: u8 = 2;
@@ -78,9 +78,9 @@ fn ask_member(rt: &HostRuntime, to: &str, line: &str) -> Result<ExitCode, Ending
     })
 }
 
-/// Simulates a group, and prints what was measured. A refused plan is named on standard error.
+/// Simulates a group, and prints what was measured. A refused plan or sweep is named on standard error.
 fn simulate_group(rt: &HostRuntime, asked: &Asked<'_>) -> Result<ExitCode, Ending> {
-    let fault = match swim_simulate::answer(rt, asked) {
+    let fault = match swim_survey::answer(rt, asked) {
         Ok(text) => {
             print_bytes(rt, text.as_bytes())?;
             return Ok(ExitCode::SUCCESS);
@@ -89,7 +89,7 @@ fn simulate_group(rt: &HostRuntime, asked: &Asked<'_>) -> Result<ExitCode, Endin
     };
     let _ = eprintln!(rt; "swim: {fault}");
     Ok(match fault {
-        AskedFault::Plan(_) => ExitCode::from(REFUSED),
+        AskedFault::Plan(_) | AskedFault::Sweep(_) => ExitCode::from(REFUSED),
         _ => ExitCode::FAILURE,
     })
 }
@@ -130,12 +130,16 @@ fn answer<T: Threads + Wait + Log + Clock + Send + Sync + Copy + Drop>(
             seed,
             runs,
             csv,
+            svg,
+            sweep,
         } => {
             let asked = Asked {
                 plan,
                 seed,
                 runs,
                 csv,
+                svg,
+                sweep,
             };
             simulate_group(rt, &asked)
         }

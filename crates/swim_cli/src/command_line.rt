@@ -67,8 +67,12 @@ pub enum Subcommand<'a> {
         seed: u64,
         /// How many runs.
         runs: u64,
-        /// The path of a file for the kills, if one is wanted.
+        /// The path of a file for the kills or for a sweep, if one is wanted.
         csv: Option<&'a str>,
+        /// The path of a file for a picture, if one is wanted.
+        svg: Option<&'a str>,
+        /// The keys and numbers of a sweep, if there is one, not yet judged.
+        sweep: Option<&'a str>,
     },
 }
 
@@ -163,25 +167,28 @@ fn ctl_command<'a>(alloc: Global) -> Result<Command<'a>, Error> {
     Ok(command)
 }
 
-/// `swim simulate [PLAN] [--seed N] [--runs N] [--csv FILE]`.
+/// A word that may stand after its name.
+fn option<'a>(alloc: Global, id: &'a str, name: &'a str, help: &'a str) -> Arg<'a> {
+    word(alloc, id, name, help).long(id).required(false)
+}
+
+/// `swim simulate [PLAN] [--seed N] [--runs N] [--csv FILE] [--svg FILE] [--sweep KEY=A..B,..]`.
 fn simulate_command<'a>(alloc: Global) -> Result<Command<'a>, Error> {
     let seed = number(alloc, "seed", "What all that is drawn comes from").default_value("1");
     let runs = number(alloc, "runs", "How many runs, each by the next seed")
         .value_parser(ValueParser::unsigned(1, RUNS_LIMIT))
         .default_value("1");
-    let csv = word(
-        alloc,
-        "csv",
-        "FILE",
-        "A new file for the kills, a line each",
-    )
-    .long("csv");
+    let csv = "A new file for the kills, a line each, or for the table of a sweep";
+    let sweep =
+        "Plans with each of these numbers, as suspect=20..200,loss=0..30 or suspect=20..200/20";
     let command = Command::new(alloc, "simulate")
         .about("Simulates a group, and prints how soon it noticed who was killed")
         .arg(word(alloc, "plan", "PLAN", "What is simulated, a TOML table").required(false))?
         .arg(seed)?
         .arg(runs)?
-        .arg(csv.required(false))?;
+        .arg(option(alloc, "csv", "FILE", csv))?
+        .arg(option(alloc, "svg", "FILE", "A new file for a picture"))?
+        .arg(option(alloc, "sweep", "KEYS", sweep))?;
     Ok(command)
 }
 
@@ -248,6 +255,8 @@ fn chosen<'a>(matches: &ArgMatches<'a>) -> Option<Subcommand<'a>> {
             seed: words.get_one::<u64>("seed")?,
             runs: words.get_one::<u64>("runs")?,
             csv: words.get_str("csv"),
+            svg: words.get_str("svg"),
+            sweep: words.get_str("sweep"),
         }),
         _ => None,
     }

@@ -9,6 +9,7 @@ use Rattle.swim_simulate.specs.declared.key.Key.TheVariants.{Listed, Rejoin, Los
 use Rattle.swim_simulate.specs.declared.key.Key.TheVariants.{Delay, Jitter, Kills, RestartAfter}
 use Rattle.swim_simulate.specs.declared.key.Key.TheVariants.{Dropped, Filled, OddClocks, ClockRate}
 use Rattle.swim_simulate.specs.declared.key.Key.TheVariants.{CutMembers, CutAt, CutFor}
+use Rattle.swim_simulate.specs.declared.key.Key.TheVariants.{Pauses, PauseFor}
 use Rattle.swim_wire.specs.declared.update.TheConstants.{MEMBERS_MAX}
 use Rattle.swim_member.specs.declared.settings.TheConstants.{HELPERS_MAX, BLOCK_MAX}
 use Rattle.swim_node.specs.declared.opening.TheConstants.{LIMIT_MAX}
@@ -42,6 +43,8 @@ plan_key ClockRate = codes "clock_rate"
 plan_key CutMembers = codes "cut_members"
 plan_key CutAt = codes "cut_at"
 plan_key CutFor = codes "cut_for"
+plan_key Pauses = codes "pauses"
+plan_key PauseFor = codes "pause_for"
 
 -- a default, the least and the greatest
 abbrev pub within : ℕ → ℕ → ℕ → Range
@@ -76,6 +79,8 @@ range_of ClockRate = within 100 10 1000
 range_of CutMembers = within 0 0 MEMBERS_MAX
 range_of CutAt = within 60 0 86400
 range_of CutFor = within 60 0 86400
+range_of Pauses = within 0 0 100
+range_of PauseFor = within 40 0 1000000
 
 -- how many keys come before it
 abbrev pub rank_of : Key → ℕ
@@ -106,3 +111,5 @@ rank_of ClockRate = 23
 rank_of CutMembers = 24
 rank_of CutAt = 25
 rank_of CutFor = 26
+rank_of Pauses = 27
+rank_of PauseFor = 28

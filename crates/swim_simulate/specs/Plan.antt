@@ -1,5 +1,6 @@
 -- Plans, and what the table of a plan says.
-use Rattle.std.specs.Prelude.{◌≡◌, ◌⊎◌, ◌+◌, ◌*◌, ◌/◌, ◌<◌, ◌≤◌, ◌||◌, ℕ, List, slice_index}
+use Rattle.std.specs.Prelude.{◌≡◌, ◌⊎◌, ◌+◌, ◌*◌, ◌/◌, ◌<◌, ◌≤◌, ◌||◌, ℕ, List}
+use Rattle.std.specs.Prelude.{slice_index, slice_set}
 use Rattle.std.specs.Prelude.{nat_lt, cond, IsUtf8, IsSome, Option, Some, None, option_and_then}
 use Rattle.toml.specs.Parse.{parse_document}
 use Rattle.toml.specs.Data.{Data, Members, get_member, as_integer}
@@ -7,7 +8,7 @@ use Rattle.swim_settings.specs.Says.{natural_of}
 use Rattle.swim_settings.specs.declared.refusal.Refusal.TheVariants as texts
 use Rattle.swim_simulate.specs.declared.key.Key.{Key}
 use Rattle.swim_simulate.specs.declared.key.Key.TheVariants.{Minutes, TickMs, Kills}
-use Rattle.swim_simulate.specs.declared.key.Key.TheVariants.{Direct, Period}
+use Rattle.swim_simulate.specs.declared.key.Key.TheVariants.{Direct, Period, Pauses}
 use Rattle.swim_simulate.specs.declared.key.Range.{Range}
 use Rattle.swim_simulate.specs.declared.refusal.PlanRefusal.{PlanRefusal}
 use Rattle.swim_simulate.specs.declared.refusal.PlanRefusal.TheVariants as refusals
@@ -37,6 +38,14 @@ tick_count plan = number_at Minutes plan * 60000 / number_at TickMs plan
 -- when the kill with this number comes: the kills part the time evenly
 abbrev pub kill_tick : List ℕ → ℕ → ℕ
 kill_tick plan kill = tick_count plan * (kill + 1) / (number_at Kills plan + 1)
+
+-- when the pause with this number comes: the pauses part the time evenly
+abbrev pub pause_tick : List ℕ → ℕ → ℕ
+pause_tick plan pause = tick_count plan * (pause + 1) / (number_at Pauses plan + 1)
+
+-- the plan with another number at the key
+abbrev pub with_number : Key → ℕ → List ℕ → List ℕ
+with_number key number plan = slice_set plan (rank_of key) number
 
 -- What a table says
 

@@ -6,7 +6,7 @@ ghost use Rattle.swim_simulate.specs.Keys.{plan_key, rank_of, range_of};
 use std::fmt;
 
 /// How many keys there are.
-pub const KEYS: usize = 27;
+pub const KEYS: usize = 29;
 
 /// A key of a plan.
 #[derive(Clone, Copy, Debug, PartialEq, Eq)]
@@ -65,6 +65,10 @@ pub enum Key {
     CutAt,
     /// Seconds that it lasts.
     CutFor,
+    /// Members that are paused, one after the other.
+    Pauses,
+    /// Ticks that a pause lasts.
+    PauseFor,
 }
 
 /// Which numbers a key takes.
@@ -119,6 +123,8 @@ impl Key {
         Key::CutMembers,
         Key::CutAt,
         Key::CutFor,
+        Key::Pauses,
+        Key::PauseFor,
     ];
 
     /// The key as a plan has it.
@@ -153,6 +159,8 @@ impl Key {
             Key::CutMembers => "cut_members",
             Key::CutAt => "cut_at",
             Key::CutFor => "cut_for",
+            Key::Pauses => "pauses",
+            Key::PauseFor => "pause_for",
         }
     }
 
@@ -188,6 +196,8 @@ impl Key {
             Key::CutMembers => within(0, 0, 257),
             Key::CutAt => within(60, 0, 86_400),
             Key::CutFor => within(60, 0, 86_400),
+            Key::Pauses => within(0, 0, 100),
+            Key::PauseFor => within(40, 0, 1_000_000),
         }
     }
 
@@ -224,6 +234,8 @@ impl Key {
             Key::CutMembers => 24,
             Key::CutAt => 25,
             Key::CutFor => 26,
+            Key::Pauses => 27,
+            Key::PauseFor => 28,
         }
     }
 }

@@ -2,30 +2,27 @@
 //! and cuts, kills and restarts, and what the others noticed of them.
 #![tactic(auto)]
 
-mod asking;
 mod dice;
 mod fault;
 mod joining;
 mod key;
+mod law;
 mod measures;
 mod network;
 mod place;
 mod plan;
 mod refusal;
-mod rows;
 mod run;
-mod table;
 #[cfg(test)]
 mod tests;
 mod views;
 
-pub use asking::{Asked, AskedFault, answer};
 pub use fault::SimulateFault;
 pub use key::{KEYS, Key, Range};
+pub use law::Stop;
 pub use measures::{Counts, Kill, Measures};
 pub use network::{Draw, Fate, fate_by, is_cut};
 pub use plan::Plan;
 pub use refusal::PlanRefusal;
 pub use run::{Done, simulate};
-pub use table::report;
 pub use views::View;

@@ -1,6 +1,6 @@
 //! What is measured.
 
-ghost use Rattle.std.specs.Prelude.{◌≡◌, ◌+◌, ◌-◌, ◌^◌, ◌++◌, min, OnOk};
+ghost use Rattle.std.specs.Prelude.{◌≡◌, ◌+◌, ◌-◌, ◌^◌, min};
 
 use crate::views::View;
 use std::alloc::{AllocError, Global};
@@ -16,10 +16,23 @@ pub struct Kill {
     pub suspected: Option<u64>,
     /// When the first member held it for failed.
     pub confirmed: Option<u64>,
-    /// When no member that runs held it for alive or suspected.
+    /// When all others that ran agreed that it failed: none held it for alive or suspected.
     pub known: Option<u64>,
     /// When it was opened again.
     pub back: Option<u64>,
+    /// When all others that ran agreed after that: each held it for alive.
+    pub alive: Option<u64>,
+}
+
+/// What the others do not agree on yet, of a member.
+#[derive(Clone, Copy, Debug, PartialEq, Eq)]
+pub(crate) enum Awaited {
+    /// Nothing that is measured.
+    Nothing,
+    /// That it failed.
+    Failure,
+    /// That it is alive again.
+    Life,
 }
 
 /// What is counted.
@@ -47,11 +60,13 @@ pub struct Counts {
     pub gone: u64,
     /// Members that take no part any more, though nobody killed them.
     pub expelled: u64,
+    /// Pauses of members.
+    pub pauses: u64,
 }
 
 impl Counts {
     /// Nothing happened yet.
-    pub(crate) fn zero() -> Counts {
+    pub fn zero() -> Counts {
         Counts {
             datagrams: 0,
             bytes: 0,
@@ -64,6 +79,7 @@ impl Counts {
             restarts: 0,
             gone: 0,
             expelled: 0,
+            pauses: 0,
         }
     }
 }
@@ -79,7 +95,7 @@ impl Counts {
     }
 
     /// Adds what was counted elsewhere.
-    pub(crate) fn add(&mut self, other: &Counts) {
+    pub fn add(&mut self, other: &Counts) {
         raise(&mut self.datagrams, other.datagrams);
         raise(&mut self.bytes, other.bytes);
         raise(&mut self.lost, other.lost);
@@ -91,6 +107,7 @@ impl Counts {
         raise(&mut self.restarts, other.restarts);
         raise(&mut self.gone, other.gone);
         raise(&mut self.expelled, other.expelled);
+        raise(&mut self.pauses, other.pauses);
     }
 }
 
@@ -126,16 +143,6 @@ impl Measures {
         }
     }
 
-    /// Adds what was measured in another run.
-    pub(crate) fn add(&mut self, other: &Measures) -> Result<(), AllocError>
-        ensures { OnOk result (self.new.kills.items
-            ≡ self.old.kills.items ++ other.now.kills.items) }
-    {
-        self.kills.extend_from_slice(other.kills.as_slice())?;
-        self.counts.add(&other.counts);
-        Ok(())
-    }
-
     /// A member is killed.
     pub(crate) fn kill(&mut self, who: usize, tick: u64) -> Result<(), AllocError> {
         let kill = Kill {
@@ -145,6 +152,7 @@ impl Measures {
             confirmed: None,
             known: None,
             back: None,
+            alive: None,
         };
         self.kills.push(kill)?;
         Ok(())
@@ -153,6 +161,23 @@ impl Measures {
     /// Whether a member was killed before.
     pub(crate) fn was_killed(&self, who: usize) -> bool {
         self.kills.iter().any(|kill| kill.who == who)
+    }
+
+    /// The place of a member's last kill among all kills.
+    fn last(&self, who: usize) -> Option<usize> {
+        for place in (0..self.kills.len()).rev() {
+            match self.kills.get(place) {
+                Some(kill) if kill.who == who => return Some(place),
+                _ => {}
+            }
+        }
+        None
+    }
+
+    /// The last kill of a member.
+    fn last_kill(&mut self, who: usize) -> Option<&mut Kill> {
+        let place = self.last(who)?;
+        self.kills.get_mut(place)
     }
 
     /// A member that runs holds this of another from now on.
@@ -165,39 +190,40 @@ impl Measures {
             }
             return;
         }
-        for kill in self.kills.iter_mut() {
-            if kill.who != who || kill.back.is_some() {
-                continue;
-            }
-            match view {
-                View::Suspect => kill.suspected = kill.suspected.or(Some(tick)),
-                View::Confirm => kill.confirmed = kill.confirmed.or(Some(tick)),
-                _ => {}
-            }
+        match (self.last_kill(who), view) {
+            (Some(kill), _) if kill.back.is_some() => {}
+            (Some(kill), View::Suspect) => kill.suspected = kill.suspected.or(Some(tick)),
+            (Some(kill), View::Confirm) => kill.confirmed = kill.confirmed.or(Some(tick)),
+            _ => {}
         }
     }
 
-    /// No member that runs holds this one for alive or suspected.
-    pub(crate) fn know(&mut self, who: usize, tick: u64) {
-        for kill in self.kills.iter_mut() {
-            if kill.who == who && kill.back.is_none() {
-                kill.known = kill.known.or(Some(tick));
-            }
+    /// What the others do not agree on yet, of a member.
+    pub(crate) fn awaited(&self, who: usize) -> Awaited {
+        let Some(place) = self.last(who) else {
+            return Awaited::Nothing;
+        };
+        match self.kills.get(place) {
+            Some(kill) if kill.back.is_some() && kill.alive.is_none() => Awaited::Life,
+            Some(kill) if kill.back.is_none() && kill.known.is_none() => Awaited::Failure,
+            _ => Awaited::Nothing,
         }
     }
 
-    /// Whether somebody may still not know that this member was killed.
-    pub(crate) fn is_unknown(&self, who: usize) -> bool {
-        self.kills.iter().any(|kill| kill.who == who && kill.back.is_none() && kill.known.is_none())
+    /// All others that run agree on what was awaited of a member.
+    pub(crate) fn agree(&mut self, who: usize, tick: u64) {
+        match self.last_kill(who) {
+            Some(kill) if kill.back.is_some() => kill.alive = kill.alive.or(Some(tick)),
+            Some(kill) => kill.known = kill.known.or(Some(tick)),
+            None => {}
+        }
     }
 
     /// A killed member is opened again.
     pub(crate) fn restart(&mut self, who: usize, tick: u64) {
         count(&mut self.counts.restarts);
-        for kill in self.kills.iter_mut() {
-            if kill.who == who {
-                kill.back = kill.back.or(Some(tick));
-            }
+        if let Some(kill) = self.last_kill(who) {
+            kill.back = kill.back.or(Some(tick));
         }
     }
 }

@@ -54,6 +54,8 @@ pub(crate) struct Place {
     pub(crate) is_up: bool,
     /// When it begins, or begins again if it was killed; none if it does not.
     pub(crate) begins: Option<u64>,
+    /// The tick until which it is paused.
+    pub(crate) sleeps_until: u64,
     /// How far its clock is to the next tick, in hundredths.
     pub(crate) clock: u64,
     /// How many of its ticks are left until it draws a new order.
@@ -72,6 +74,7 @@ impl Place {
         Place {
             is_up: false,
             begins: Some(begins),
+            sleeps_until: 0,
             clock: 0,
             until_deal: 0,
             deal: Deal::from_first(0),

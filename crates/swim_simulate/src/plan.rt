@@ -1,13 +1,13 @@
 //! Plans: what is simulated. A plan has a number for each key.
 
-ghost use Rattle.std.specs.Prelude.{◌≡◌, ◌≢◌, ◌<◌, ◌≤◌, Some, None, IfOk, IfErr, option_and_then, option_map};
+ghost use Rattle.std.specs.Prelude.{◌≡◌, ◌≢◌, ◌<◌, ◌≤◌, Some, None, IfOk, IfErr, IfSome, IfNone, option_and_then, option_map};
 ghost use Rattle.toml.specs.Data.{Members, as_integer};
 ghost use Rattle.toml.specs.Parse.{parse_document};
 ghost use Rattle.toml.specs.View.{table_view, view};
 ghost use Rattle.swim_settings.specs.Says.{natural_of};
 ghost use Rattle.swim_simulate.specs.declared.key.Key.TheVariants as keys;
 ghost use Rattle.swim_simulate.specs.Keys.{range_of};
-ghost use Rattle.swim_simulate.specs.Plan.{AreDefaults, IsFirstKey, IsUnknownKey, IsPlanReason, Says, kill_tick, number_at, taken_at, taken_from, tick_count, data_at};
+ghost use Rattle.swim_simulate.specs.Plan.{AreDefaults, IsFirstKey, IsUnknownKey, IsPlanReason, Says, kill_tick, pause_tick, number_at, with_number, taken_at, taken_from, tick_count, data_at};
 
 use crate::key::{KEYS, Key, Range};
 use crate::refusal::PlanRefusal;
@@ -138,6 +138,27 @@ impl Plan {
     {
         let kills = self.get(Key::Kills);
         self.ticks() * (kill + 1) / (kills + 1)
+    }
+
+    /// In which tick the pause with this number comes, counted from 0.
+    pub fn pause_tick(&self, pause: u64) -> u64
+        requires { pause < number_at keys.Pauses self.now }
+        ensures { result ≡ pause_tick self.now pause }
+    {
+        let pauses = self.get(Key::Pauses);
+        self.ticks() * (pause + 1) / (pauses + 1)
+    }
+
+    /// The plan with another number at a key, if the key takes it.
+    pub fn with(&self, key: Key, number: u64) -> Option<Plan>
+        ensures set { IfSome result (λ plan. plan ≡ with_number key number self.now) }
+        ensures taken { IfSome result (λ plan. taken_from (range_of key) number ≡ Some number) }
+        ensures refused { IfNone result (taken_from (range_of key) number ≡ None) }
+    {
+        let number = within(key.range(), number)?;
+        let mut numbers = self.numbers;
+        numbers[key.place()] = number;
+        Some(Plan { numbers })
     }
 
     /// The plan that the bytes of a file say.

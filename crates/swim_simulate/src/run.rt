@@ -7,12 +7,14 @@ use crate::dice::Dice;
 use crate::fault::SimulateFault;
 use crate::joining::{Due, Joins};
 use crate::key::Key;
-use crate::measures::{Measures, count};
+use crate::law::{Law, Stop};
+use crate::measures::{Awaited, Measures, count};
 use crate::network::{Fate, fate_by, is_cut, size_of_datagram};
 use crate::place::{Place, endpoint_of, place_of, settings_of};
 use crate::plan::Plan;
 use crate::views::{View, Views};
 use std::alloc::Global;
+use swim_charts::Tally;
 use swim_disk::Choice;
 use swim_group::{Nodes, NodesFault};
 use swim_member::{Event, Phase};
@@ -45,7 +47,10 @@ pub(crate) struct Run {
     places: Vec<Place>,
     views: Views,
     measures: Measures,
+    law: Law,
+    history: Vec<Tally>,
     kills: u64,
+    pauses: u64,
     now: u64,
 }
 
@@ -71,7 +76,10 @@ impl Run {
             places,
             views: Views::new(alloc, members)?,
             measures: Measures::new(alloc),
+            law: Law::new(alloc),
+            history: Vec::new(alloc),
             kills: 0,
+            pauses: 0,
             now: 0,
         })
     }
@@ -86,13 +94,28 @@ impl Run {
         Done {
             nodes,
             measures: self.measures,
+            history: self.history,
+            stop: self.law.stop(),
         }
+    }
+
+    /// Whether a datagram broke the law of the group.
+    fn is_broken(&self) -> bool {
+        self.law.stop().is_some()
     }
 
     /// Whether a member runs.
     fn is_up(&self, who: usize) -> bool {
         match self.places.get(who) {
             Some(place) => place.is_up,
+            None => false,
+        }
+    }
+
+    /// Whether a member hears what comes to it: it runs, and is not paused.
+    fn is_awake(&self, who: usize) -> bool {
+        match self.places.get(who) {
+            Some(place) => place.is_up && place.sleeps_until <= self.now,
             None => false,
         }
     }
@@ -125,10 +148,19 @@ impl Run {
         }
     }
 
+    /// Looks whether the datagram that is kept in this place, the last that was sent, keeps the law.
+    fn judge(&mut self, index: usize) -> Result<(), SimulateFault> {
+        match self.nodes.kept().get(index) {
+            Some(out) => self.law.look(self.now, &out.datagram),
+            None => Ok(()),
+        }
+    }
+
     /// What this member sent goes its ways.
     fn send(&mut self, from: usize) -> Result<(), SimulateFault> {
         for index in self.flights.len()..self.nodes.kept().len() {
             if let Some((to, size)) = self.kept(index) {
+                self.judge(index)?;
                 let flight = self.flight(from, to);
                 self.measures.counts.send(size, flight.is_lost);
                 self.flights.push(flight)?;
@@ -167,21 +199,68 @@ impl Run {
             return;
         }
         self.measures.see(who, view, self.now);
-        if self.measures.is_unknown(who) && self.is_known(who) {
-            self.measures.know(who, self.now);
+        self.compare(who);
+    }
+
+    /// Whether each other member that runs holds what is awaited of this one, and at least one does run.
+    fn do_agree(&self, who: usize, awaited: Awaited) -> bool {
+        let mut others = 0usize;
+        for observer in 0..self.places.len() {
+            if observer == who || !self.is_up(observer) {
+                continue;
+            }
+            let is_held = match (awaited, self.views.get(observer, who)) {
+                (Awaited::Nothing, _) => true,
+                (Awaited::Failure, view) => view == View::Confirm || view == View::Unknown,
+                (Awaited::Life, view) => view == View::Alive,
+            };
+            if !is_held {
+                return false;
+            }
+            others = others.saturating_add(1);
+        }
+        others > 0
+    }
+
+    /// Notes if all others agree on a member by now.
+    fn compare(&mut self, who: usize) {
+        let awaited = self.measures.awaited(who);
+        if awaited != Awaited::Nothing && self.do_agree(who, awaited) {
+            self.measures.agree(who, self.now);
         }
     }
 
-    /// Whether no other member that runs holds this one for alive or suspected.
-    fn is_known(&self, who: usize) -> bool {
+    /// Notes on whom all agree now that other members run than before.
+    fn compare_all(&mut self) {
+        for who in 0..self.places.len() {
+            self.compare(who);
+        }
+    }
+
+    /// What the others hold of a member now.
+    fn tally(&self, who: usize) -> Tally {
+        let mut tally = Tally::none(self.is_up(who));
         for observer in 0..self.places.len() {
-            let view = self.views.get(observer, who);
-            let holds = view == View::Alive || view == View::Suspect;
-            if observer != who && self.is_up(observer) && holds {
-                return false;
+            if observer != who && self.is_up(observer) {
+                match self.views.get(observer, who) {
+                    View::Alive => count(&mut tally.alive),
+                    View::Suspect => count(&mut tally.suspected),
+                    View::Confirm => count(&mut tally.failed),
+                    View::Unknown => {}
+                }
+                count(&mut tally.others);
             }
         }
-        true
+        tally
+    }
+
+    /// Keeps what is held of each member now.
+    fn sample(&mut self) -> Result<(), SimulateFault> {
+        for who in 0..self.places.len() {
+            let tally = self.tally(who);
+            self.history.push(tally)?;
+        }
+        Ok(())
     }
 
     /// A member shows all its rows.
@@ -219,6 +298,7 @@ impl Run {
         if place.is_up && status.phase != Phase::Running {
             place.is_up = false;
             count(&mut self.measures.counts.expelled);
+            self.compare_all();
             return Ok(());
         }
         let is_same = place.rows == rows;
@@ -252,7 +332,7 @@ impl Run {
 
     /// The datagram that is kept in this place comes to a member.
     fn receive(&mut self, index: usize, to: usize) -> Result<(), SimulateFault> {
-        if !self.is_up(to) {
+        if !self.is_awake(to) {
             return Ok(());
         }
         count(&mut self.measures.counts.came);
@@ -383,7 +463,7 @@ impl Run {
             100
         };
         match self.places.get_mut(who) {
-            Some(place) if place.is_up => {
+            Some(place) if place.is_up && place.sleeps_until <= self.now => {
                 let clock = place.clock.saturating_add(rate);
                 place.clock = clock % 100;
                 clock / 100
@@ -424,6 +504,7 @@ impl Run {
             place.begins = None;
             place.is_up = true;
         }
+        self.compare_all();
         Ok(())
     }
 
@@ -444,6 +525,24 @@ impl Run {
         Ok(())
     }
 
+    /// One of the members that run, if there is any.
+    fn drawn_up(&mut self) -> Option<usize> {
+        let up = self.places.iter().filter(|place| place.is_up).count();
+        if up == 0 {
+            return None;
+        }
+        let mut left = self.dice.below(up);
+        for (who, place) in self.places.iter().enumerate() {
+            if place.is_up {
+                if left == 0 {
+                    return Some(who);
+                }
+                left -= 1;
+            }
+        }
+        None
+    }
+
     /// A member that runs is killed, if it is time. It is opened again later, if the plan says so.
     fn kill(&mut self) -> Result<(), SimulateFault> {
         if self.kills >= self.plan.get(Key::Kills) || self.now < self.plan.kill_tick(self.kills) {
@@ -451,33 +550,42 @@ impl Run {
         }
         self.kills += 1;
         let after = self.plan.get(Key::RestartAfter);
-        let begins = if after == 0 {
-            None
-        } else {
-            Some(self.now.saturating_add(after))
-        };
-        let up = self.places.iter().filter(|place| place.is_up).count();
-        if up == 0 {
+        let Some(who) = self.drawn_up() else {
             return Ok(());
+        };
+        if let Some(place) = self.places.get_mut(who) {
+            place.is_up = false;
+            place.begins = match after {
+                0 => None,
+                _ => Some(self.now.saturating_add(after)),
+            };
         }
-        let mut left = self.dice.below(up);
-        for (who, place) in self.places.iter_mut().enumerate() {
-            if place.is_up && left == 0 {
-                place.is_up = false;
-                place.begins = begins;
-                self.measures.kill(who, self.now)?;
-                return Ok(());
-            }
-            if place.is_up {
-                left -= 1;
-            }
-        }
+        self.measures.kill(who, self.now)?;
+        self.compare_all();
         Ok(())
+    }
+
+    /// A member that runs is paused, if it is time.
+    fn pause(&mut self) {
+        if self.pauses >= self.plan.get(Key::Pauses)
+            || self.now < self.plan.pause_tick(self.pauses)
+        {
+            return;
+        }
+        self.pauses += 1;
+        let until = self.now.saturating_add(self.plan.get(Key::PauseFor));
+        if let Some(who) = self.drawn_up() {
+            count(&mut self.measures.counts.pauses);
+            if let Some(place) = self.places.get_mut(who) {
+                place.sleeps_until = until;
+            }
+        }
     }
 
     /// A tick of the group.
     pub(crate) fn turn(&mut self) -> Result<(), SimulateFault> {
         self.kill()?;
+        self.pause();
         for index in (0..self.flights.len()).rev() {
             self.arrive(index)?;
         }
@@ -499,16 +607,37 @@ pub struct Done {
     pub nodes: Nodes,
     /// What was measured.
     pub measures: Measures,
+    /// What was held of each member, moment by moment, and of each moment member by member.
+    pub history: Vec<Tally>,
+    /// Where the run broke the law of a group, if it did: then it went no further.
+    pub stop: Option<Stop>,
 }
 
-/// Runs a group by a plan and a seed.
-pub fn simulate(alloc: Global, plan: &Plan, seed: u64) -> Result<Done, SimulateFault>
+/// Whether a moment ends with this tick: so many moments part the ticks evenly.
+fn ends_moment(tick: u64, ticks: u64, moments: u64) -> bool {
+    let before = tick.saturating_mul(moments).checked_div(ticks);
+    let after = tick
+        .saturating_add(1)
+        .saturating_mul(moments)
+        .checked_div(ticks);
+    before != after
+}
+
+/// Runs a group by a plan and a seed. What is held of each member is kept at so many moments.
+pub fn simulate(alloc: Global, plan: &Plan, seed: u64, moments: u64) -> Result<Done, SimulateFault>
     // the nodes are those of a run in which nothing is invented and no number is passed
     ensures run { IfOk result (λ done. HasSoundNodeRun done.nodes) }
 {
     let mut run = Run::new(alloc, plan, seed)?;
-    for _ in 0..plan.ticks() {
+    let ticks = plan.ticks();
+    for tick in 0..ticks {
         run.turn()?;
+        if run.is_broken() {
+            break;
+        }
+        if ends_moment(tick, ticks, moments) {
+            run.sample()?;
+        }
     }
     Ok(run.done())
 }

@@ -3,7 +3,6 @@
 use crate::key::Key;
 use crate::plan::Plan;
 use crate::run::simulate;
-use crate::table::{Thousandths, of_hundred, report};
 use std::alloc::{AllocError, Global};
 use std::test::Fail;
 
@@ -51,52 +50,23 @@ fn a_default_plan_has_fifty_members(rt: HostRuntime) {
 }
 
 #[test]
-fn ranks_are_the_nearest(rt: HostRuntime) {
-    let rows = [
-        (0, 10),
-        (1, 10),
-        (25, 10),
-        (26, 20),
-        (50, 20),
-        (75, 30),
-        (99, 40),
-        (100, 40),
-    ];
-    for (percent, value) in rows {
-        let found = of_hundred(&[10, 20, 30, 40], percent);
-        assert_eq!(rt; found, Some(value), "{percent}");
-    }
-    assert_eq!(rt; of_hundred(&[], 50), None);
-}
-
-#[test]
-fn thousandths_have_three_decimals(rt: HostRuntime) -> Result<(), Fail> {
-    let text = format!(in rt.alloc(); "{} {}", Thousandths(7), Thousandths(12_340))?;
-    assert_eq!(rt; text.as_str(), "0.007 12.340");
-    Ok(())
-}
-
-/// What a run of a plan prints.
-fn printed(alloc: Global, text: &str, seed: u64) -> Result<String, Fail> {
-    let plan = Plan::read(alloc, text.as_bytes())?;
-    let done = simulate(alloc, &plan, seed)?;
-    Ok(report(alloc, &plan, seed, 1, &done.measures)?)
-}
-
-#[test]
-fn a_seed_gives_one_run(rt: HostRuntime) -> Result<(), Fail> {
-    let plan = "members = 4\nminutes = 1\nrestart_after = 100\nrepeats = 20\nloss = 20\n";
-    let first = printed(rt.alloc(), plan, 7)?;
-    let second = printed(rt.alloc(), plan, 7)?;
-    assert_eq!(rt; first.as_str(), second.as_str());
-    Ok(())
+fn a_plan_takes_another_number_in_its_range(rt: HostRuntime) {
+    let plan = Plan::default();
+    let with = |key, number| plan.with(key, number).map(|plan| plan.get(key));
+    assert_eq!(rt; with(Key::Loss, 100), Some(100));
+    assert_eq!(rt; with(Key::Loss, 101), None);
+    assert_eq!(rt; with(Key::Members, 0), None);
+    assert_eq!(rt;
+        plan.with(Key::Loss, 9).map(|plan| plan.get(Key::Members)),
+        Some(50)
+    );
 }
 
 #[test]
 fn who_is_killed_is_confirmed(rt: HostRuntime) -> Result<(), Fail> {
     let text = b"members = 5\nminutes = 1\nloss = 0\nkills = 1\n";
     let plan = Plan::read(rt.alloc(), text)?;
-    let measures = simulate(rt.alloc(), &plan, 1)?.measures;
+    let measures = simulate(rt.alloc(), &plan, 1, 0)?.measures;
     assert_eq!(rt; measures.kills.len(), 1);
     assert_eq!(rt; measures.counts.lost, 0);
     assert_eq!(rt; measures.counts.suspicions, 0);
@@ -108,5 +78,33 @@ fn who_is_killed_is_confirmed(rt: HostRuntime) -> Result<(), Fail> {
         assert_eq!(rt; kill.confirmed, Some(suspected + 50));
         assert!(rt; kill.known >= kill.confirmed);
     }
+    Ok(())
+}
+
+#[test]
+fn who_is_opened_again_is_agreed_on(rt: HostRuntime) -> Result<(), Fail> {
+    let text = b"members = 5\nminutes = 1\nloss = 0\nkills = 1\nrules = 2\nrestart_after = 100\n";
+    let plan = Plan::read(rt.alloc(), text)?;
+    let done = simulate(rt.alloc(), &plan, 1, 60)?;
+    assert_eq!(rt; done.stop, None);
+    // sixty moments of five members
+    assert_eq!(rt; done.history.len(), 300);
+    for kill in done.measures.kills.as_slice() {
+        assert_eq!(rt; kill.back, Some(400));
+        assert!(rt; kill.known.is_some() && kill.known < kill.back, "{kill:?}");
+        assert!(rt; kill.alive > kill.back, "{kill:?}");
+    }
+    Ok(())
+}
+
+#[test]
+fn who_is_paused_is_suspected_and_comes_back(rt: HostRuntime) -> Result<(), Fail> {
+    let text = b"members = 5\nminutes = 1\nloss = 0\nkills = 0\npauses = 1\npause_for = 20\n";
+    let plan = Plan::read(rt.alloc(), text)?;
+    let counts = simulate(rt.alloc(), &plan, 1, 0)?.measures.counts;
+    assert_eq!(rt; counts.pauses, 1);
+    assert!(rt; counts.suspicions > 0 && counts.confirms == 0, "{counts:?}");
+    // of 600 ticks of five members each began at most nine late, and one missed twenty
+    assert!(rt; counts.ticks > 2900 && counts.ticks <= 2980, "{counts:?}");
     Ok(())
 }

@@ -1,14 +1,12 @@
 //! Kills as comma-separated values.
 
-use crate::key::Key;
-use crate::measures::Kill;
-use crate::plan::Plan;
 use std::alloc::{AllocError, Global};
 use std::fmt::Write;
+use swim_simulate::{Key, Kill, Plan};
 
 /// The first line.
 pub(crate) const HEAD: &str =
-    "seed,member,killed_ms,suspected_ms,confirmed_ms,known_ms,opened_again_ms\n";
+    "seed,member,killed_ms,suspected_ms,confirmed_ms,agreed_failed_ms,opened_again_ms,agreed_alive_ms\n";
 
 /// A time in milliseconds after a comma; nothing where it did not come.
 fn write_time(text: &mut String, tick_ms: u64, tick: Option<u64>) -> Result<(), AllocError> {
@@ -30,6 +28,7 @@ fn write_row(text: &mut String, seed: u64, tick_ms: u64, kill: &Kill) -> Result<
     write_time(text, tick_ms, kill.confirmed)?;
     write_time(text, tick_ms, kill.known)?;
     write_time(text, tick_ms, kill.back)?;
+    write_time(text, tick_ms, kill.alive)?;
     writeln!(text)
 }
 

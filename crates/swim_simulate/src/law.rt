@@ -1,0 +1,77 @@
+//! The law of a group, held against each datagram that is sent.
+
+use crate::fault::SimulateFault;
+use std::alloc::Global;
+use std::fmt;
+use swim_group::{Breach, CheckFault, Checker};
+use swim_wire::{Datagram, Endpoint, Update};
+
+/// Where a run broke the law.
+#[derive(Clone, Copy, Debug, PartialEq, Eq)]
+pub struct Stop {
+    /// In which tick.
+    pub tick: u64,
+    /// Who sent it.
+    pub sender: Endpoint,
+    /// What it said.
+    pub update: Update,
+    /// How that breaks the law.
+    pub breach: Breach,
+}
+
+impl fmt::Display for Stop {
+    fn fmt<W: fmt::Write>(&self, f: &mut fmt::Formatter<W>) -> fmt::Result {
+        let Stop {
+            tick,
+            sender,
+            update,
+            breach,
+        } = self;
+        let who = update.who;
+        let number = update.number;
+        write!(
+            f,
+            "tick {tick}: {sender} told number {number} of {who}: {breach}"
+        )
+    }
+}
+
+/// What was told so far, and where the law was broken first.
+#[derive(Drop)]
+pub(crate) struct Law {
+    checker: Checker,
+    stop: Option<Stop>,
+}
+
+impl Law {
+    /// Nothing was told yet.
+    pub(crate) fn new(alloc: Global) -> Law {
+        Law {
+            checker: Checker::new(alloc),
+            stop: None,
+        }
+    }
+
+    /// Where the law was broken, if it was.
+    pub(crate) fn stop(&self) -> Option<Stop> {
+        self.stop
+    }
+
+    /// Looks at the datagram that was sent next.
+    pub(crate) fn look(&mut self, tick: u64, datagram: &Datagram) -> Result<(), SimulateFault> {
+        match self.checker.check(datagram) {
+            Ok(()) => Ok(()),
+            Err(CheckFault::NoMemory) => Err(SimulateFault::Memory),
+            Err(CheckFault::Broken(update, breach)) => {
+                let stop = Stop {
+                    tick,
+                    sender: datagram.sender,
+                    update,
+                    breach,
+                };
+                self.stop = self.stop.or(Some(stop));
+                Ok(())
+            }
+        }
+    }
+}

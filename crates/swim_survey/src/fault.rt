@@ -1,0 +1,73 @@
+//! Why nothing more is printed.
+
+use std::alloc::AllocError;
+use std::io::{self, ErrorKind};
+use swim_settings::Refusal;
+use swim_simulate::{PlanRefusal, SimulateFault};
+use thiserror::Error;
+
+/// Why nothing more is printed.
+#[derive(Debug, Drop, Error)]
+pub enum AskedFault {
+    /// There is no memory.
+    #[error("memory")]
+    Memory,
+    /// A file, or standard output, failed, or a file is there already.
+    #[error("file refused")]
+    File,
+    /// The plan is refused.
+    #[error("plan refused {0}")]
+    Plan(PlanRefusal),
+    /// The sweep is refused, at this word or key.
+    #[error("sweep refused {0}")]
+    Sweep(PlanRefusal),
+    /// A run was not done.
+    #[error("simulation ended {0}")]
+    Run(SimulateFault),
+    /// A run broke the law of a group: where, and by which plan that is as small as was found.
+    #[error("the law of a group is broken\n{0}")]
+    Broken(String),
+}
+
+impl From<AllocError> for AskedFault {
+    fn from(_: AllocError) -> AskedFault {
+        AskedFault::Memory
+    }
+}
+
+impl From<io::Error> for AskedFault {
+    fn from(error: io::Error) -> AskedFault {
+        if error.kind() == ErrorKind::OutOfMemory {
+            AskedFault::Memory
+        } else {
+            AskedFault::File
+        }
+    }
+}
+
+impl From<SimulateFault> for AskedFault {
+    fn from(fault: SimulateFault) -> AskedFault {
+        match fault {
+            SimulateFault::Memory => AskedFault::Memory,
+            _ => AskedFault::Run(fault),
+        }
+    }
+}
+
+impl AskedFault {
+    /// A refused plan.
+    pub(crate) fn of_plan(refusal: PlanRefusal) -> AskedFault {
+        match refusal {
+            PlanRefusal::Text(Refusal::Memory) => AskedFault::Memory,
+            _ => AskedFault::Plan(refusal),
+        }
+    }
+
+    /// A refused sweep.
+    pub(crate) fn of_sweep(refusal: PlanRefusal) -> AskedFault {
+        match refusal {
+            PlanRefusal::Text(Refusal::Memory) => AskedFault::Memory,
+            _ => AskedFault::Sweep(refusal),
+        }
+    }
+}

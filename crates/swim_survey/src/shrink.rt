@@ -1,0 +1,136 @@
+//! The smallest plan by which something fails.
+
+use crate::fault::AskedFault;
+use std::alloc::{AllocError, Global};
+use std::fmt::Write;
+use swim_simulate::{Done, Key, Kill, Plan, SimulateFault, simulate};
+
+/// How often all keys are tried.
+const ROUNDS: u64 = 3;
+
+/// How often the numbers of a key are halved, which all have fewer binary digits.
+const HALVES: u64 = 32;
+
+/// The keys whose numbers are made smaller, those first that make a run short.
+const SHRUNK: [Key; 14] = [
+    Key::Minutes,
+    Key::Members,
+    Key::Kills,
+    Key::Pauses,
+    Key::CutMembers,
+    Key::CutFor,
+    Key::OddClocks,
+    Key::Repeats,
+    Key::Loss,
+    Key::Jitter,
+    Key::Dropped,
+    Key::Filled,
+    Key::RestartAfter,
+    Key::PauseFor,
+];
+
+/// What is tried with plans.
+pub trait Trial {
+    /// Whether it fails with a plan.
+    fn fails(&mut self, plan: &Plan) -> Result<bool, SimulateFault>;
+}
+
+/// The plan with a smaller number of a key, as far as halving finds one with which the trial fails.
+fn lowered<T: Trial>(trial: &mut T, plan: &Plan, key: Key) -> Result<Plan, SimulateFault> {
+    let mut best = *plan;
+    let mut low = key.range().least;
+    for _ in 0..HALVES {
+        let high = best.get(key);
+        if low >= high {
+            break;
+        }
+        let middle = low + (high - low) / 2;
+        match best.with(key, middle) {
+            Some(smaller) if trial.fails(&smaller)? => best = smaller,
+            _ => low = middle.saturating_add(1),
+        }
+    }
+    Ok(best)
+}
+
+/// The plan with smaller numbers of all keys.
+fn lowered_all<T: Trial>(trial: &mut T, plan: &Plan) -> Result<Plan, SimulateFault> {
+    let mut best = *plan;
+    for key in SHRUNK {
+        best = lowered(trial, &best, key)?;
+    }
+    Ok(best)
+}
+
+/// A plan with fewer members, minutes and faults with which a trial fails still, if it fails with this one.
+pub fn shrunk<T: Trial>(trial: &mut T, plan: &Plan) -> Result<Plan, SimulateFault> {
+    let mut best = *plan;
+    for _ in 0..ROUNDS {
+        best = lowered_all(trial, &best)?;
+    }
+    Ok(best)
+}
+
+/// A run by a seed, which fails where it breaks the law of a group.
+#[derive(Drop)]
+struct Lawful {
+    alloc: Global,
+    seed: u64,
+}
+
+impl Trial for Lawful {
+    fn fails(&mut self, plan: &Plan) -> Result<bool, SimulateFault> {
+        let done = simulate(self.alloc, plan, self.seed, 0)?;
+        Ok(done.stop.is_some())
+    }
+}
+
+/// What was done to a member, as comments.
+fn write_kill(text: &mut String, kill: &Kill) -> Result<(), AllocError> {
+    let member = kill.who.saturating_add(1);
+    let tick = kill.tick;
+    writeln!(text, "# tick {tick}: member {member} is killed")?;
+    match kill.back {
+        Some(tick) => writeln!(text, "# tick {tick}: member {member} is opened again"),
+        None => Ok(()),
+    }
+}
+
+/// A plan as its text, with the keys that have another number than their default.
+pub(crate) fn write_plan(text: &mut String, plan: &Plan) -> Result<(), AllocError> {
+    for key in Key::ALL {
+        let number = plan.get(key);
+        if number != key.range().default {
+            writeln!(text, "{key} = {number}")?;
+        }
+    }
+    Ok(())
+}
+
+/// A plan, with the seed and the events of its run as comments before it.
+pub(crate) fn told(
+    alloc: Global,
+    plan: &Plan,
+    seed: u64,
+    done: &Done,
+) -> Result<String, AllocError> {
+    let mut text = String::new(alloc);
+    writeln!(text, "# seed {seed}")?;
+    for kill in done.measures.kills.as_slice() {
+        write_kill(&mut text, kill)?;
+    }
+    if let Some(stop) = &done.stop {
+        writeln!(text, "# {stop}")?;
+    }
+    write_plan(&mut text, plan)?;
+    Ok(text)
+}
+
+/// What is said of a plan that breaks the law by this seed: the smallest such plan, and what happened in its run.
+pub(crate) fn broken(alloc: Global, plan: &Plan, seed: u64) -> Result<AskedFault, AskedFault> {
+    let mut lawful = Lawful { alloc, seed };
+    let smaller = shrunk(&mut lawful, plan)?;
+    let done = simulate(alloc, &smaller, seed, 0)?;
+    let text = told(alloc, &smaller, seed, &done)?;
+    Ok(AskedFault::Broken(text))
+}

@@ -1,0 +1,217 @@
+//! What is printed of small runs, sweeps, and plans that are made smaller.
+
+use crate::files::Made;
+use crate::gathered::Gathered;
+use crate::pictures::{draw_runs, draw_sweep};
+use crate::runs::run_all;
+use crate::shrink::{Trial, shrunk, told, write_plan};
+use crate::stage::Stage;
+use crate::sweep::{Span, Sweep, numbers_of, read_span};
+use crate::sweeping::run_sweep;
+use crate::table::report;
+use std::alloc::{AllocError, Global};
+use std::test::Fail;
+use swim_simulate::{Key, Kill, Plan, SimulateFault, simulate};
+
+/// What runs of a plan print.
+fn printed(alloc: Global, text: &str, seed: u64, runs: u64) -> Result<String, Fail> {
+    let plan = Plan::read(alloc, text.as_bytes())?;
+    let runs = run_all(alloc, &plan, seed, runs, &mut Made::none())?;
+    Ok(report(alloc, &plan, seed, &runs)?)
+}
+
+#[test]
+fn a_seed_gives_one_run(rt: HostRuntime) -> Result<(), Fail> {
+    let plan = "members = 4\nminutes = 1\nrestart_after = 100\nrepeats = 20\nloss = 20\n";
+    let first = printed(rt.alloc(), plan, 7, 2)?;
+    let second = printed(rt.alloc(), plan, 7, 2)?;
+    assert_eq!(rt; first.as_str(), second.as_str());
+    assert!(rt; first.as_str().contains("medians and rates of each run\n"));
+    Ok(())
+}
+
+#[test]
+fn stages_count_from_the_kill_or_the_opening(rt: HostRuntime) {
+    let kill = Kill {
+        who: 0,
+        tick: 100,
+        suspected: Some(110),
+        confirmed: Some(160),
+        known: None,
+        back: Some(200),
+        alive: Some(230),
+    };
+    assert_eq!(rt; Stage::Suspected.ticks(&kill), Some(10));
+    assert_eq!(rt; Stage::Confirmed.ticks(&kill), Some(60));
+    assert_eq!(rt; Stage::Failed.ticks(&kill), None);
+    assert_eq!(rt; Stage::Alive.ticks(&kill), Some(30));
+}
+
+#[test]
+fn spans_are_read_in_the_range_of_a_key(rt: HostRuntime) {
+    let range = Key::Loss.range();
+    let rows = [
+        ("0..30", Some((0, 30, None))),
+        ("5..5", Some((5, 5, None))),
+        ("0..100/20", Some((0, 100, Some(20)))),
+        ("0..101", None),
+        ("30..0", None),
+        ("0..30/0", None),
+        ("0..30/", None),
+        ("0.30", None),
+        ("0...30", None),
+        ("-1..30", None),
+        ("", None),
+        ("7", None),
+    ];
+    for (text, span) in rows {
+        let span = span.map(|(least, most, step)| Span { least, most, step });
+        assert_eq!(rt; read_span(text.as_bytes(), range), span, "{text}");
+    }
+}
+
+#[test]
+fn a_row_has_six_numbers_or_its_step(rt: HostRuntime) -> Result<(), Fail> {
+    let span = |least, most, step| Span { least, most, step };
+    let rows: [(Span, &[u64]); 4] = [
+        (span(0, 30, None), &[0, 6, 12, 18, 24, 30]),
+        (span(0, 2, None), &[0, 1, 2]),
+        (span(20, 100, Some(40)), &[20, 60, 100]),
+        (span(20, 99, Some(40)), &[20, 60]),
+    ];
+    for (span, numbers) in rows {
+        let found = numbers_of(rt.alloc(), span)?;
+        assert_eq!(rt; found.as_slice(), numbers);
+    }
+    Ok(())
+}
+
+/// What a sweep is refused for, and nothing where it is not.
+fn refusal_of(alloc: Global, text: &str) -> Result<String, AllocError> {
+    match Sweep::read(alloc, text) {
+        Ok(_) => Ok(String::new(alloc)),
+        Err(refusal) => format!(in alloc; "{refusal}"),
+    }
+}
+
+#[test]
+fn sweeps_are_refused_by_name(rt: HostRuntime) -> Result<(), Fail> {
+    let rows = [
+        ("suspect=20..200,loss=0..30", ""),
+        ("suspect=20..200/20", ""),
+        ("loss=0..101", "loss"),
+        ("suspect=20..200,loss=0..30/0", "loss"),
+        ("loss=0..1,loss=2..3", "loss"),
+        ("loss=7", "loss"),
+        ("speed=1..2", "\"speed=1..2\""),
+        ("loss", "loss"),
+        ("", "\"\""),
+        ("loss=0..1,", "\"\""),
+        // more than ten thousand plans
+        ("suspect=1..20000/1", "suspect"),
+        ("suspect=1..200/1,loss=0..100/1", "loss"),
+    ];
+    for (text, refusal) in rows {
+        let found = refusal_of(rt.alloc(), text)?;
+        assert_eq!(rt; found.as_str(), refusal, "{text}");
+    }
+    Ok(())
+}
+
+#[test]
+fn a_sweep_has_a_line_for_each_choice(rt: HostRuntime) -> Result<(), Fail> {
+    let alloc = rt.alloc();
+    let plan = Plan::read(alloc, b"members = 3\nminutes = 1\nkills = 1\n")?;
+    let sweep = Sweep::read(alloc, "suspect=20..40/20,loss=0..10/10")?;
+    let table = run_sweep(alloc, &plan, &sweep, 1, 1, &mut Made::none())?;
+    let mut lines = table.as_str().lines();
+    let head =
+        "suspect,loss,suspected_s,confirmed_s,agreed_failed_s,agreed_alive_s,false_suspicions_by_hour,false_confirms_by_hour,datagrams_by_second,bytes_by_second,saves_by_hour";
+    assert_eq!(rt; lines.next(), Some(head));
+    for begin in ["20,0,", "20,10,", "40,0,", "40,10,"] {
+        let line = lines.next().unwrap_or("");
+        assert!(rt; line.starts_with(begin), "{line}");
+    }
+    assert_eq!(rt; lines.next(), None);
+    Ok(())
+}
+
+/// Fails with so many members, minutes and kills and as much loss, whatever else there is.
+#[derive(Drop)]
+struct Planted {
+    tried: u64,
+}
+
+impl Trial for Planted {
+    fn fails(&mut self, plan: &Plan) -> Result<bool, SimulateFault> {
+        self.tried = self.tried.saturating_add(1);
+        Ok(
+            plan.get(Key::Members) >= 5
+                && plan.get(Key::Minutes) >= 2
+                && plan.get(Key::Kills) >= 3
+                && plan.get(Key::Loss) >= 7,
+        )
+    }
+}
+
+#[test]
+fn a_planted_breach_is_made_as_small_as_it_is(rt: HostRuntime) -> Result<(), Fail> {
+    let text =
+        b"members = 200\nminutes = 900\nkills = 90\nloss = 55\npauses = 9\ncut_members = 9\njitter = 3\n";
+    let plan = Plan::read(rt.alloc(), text)?;
+    let mut planted = Planted { tried: 0 };
+    let smaller = shrunk(&mut planted, &plan)?;
+    let mut found = String::new(rt.alloc());
+    write_plan(&mut found, &smaller)?;
+    let least = "members = 5\nminutes = 2\nloss = 7\ncut_for = 0\npause_for = 0\n";
+    assert_eq!(rt; found.as_str(), least);
+    assert!(rt; planted.tried < 400, "{}", planted.tried);
+    Ok(())
+}
+
+#[test]
+fn a_run_is_told_as_a_plan(rt: HostRuntime) -> Result<(), Fail> {
+    let alloc = rt.alloc();
+    let text = "members = 3\nminutes = 1\nrules = 2\nkills = 1\nrestart_after = 100\n";
+    let plan = Plan::read(alloc, text.as_bytes())?;
+    let done = simulate(alloc, &plan, 1, 0)?;
+    let found = told(alloc, &plan, 1, &done)?;
+    assert!(rt;
+        found.as_str().starts_with("# seed 1\n# tick 300: member "),
+        "{found}"
+    );
+    assert!(rt; found.as_str().contains("# tick 400: member "), "{found}");
+    // it is a plan, and the same one
+    let again = Plan::read(alloc, found.as_str().as_bytes())?;
+    for key in Key::ALL {
+        assert_eq!(rt; again.get(key), plan.get(key), "{key}");
+    }
+    Ok(())
+}
+
+#[test]
+fn pictures_end_as_they_begin(rt: HostRuntime) -> Result<(), Fail> {
+    let alloc = rt.alloc();
+    let plan = Plan::read(alloc, b"members = 3\nminutes = 1\nkills = 1\n")?;
+    let runs = run_all(alloc, &plan, 1, 1, &mut Made::none())?;
+    let picture = draw_runs(alloc, &plan, 1, runs)?;
+    assert!(rt; picture.as_str().starts_with("<svg ") && picture.as_str().ends_with("</svg>\n"));
+    let sweep = Sweep::read(alloc, "loss=0..1")?;
+    let picture = draw_sweep(alloc, &sweep, &[Some(1); 18])?;
+    assert!(rt; picture.as_str().contains(">loss 1</text>"), "{picture}");
+    Ok(())
+}
+
+#[test]
+fn what_is_gathered_adds_up(rt: HostRuntime) -> Result<(), Fail> {
+    let alloc = rt.alloc();
+    let plan = Plan::read(alloc, b"members = 4\nminutes = 1\nkills = 2\n")?;
+    let mut all = Gathered::none(alloc);
+    for seed in 0..2 {
+        let done = simulate(alloc, &plan, seed, 0)?;
+        all.add(&Gathered::of(alloc, &done.measures, 100)?)?;
+    }
+    assert_eq!(rt; all.kills, 4);
+    assert_eq!(rt; all.sorted(alloc, Stage::Confirmed)?.len(), 4);
+    Ok(())
+}
