@@ -34,6 +34,3 @@ pub use note_log::{LOGGED_MAX, NoteLog};
 pub use number_log::NumberLog;
 pub use outgoing::{RingLink, RingSender};
 pub use serving::{Fault, MemberEnd, run_member};
-
-#[cfg(test)]
-mod tests;

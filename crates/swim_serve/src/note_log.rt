@@ -121,7 +121,7 @@ impl NoteLog {
     }
 
     /// Logs the notes of a reply. A clock that cannot be read begins no second.
-    pub(crate) fn log<W: Log + Clock>(&mut self, rt: &W, reply: &Reply, from: &Option<Endpoint>) {
+    pub fn log<W: Log + Clock>(&mut self, rt: &W, reply: &Reply, from: &Option<Endpoint>) {
         if reply.notes.is_empty() && !self.has_left_out {
             return;
         }

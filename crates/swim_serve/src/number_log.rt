@@ -114,7 +114,7 @@ impl NumberLog {
     }
 
     /// The greatest number that received bytes say of this member, or 0.
-    pub(crate) fn said_by(&self, bytes: &[u8]) -> u64
+    pub fn said_by(&self, bytes: &[u8]) -> u64
         ensures { result ≡ number_said self.now.me (decoded bytes.now) }
     {
         number_said(bytes, self.me)
@@ -138,7 +138,7 @@ impl NumberLog {
     }
 
     /// Logs what the reply to a datagram shows, which said this number of this member.
-    pub(crate) fn log<W: Log>(&mut self, rt: &W, said: u64, reply: &Reply)
+    pub fn log<W: Log>(&mut self, rt: &W, said: u64, reply: &Reply)
         ensures me { self.new.me ≡ self.old.me }
         ensures number { self.new.number ≡ reply.now.status.number }
         ensures other { IsOtherLife self.old said reply.now.notes.items

@@ -1,5 +1,8 @@
-//! The tests with threads of callers, watches and senders: those of `swim_shared`, over public calls alone.
+//! The tests with threads: those of callers, watches and senders (`swim_shared`), and of workers and what they log (`swim_serve`),
+//! over public calls alone.
 #![tactic(auto)]
 
+#[cfg(test)]
+mod serve;
 #[cfg(test)]
 mod shared;

@@ -1,13 +1,13 @@
 //! What is logged of the own number.
 
 use super::notes::{Desk, replied};
-use crate::NumberLog;
 use arrayvec::ArrayVec;
 use log::sink::Memory;
 use std::process::Abort;
 use std::test::Fail;
 use swim_member::{Note, Phase};
 use swim_scenes::{endpoint, text, update};
+use swim_serve::NumberLog;
 use swim_wire::{Cursor, Kind, Update, UpdateKind};
 
 /// What the receiver of a new member, 10.0.0.1:7000 with number 1, logs of its number.

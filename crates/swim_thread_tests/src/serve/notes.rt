@@ -1,7 +1,5 @@
 //! What is logged of notes.
 
-use crate::LOGGED_MAX;
-use crate::note_log::NoteLog;
 use arrayvec::ArrayVec;
 use log::kv::Source;
 use log::sink::Memory;
@@ -14,6 +12,7 @@ use std::time::{Clock, Duration};
 use swim_member::{Note, Phase};
 use swim_node::{Reply, Status};
 use swim_scenes::endpoint;
+use swim_serve::{LOGGED_MAX, NoteLog};
 
 /// A clock that stands, beside a log in memory.
 #[derive(Drop)]
