@@ -4,8 +4,6 @@
 mod curves;
 mod drawing;
 mod ranks;
-#[cfg(test)]
-mod tests;
 mod thousandths;
 mod tiles;
 mod views;

@@ -13,8 +13,6 @@ mod place;
 mod plan;
 mod refusal;
 mod run;
-#[cfg(test)]
-mod tests;
 mod views;
 
 pub use fault::SimulateFault;

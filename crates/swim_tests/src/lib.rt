@@ -3,13 +3,9 @@
 #![tactic(auto)]
 
 #[cfg(test)]
-mod check;
-#[cfg(test)]
 mod disk;
 #[cfg(test)]
 mod gossip;
-#[cfg(test)]
-mod group;
 #[cfg(test)]
 mod member;
 #[cfg(test)]

@@ -1,12 +1,9 @@
 //! Ranks, spreads, and small pictures.
 
-use crate::curves::Curve;
-use crate::drawing::Drawing;
-use crate::ranks::{Spread, of_hundred, spread_of};
-use crate::thousandths::Thousandths;
-use crate::tiles::Tiles;
-use crate::views::{Tally, Views};
 use std::test::Fail;
+use swim_charts::{
+    Curve, Drawing, Spread, Tally, Thousandths, Tiles, Views, of_hundred, spread_of,
+};
 
 #[test]
 fn ranks_are_the_nearest(rt: HostRuntime) {

@@ -1,10 +1,8 @@
 //! Plans, refused ones, and whole runs.
 
-use crate::key::Key;
-use crate::plan::Plan;
-use crate::run::simulate;
 use std::alloc::{AllocError, Global};
 use std::test::Fail;
+use swim_simulate::{Key, Plan, simulate};
 
 /// What a plan is refused for, and nothing where it is not.
 fn refusal_of(alloc: Global, text: &str) -> Result<String, AllocError> {

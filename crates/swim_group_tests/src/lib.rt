@@ -1,0 +1,12 @@
+//! The tests of groups, of their checker, of simulations and of what these draw, each in a file that is named as its crate, over
+//! public calls alone.
+#![tactic(auto)]
+
+#[cfg(test)]
+mod charts;
+#[cfg(test)]
+mod check;
+#[cfg(test)]
+mod group;
+#[cfg(test)]
+mod simulate;
