@@ -11,11 +11,8 @@ use Rattle.swim_shell.specs.declared.conversation.ControlEnd.{ControlEnd}
 use Rattle.swim_shell.specs.declared.conversation.ControlEnd.TheVariants as ends
 use Rattle.swim_shell.specs.Calls.{CallerView}
 use Rattle.swim_shell.specs.Joins.{JoinerView, IsPeer, IsDrawnFrom, IsAsked, AreAsked, Asks, AsksInVain, pages_of}
-use Rattle.swim_serve.specs.Desks.{DeskView, desk_of, Step, Asking, Opening, Resuming, Pausing, Ending, OfConnection, IsTurnIn, Steps, IsOpen, Tending, TendedBy, Opened, ServedOn, ServedTo, GoesOn, EndsWith, IsNewTalk, TalkGoes, TalkEnds, ServesOn, Opens}
-
-pub if_some : {A : Type 0} (r : Option A) (P Q : A → Type 0) → ((x : A) → P x → Q x) → IfSome r P → IfSome r Q
-if_some None P Q f h = h
-if_some (Some x) P Q f h = f x h
+use Rattle.swim_shell.specs.Work.{Goes}
+use Rattle.swim_serve.specs.Desks.{DeskView, desk_of, Step, Asking, Opening, Resuming, Pausing, Ending, OfConnection, OfMember, IsTurnIn, Steps, IsOpen, Tending, TendedBy, Opened, IsNewTalk, TalkGoes, Opens}
 
 -- what a joiner may ask depends on whose it is and its list alone
 is_asked_same : (j k : JoinerView) (rows : List Update) (e : Event) → k.me ≡ j.me → k.peers.list ≡ j.peers.list → IsAsked k rows e → IsAsked j rows e
@@ -72,40 +69,41 @@ module _ {S : Type 0} (fresh : S → Type 0) (worked : S → CallerView → S �
   pub tending_refused : (s : DeskView S) (j k : JoinerView) (x y : Option S) (us vs : List S) (p q r : CallerView) (n : ℕ) (why : Refusal) → x ≡ None → y ≡ None → vs ≡ us → AsksInVain limit why j p q → k.me ≡ j.me → k.peers.list ≡ j.peers.list → Tending fresh worked ended limit s r (desk_of j x us) p n → TendedBy fresh worked ended limit (ends.Refused why) s r (desk_of k y vs) q (n + 1)
   tending_refused s j k x y us vs p q r n why e f same asks m l t = refused_from s j k x y t.since us vs p q r t.then n t.steps why e f same asks m l t.me t.list t.done t.goes_on
 
-  served_from : (s : DeskView S) (j k : JoinerView) (x y since : Option S) (us vs : List S) (a : S) (p q r then : CallerView) (n : ℕ) (ss : List (Step S)) → x ≡ Some a → k ≡ j → ServedOn fresh worked ended limit a p us y vs q → j.me ≡ s.joiner.me → j.peers.list ≡ s.joiner.peers.list → Steps fresh worked ended limit s.joiner s.conversation s.others r ss since us then → IsOpen fresh worked ended limit since then x p → Tending fresh worked ended limit s r (desk_of k y vs) q (n + 1)
-  served_from s j k x y None us vs a p q r then n ss e same f ms ls done (g, h) = absurd (cc (sym g ∙ e))
-  served_from s j k x None (Some c) us vs a p q r then n ss e same (inl (d, last, f)) ms ls done (b, i, g, w) =
-      let is : b ≡ a = cc (sym g ∙ e) in
-      record { steps = ss ++ Pausing d (i + 1) ∷ []; since = None; then = q; done = steps_more s.joiner s.conversation (Some c) None s.others us vs r then q ss (Pausing d (i + 1) ∷ []) done (c, q, refl, f c then i (subst (λ v. worked c then v p i) is w), (refl, last, refl)); goes_on = (refl, refl); me = ap (λ v. v.me) same ∙ ms; list = ap (λ v. v.peers.list) same ∙ ls }
-  served_from s j k x None (Some c) us vs a p q r then n ss e same (inr (d, end, left, of, f)) ms ls done (b, i, g, w) =
-      let is : b ≡ a = cc (sym g ∙ e) in
-      record { steps = ss ++ Ending d end (i + 1) ∷ []; since = None; then = q; done = steps_more s.joiner s.conversation (Some c) None s.others us vs r then q ss (Ending d end (i + 1) ∷ []) done (c, q, refl, of, f c then i (subst (λ v. worked c then v p i) is w), (refl, left, refl)); goes_on = (refl, refl); me = ap (λ v. v.me) same ∙ ms; list = ap (λ v. v.peers.list) same ∙ ls }
-  served_from s j k x (Some d) (Some c) us vs a p q r then n ss e same (left, f) ms ls done (b, i, g, w) =
-      let is : b ≡ a = cc (sym g ∙ e) in
-      record { steps = ss; since = Some c; then = then; done = subst (λ v. Steps fresh worked ended limit s.joiner s.conversation s.others r ss (Some c) v then) (sym left) done; goes_on = (d, i + 1, refl, f c then i (subst (λ v. worked c then v p i) is w)); me = ap (λ v. v.me) same ∙ ms; list = ap (λ v. v.peers.list) same ∙ ls }
+  -- the conversation that has the turns has had so many since it got them
+  pub record Talked (since : Option S) (then : CallerView) (a : S) (p : CallerView) : Type 0 where
+    pub first : S
+    pub turns : ℕ
+    pub is : since ≡ Some first
+    pub did : worked first then a p turns
 
-  -- the open conversation had a turn
-  pub tending_served : (s : DeskView S) (j k : JoinerView) (x y : Option S) (us vs : List S) (a : S) (p q r : CallerView) (n : ℕ) → x ≡ Some a → k ≡ j → ServedOn fresh worked ended limit a p us y vs q → Tending fresh worked ended limit s r (desk_of j x us) p n → Tending fresh worked ended limit s r (desk_of k y vs) q (n + 1)
-  tending_served s j k x y us vs a p q r n e same f t = served_from s j k x y t.since us vs a p q r t.then n t.steps e same f t.me t.list t.done t.goes_on
+  talked : (since x : Option S) (then : CallerView) (a : S) (p : CallerView) → x ≡ Some a → IsOpen fresh worked ended limit since then x p → Talked since then a p
+  talked None x then a p e (g, h) = absurd (cc (sym g ∙ e))
+  talked (Some c) x then a p e (b, i, g, w) = let is : b ≡ a = cc (sym g ∙ e) in record { first = c; turns = i; is = refl; did = subst (λ v. worked c then v p i) is w }
 
-  ended_from : (s : DeskView S) (j k : JoinerView) (x y since : Option S) (us vs : List S) (a : S) (end : ControlEnd) (p q r then : CallerView) (n : ℕ) (ss : List (Step S)) → x ≡ Some a → k ≡ j → ServedTo fresh worked ended limit end a p us y vs q → j.me ≡ s.joiner.me → j.peers.list ≡ s.joiner.peers.list → Steps fresh worked ended limit s.joiner s.conversation s.others r ss since us then → IsOpen fresh worked ended limit since then x p → TendedBy fresh worked ended limit end s r (desk_of k y vs) q (n + 1)
-  ended_from s j k x y None us vs a end p q r then n ss e same f ms ls done (g, h) = absurd (cc (sym g ∙ e))
-  ended_from s j k x None (Some c) us vs a end p q r then n ss e same f ms ls done o = absurd f
-  ended_from s j k x (Some d) (Some c) us vs a end p q r then n ss e same (left, of, f) ms ls done (b, i, g, w) =
-      let is : b ≡ a = cc (sym g ∙ e) in
-      record { steps = ss; since = Some c; then = then; done = subst (λ v. Steps fresh worked ended limit s.joiner s.conversation s.others r ss (Some c) v then) (sym left) done; ends_by = (d, i + 1, refl, of, f c then i (subst (λ v. worked c then v p i) is w)); me = ap (λ v. v.me) same ∙ ms; list = ap (λ v. v.peers.list) same ∙ ls }
+  -- one turn more, and it keeps the turns
+  pub tending_kept : (s : DeskView S) (j : JoinerView) (x : Option S) (us : List S) (a d : S) (p q r : CallerView) (n : ℕ) → x ≡ Some a → Goes worked worked a p d q → Tending fresh worked ended limit s r (desk_of j x us) p n → Tending fresh worked ended limit s r (desk_of j (Some d) us) q (n + 1)
+  tending_kept s j x us a d p q r n e f t =
+      let o = talked t.since x t.then a p e t.goes_on in
+      record { steps = t.steps; since = Some o.first; then = t.then; done = subst (λ w. Steps fresh worked ended limit s.joiner s.conversation s.others r t.steps w us t.then) o.is t.done; goes_on = (d, o.turns + 1, refl, f o.first t.then o.turns o.did); me = t.me; list = t.list }
 
-  -- it ended the worker
-  pub tending_ended : (s : DeskView S) (j k : JoinerView) (x y : Option S) (us vs : List S) (a : S) (end : ControlEnd) (p q r : CallerView) (n : ℕ) → x ≡ Some a → k ≡ j → ServedTo fresh worked ended limit end a p us y vs q → Tending fresh worked ended limit s r (desk_of j x us) p n → TendedBy fresh worked ended limit end s r (desk_of k y vs) q (n + 1)
-  tending_ended s j k x y us vs a end p q r n e same f t = ended_from s j k x y t.since us vs a end p q r t.then n t.steps e same f t.me t.list t.done t.goes_on
+  -- or that turn was its last for now: it stands aside, or its connection has ended
+  left_from : (s : DeskView S) (j k : JoinerView) (x y : Option S) (us vs : List S) (a : S) (p q r : CallerView) (n : ℕ) (step : S → ℕ → Step S) → x ≡ Some a → k ≡ j → y ≡ None → ((c : S) (then : CallerView) (i : ℕ) → worked c then a p i → Steps fresh worked ended limit s.joiner (Some c) us then (step c i ∷ []) None vs q) → Tending fresh worked ended limit s r (desk_of j x us) p n → Tending fresh worked ended limit s r (desk_of k y vs) q (n + 1)
+  left_from s j k x y us vs a p q r n step e same none next t =
+      let o = talked t.since x t.then a p e t.goes_on in
+      let done = subst (λ w. Steps fresh worked ended limit s.joiner s.conversation s.others r t.steps w us t.then) o.is t.done in
+      record { steps = t.steps ++ step o.first o.turns ∷ []; since = None; then = q; done = steps_more s.joiner s.conversation (Some o.first) None s.others us vs r t.then q t.steps (step o.first o.turns ∷ []) done (next o.first t.then o.turns o.did); goes_on = (none, refl); me = ap (λ v. v.me) same ∙ t.me; list = ap (λ v. v.peers.list) same ∙ t.list }
 
--- a turn ended the connection alone
-pub connection_ended : {Rd Wr : Type 0} (remaining : Rd → Option (List ℕ)) (contents : Wr → Option (List ℕ)) (limit : ℕ) (a d : Conversation Rd Wr) (us : List (Conversation Rd Wr)) (y : Option (Conversation Rd Wr)) (p q : CallerView) (end : ControlEnd) → y ≡ None → OfConnection end → EndsWith (IsNewTalk remaining contents) (TalkGoes remaining contents limit) (TalkEnds remaining contents limit) limit end a p d q → ServesOn remaining contents limit a p us y us q
-connection_ended remaining contents limit a d us y p q end e of f = subst (λ w. ServesOn remaining contents limit a p us w us q) (sym e) (inr (d, end, refl, of, f))
+  pub tending_aside : (s : DeskView S) (j k : JoinerView) (x y : Option S) (us vs : List S) (a d : S) (p q r : CallerView) (n : ℕ) → x ≡ Some a → k ≡ j → y ≡ None → vs ≡ us ++ d ∷ [] → Goes worked worked a p d q → Tending fresh worked ended limit s r (desk_of j x us) p n → Tending fresh worked ended limit s r (desk_of k y vs) q (n + 1)
+  tending_aside s j k x y us vs a d p q r n e same none last f t = left_from s j k x y us vs a p q r n (λ c i. Pausing d (i + 1)) e same none (λ c then i w. (c, q, refl, f c then i w, (refl, last, refl))) t
 
--- or the conversation stands aside
-pub set_aside : {Rd Wr : Type 0} (remaining : Rd → Option (List ℕ)) (contents : Wr → Option (List ℕ)) (limit : ℕ) (a d : Conversation Rd Wr) (us vs : List (Conversation Rd Wr)) (y : Option (Conversation Rd Wr)) (p q : CallerView) → y ≡ None → vs ≡ us ++ d ∷ [] → GoesOn (IsNewTalk remaining contents) (TalkGoes remaining contents limit) (TalkEnds remaining contents limit) limit a p d q → ServesOn remaining contents limit a p us y vs q
-set_aside remaining contents limit a d us vs y p q e last f = subst (λ w. ServesOn remaining contents limit a p us w vs q) (sym e) (inl (d, last, f))
+  pub tending_closed : (s : DeskView S) (j : JoinerView) (x y : Option S) (us : List S) (a d : S) (end : ControlEnd) (p q r : CallerView) (n : ℕ) → x ≡ Some a → y ≡ None → OfConnection end → Goes worked (ended end) a p d q → Tending fresh worked ended limit s r (desk_of j x us) p n → Tending fresh worked ended limit s r (desk_of j y us) q (n + 1)
+  tending_closed s j x y us a d end p q r n e none of f t = left_from s j j x y us us a p q r n (λ c i. Ending d end (i + 1)) e refl none (λ c then i w. (c, q, refl, of, f c then i w, (refl, refl, refl))) t
+
+  -- or that turn ended the worker
+  pub tending_ended : (s : DeskView S) (j : JoinerView) (x : Option S) (us : List S) (a d : S) (end : ControlEnd) (p q r : CallerView) (n : ℕ) → x ≡ Some a → OfMember end → Goes worked (ended end) a p d q → Tending fresh worked ended limit s r (desk_of j x us) p n → TendedBy fresh worked ended limit end s r (desk_of j (Some d) us) q (n + 1)
+  tending_ended s j x us a d end p q r n e of f t =
+      let o = talked t.since x t.then a p e t.goes_on in
+      record { steps = t.steps; since = Some o.first; then = t.then; done = subst (λ w. Steps fresh worked ended limit s.joiner s.conversation s.others r t.steps w us t.then) o.is t.done; ends_by = (d, o.turns + 1, refl, of, f o.first t.then o.turns o.did); me = t.me; list = t.list }
 
 -- a conversation got the turns
 pub opened : {Rd Wr : Type 0} (remaining : Rd → Option (List ℕ)) (contents : Wr → Option (List ℕ)) (limit : ℕ) (p : CallerView) (os us : List (Conversation Rd Wr)) (y : Option (Conversation Rd Wr)) (first : Conversation Rd Wr) → IsTurnIn (IsNewTalk remaining contents) first os us → IfSome y (λ begun. (p : CallerView) → TalkGoes remaining contents limit first p begun p 0) → IsSome y → Opens remaining contents limit p os y us

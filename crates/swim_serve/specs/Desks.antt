@@ -1,5 +1,5 @@
 -- What a desk does with its caller.
-use Rattle.std.specs.Prelude.{◌≡◌, ℕ, ◌+◌, List, [], ◌∷◌, ◌++◌, ◌⊎◌, Option, Some, None}
+use Rattle.std.specs.Prelude.{◌≡◌, ℕ, List, [], ◌∷◌, ◌++◌, ◌⊎◌, Option, Some, None}
 use Rattle.swim_shell.specs.declared.caller.Refusal.{Refusal}
 use Rattle.swim_shell.specs.declared.conversation.Conversation.{Conversation}
 use Rattle.swim_shell.specs.declared.conversation.ControlEnd.{ControlEnd}
@@ -118,30 +118,6 @@ module _ {S : Type 0} (fresh : S → Type 0) (worked : S → CallerView → S �
   Opened p os None us = us ≡ os
   Opened p os (Some c) us = (first : S) × IsTurnIn fresh first os us × worked first p c p 0
 
-  -- whatever the turns of a conversation before, one turn more and it goes on so
-  abbrev pub GoesOn : S → CallerView → S → CallerView → Type 0
-  GoesOn a p b q =
-      (s : S) → (r : CallerView) → (n : ℕ) → worked s r a p n → worked s r b q (n + 1)
-
-  -- or that turn ended it so
-  abbrev pub EndsWith : ControlEnd → S → CallerView → S → CallerView → Type 0
-  EndsWith end a p b q =
-      (s : S) → (r : CallerView) → (n : ℕ) → worked s r a p n → ended end s r b q (n + 1)
-
-  -- after one turn more a conversation keeps the turns; or it stands aside, or its connection has
-  -- ended
-  abbrev pub ServedOn : S → CallerView → List S → Option S → List S → CallerView → Type 0
-  ServedOn a p os (Some b) us q = (us ≡ os) × GoesOn a p b q
-  ServedOn a p os None us q =
-      ((b : S) × (us ≡ os ++ b ∷ []) × GoesOn a p b q)
-      ⊎ ((b : S) × (end : ControlEnd) × (us ≡ os) × OfConnection end × EndsWith end a p b q)
-
-  -- or the turn ended the worker
-  abbrev pub ServedTo : ControlEnd → S → CallerView → List S → Option S → List S → CallerView
-      → Type 0
-  ServedTo end a p os None us q = ⊥
-  ServedTo end a p os (Some b) us q = (us ≡ os) × OfMember end × EndsWith end a p b q
-
 -- of a connection that is new nothing was heard, and nothing is left to write
 pub record IsNew (c : ConversationView) : Type 0 where
   pub kept : c.kept ≡ []
@@ -183,12 +159,3 @@ module _ {Rd Wr : Type 0} (remaining : Rd → Option (List ℕ)) (contents : Wr 
   abbrev pub Opens : CallerView → List (Conversation Rd Wr) → Option (Conversation Rd Wr)
       → List (Conversation Rd Wr) → Type 0
   Opens = Opened (IsNewTalk remaining contents) TalkGoes TalkEnds limit
-
-  abbrev pub ServesOn : Conversation Rd Wr → CallerView → List (Conversation Rd Wr)
-      → Option (Conversation Rd Wr) → List (Conversation Rd Wr) → CallerView → Type 0
-  ServesOn = ServedOn (IsNewTalk remaining contents) TalkGoes TalkEnds limit
-
-  abbrev pub ServesTo : ControlEnd → Conversation Rd Wr → CallerView
-      → List (Conversation Rd Wr) → Option (Conversation Rd Wr) → List (Conversation Rd Wr)
-      → CallerView → Type 0
-  ServesTo = ServedTo (IsNewTalk remaining contents) TalkGoes TalkEnds limit

@@ -5,7 +5,7 @@ ghost use Rattle.std.specs.Prelude.{OnErr, OnOk, IsSome, IsTrue, false, ◌+◌,
 ghost use Rattle.swim_serve.specs.declared.aside.TheConstants.{OPEN_MAX};
 ghost use Rattle.swim_shell.specs.Joins.{Asks, AsksInVain};
 ghost use Rattle.swim_shell.specs.Calls.{CallerView};
-ghost use Rattle.swim_serve.specs.Desks.{ServesOn, ServesTo, TalkGoes};
+ghost use Rattle.swim_serve.specs.Desks.{TalkGoes};
 ghost use Rattle.swim_serve.specs.Desks.{OfConnection, OfMember, Opens};
 
 use crate::aside::{Aside, OPEN_MAX};
@@ -81,36 +81,6 @@ impl<W: Log + Clock + Drop, O: Doors + Drop> Desk<W, O> {
     {
         self.silent = silent_after(self.silent, conversation.is_silent());
         self.others.push(conversation);
-    }
-
-    /// Gives the open conversation a turn. Says how it ended the worker, if it did; where only the connection ended, none is
-    /// open any more.
-    fn serve<C: Observer>(
-        &mut self,
-        caller: &mut C,
-        mut conversation: Conversation<O::Reader, O::Writer>,
-    ) -> Option<ControlEnd>
-        requires nobody { self.old.conversation ≡ None }
-        requires room { length self.old.others < OPEN_MAX }
-        ensures on { IfNone result (ServesOn O.Reader.remaining O.Writer.contents C.limit
-            conversation (C.known caller.old) self.old.others self.new.conversation
-            self.new.others (C.known caller.new)) }
-        ensures end { IfSome result (λ end. ServesTo O.Reader.remaining O.Writer.contents
-            C.limit end conversation (C.known caller.old) self.old.others
-            self.new.conversation self.new.others (C.known caller.new)) }
-        ensures joiner { self.new.joiner ≡ self.old.joiner }
-    {
-        match conversation.turn(caller) {
-            Some(end) if is_of_connection(end) => None,
-            None if !conversation.is_waiting() => {
-                self.set_aside(conversation);
-                None
-            }
-            end => {
-                self.conversation = Some(conversation);
-                end
-            }
-        }
     }
 
     /// The first of the others, which has the turns next. None where none of them has anything to say, after a wait.
@@ -199,14 +169,24 @@ impl<C: Observer, W: Log + Clock + Drop, O: Doors + Drop> Worker<C> for Desk<W, 
         }
     }
 
-    #[tactic(auto, using(crate::proofs::Tending::tending_asked, crate::proofs::Tending::tending_refused, crate::proofs::Tending::tending_served, crate::proofs::Tending::tending_ended))]
+    #[tactic(auto, using(crate::proofs::Tending::tending_asked, crate::proofs::Tending::tending_refused))]
     fn turn(&mut self, caller: &mut C) -> Option<ControlEnd> {
-        match self.conversation.take() {
-            Some(conversation) => self.serve(caller, conversation),
-            None => match self.stand_by(caller) {
+        let Some(mut conversation) = self.conversation.take() else {
+            return match self.stand_by(caller) {
                 Ok(()) => None,
                 Err(refusal) => Some(ControlEnd::Refused(refusal)),
-            },
+            };
+        };
+        match conversation.turn(caller) {
+            Some(end) if is_of_connection(end) => None,
+            None if !conversation.is_waiting() => {
+                self.set_aside(conversation);
+                None
+            }
+            end => {
+                self.conversation = Some(conversation);
+                end
+            }
         }
     }
 }

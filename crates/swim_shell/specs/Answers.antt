@@ -92,13 +92,18 @@ pub record Plain (p q : CallerView) (refused : Option Refusal) (answer text : Li
   pub unrefused : refused ≡ None
   pub is : answer ≡ text
 
--- the event was to be entered: its one new call is of it, and what is written follows from its
--- reply; or the call was refused, there was a reason for it, and this is written
-abbrev pub Calls : ℕ → Event → (Reply → List ℕ → Type 0) → CallerView → CallerView
-    → Option Refusal → List ℕ → Type 0
-Calls limit event Writes p q None answer =
-    (reply : Reply) × NewCall p q event reply × Writes reply answer
-Calls limit event Writes p q (Some why) answer =
+-- how what is written follows from the reply to a request's call
+abbrev pub Replies : Request → Reply → List ℕ → Type 0
+Replies (asked.Join peer) reply text = text ≡ joined_text reply
+Replies asked.Leave reply text = text ≡ left_text reply
+Replies _ reply text = Unit {0}
+
+-- the event was to be entered for this request: its one new call is of it, and what is written
+-- follows from its reply; or the call was refused, there was a reason for it, and this is written
+abbrev pub Calls : ℕ → Event → Request → CallerView → CallerView → Option Refusal → List ℕ → Type 0
+Calls limit event asked p q None answer =
+    (reply : Reply) × NewCall p q event reply × Replies asked reply answer
+Calls limit event asked p q (Some why) answer =
     Refuses limit why p q event × (answer ≡ refusal_text why)
 
 -- no event was to be entered; the status is written, or that there is no reading of it
@@ -111,11 +116,11 @@ ShowsStatus p q (Some why) answer =
 abbrev pub Answers : ℕ → Request → CallerView → CallerView → Option Refusal → List ℕ → Type 0
 Answers limit asked.Status p q refused answer = ShowsStatus p q refused answer
 Answers limit (asked.Members after) p q refused answer =
-    Calls limit (event.Members after) (λ reply text. Unit {0}) p q refused answer
+    Calls limit (event.Members after) (asked.Members after) p q refused answer
 Answers limit (asked.Join peer) p q refused answer =
-    Calls limit (event.Join peer) (λ reply text. text ≡ joined_text reply) p q refused answer
+    Calls limit (event.Join peer) (asked.Join peer) p q refused answer
 Answers limit asked.Leave p q refused answer =
-    Calls limit event.Leave (λ reply text. text ≡ left_text reply) p q refused answer
+    Calls limit event.Leave asked.Leave p q refused answer
 Answers limit asked.Stop p q refused answer = Plain p q refused answer (codes "ok stopping\n")
 Answers limit asked.Unknown p q refused answer =
     Plain p q refused answer (codes "error 1 unknown\n")

@@ -18,7 +18,7 @@ use Rattle.swim_shell.specs.declared.caller.Refusal.{Refusal}
 use Rattle.swim_shell.specs.declared.paces.Moment.{Moment}
 use Rattle.swim_shell.specs.Calls.{CallerView, NewCall, Refuses}
 use Rattle.swim_shell.specs.Moments.{NewsView, TellsNews, has_passed}
-use Rattle.swim_shell.specs.Joins.{JoinerView, stepped, rest_after, has_row, drawn_by, due_by}
+use Rattle.swim_shell.specs.Joins.{JoinerView, stepped, rest_after, has_row, due_by}
 use Rattle.swim_shell.specs.Joins.{LooksAll, LooksInVain}
 
 -- ---- what is due

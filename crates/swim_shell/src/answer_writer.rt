@@ -1,6 +1,6 @@
 //! Answers that wait until they are written.
 
-ghost use Rattle.std.specs.Prelude.{◌≡◌, ◌≤◌, ◌++◌, ◌∷◌, true, false, [], length, IfOk, IsTrue, IsFalse, OnOk, ◌<◌};
+ghost use Rattle.std.specs.Prelude.{◌≡◌, ◌≤◌, ◌++◌, ◌∷◌, true, false, [], length, IfOk, IsTrue, OnOk, ◌<◌};
 ghost use Rattle.swim_shell.specs.Writes.{sent_by};
 
 use crate::answers::Answer;
@@ -45,7 +45,7 @@ pub(crate) struct AnswerWriter<Wr: Write + Drop> {
     is_flushed: bool,
     /// How much each write took since the last flush, for proofs.
     unflushed: Trace<usize>,
-    /// What came of each step, for proofs.
+    /// What came of each write and flush, and whether all was out then, for proofs.
     steps: Trace<io::Result<bool>>,
 }
 
@@ -91,11 +91,12 @@ impl<Wr: Write + Drop> AnswerWriter<Wr> {
         self.is_flushed = false;
     }
 
-    /// Flushes what is written, once all is.
-    fn flush(&mut self) -> io::Result<()>
+    /// Flushes what is written, once all is. Says that all is out then.
+    fn flush(&mut self) -> io::Result<bool>
         requires { length self.old.answer.bytes ≤ self.old.written }
         ensures gives { Gives (Wr.contents self.old.writer) (Wr.contents self.new.writer)
             (left_of self.old) (left_of self.new) [] }
+        ensures done { IfOk result (λ done. done ≡ true) }
         ensures out { OnOk result (left_of self.new ≡ []) }
         ensures flushed { OnOk result (IsFlushed self.new) }
         ensures steps { self.new.steps ≡ self.old.steps }
@@ -103,14 +104,15 @@ impl<Wr: Write + Drop> AnswerWriter<Wr> {
         self.writer.flush()?;
         self.unflushed = Trace::new();
         self.is_flushed = true;
-        Ok(())
+        Ok(true)
     }
 
-    /// Writes some of what is left.
-    fn write(&mut self) -> io::Result<()>
+    /// Writes some of what is left. Says that not all is out then.
+    fn write(&mut self) -> io::Result<bool>
         requires { self.old.written < length self.old.answer.bytes }
         ensures gives { Gives (Wr.contents self.old.writer) (Wr.contents self.new.writer)
             (left_of self.old) (left_of self.new) [] }
+        ensures done { IfOk result (λ done. done ≡ false) }
         ensures out { OnOk result (is_out self.new ≡ false) }
         ensures steps { self.new.steps ≡ self.old.steps }
     {
@@ -122,38 +124,7 @@ impl<Wr: Write + Drop> AnswerWriter<Wr> {
         self.is_flushed = false;
         self.unflushed = self.unflushed.and(&count);
         self.written += count;
-        Ok(())
-    }
-
-    /// Writes some of what is left, or flushes once nothing is. Says whether all is out.
-    fn advance(&mut self) -> io::Result<bool>
-        ensures gives { Gives (Wr.contents self.old.writer) (Wr.contents self.new.writer)
-            (left_of self.old) (left_of self.new) [] }
-        ensures out { IfOk result (λ done. IsTrue done → left_of self.new ≡ []) }
-        ensures flushed { IfOk result (λ done. IsTrue done → IsFlushed self.new) }
-        ensures on { IfOk result (λ done. IsFalse done → is_out self.new ≡ false) }
-        ensures steps { self.new.steps ≡ self.old.steps }
-    {
-        if self.written < self.answer.len() {
-            self.write()?;
-            return Ok(false);
-        }
-        self.flush()?;
-        Ok(true)
-    }
-
-    /// The same, which is told to proofs.
-    fn step(&mut self) -> io::Result<bool>
-        ensures gives { Gives (Wr.contents self.old.writer) (Wr.contents self.new.writer)
-            (left_of self.old) (left_of self.new) [] }
-        ensures out { IfOk result (λ done. IsTrue done → left_of self.new ≡ []) }
-        ensures flushed { IfOk result (λ done. IsTrue done → IsFlushed self.new) }
-        ensures on { IfOk result (λ done. IsFalse done → is_out self.new ≡ false) }
-        ensures told { self.new.steps ≡ self.old.steps ++ result ∷ [] }
-    {
-        let done = self.advance();
-        self.steps = self.steps.and(&done);
-        done
+        Ok(false)
     }
 
     /// Writes what is left, as far as the writer takes it. A write that a signal interrupts is tried again.
@@ -167,7 +138,13 @@ impl<Wr: Write + Drop> AnswerWriter<Wr> {
             self.old.steps self.new.steps }
     {
         for _ in 0..WRITES_MAX {
-            match self.step() {
+            let step = if self.written < self.answer.len() {
+                self.write()
+            } else {
+                self.flush()
+            };
+            self.steps = self.steps.and(&step);
+            match step {
                 Ok(true) => return Sent::Out,
                 Ok(false) => {}
                 Err(error) => {

@@ -3,9 +3,10 @@
 ghost use Rattle.std.specs.Prelude.{◌≡◌, ◌+◌, ◌≤◌, ◌++◌, [], length, codes, OnOk};
 ghost use Rattle.std.specs.Fmt.{decimal};
 ghost use Rattle.std.specs.List.{list_any};
-ghost use Rattle.swim_shell.specs.Answers.{is_misdirected, is_stopped, joined_text, left_text, members_text, refusal_text, row_text, status_head, status_rest, status_text};
+ghost use Rattle.swim_shell.specs.Answers.{Replies, is_misdirected, is_stopped, joined_text, left_text, members_text, refusal_text, row_text, status_head, status_rest, status_text};
 
 use crate::caller::Refusal;
+use crate::request::Request;
 use arrayvec::{ArrayString, ArrayVec};
 use std::fmt::{self, Write};
 use swim_member::{NOTES_MAX, Note};
@@ -13,7 +14,7 @@ use swim_node::{Reply, Status};
 use swim_wire::Update;
 
 /// Room for the longest answer: a head, and thirty rows of at most 51 bytes.
-const ANSWER_MAX: usize = 2048;
+pub(crate) const ANSWER_MAX: usize = 2048;
 
 /// The text of an answer.
 pub(crate) type Answer = ArrayString<ANSWER_MAX>;
@@ -92,32 +93,6 @@ fn write_members(answer: &mut Answer, page: &[Update]) -> fmt::Result
     Ok(())
 }
 
-/// What is written where a call was answered.
-pub(crate) trait AnswerTo {
-    ghost use Rattle.std.specs.Prelude.{◌≡◌, [], ℕ, List};
-    ghost use Rattle.swim_node.specs.declared.entry.Reply.{Reply as Replies};
-
-    /// How it follows from the reply.
-    ghost writes: { Replies → List ℕ → Type 0 };
-
-    /// Writes it.
-    fn write(self, answer: &mut Answer, reply: &Reply)
-        requires { answer.old.bytes ≡ [] }
-        ensures { writes reply.now answer.new.bytes };
-}
-
-/// The answer to `members`: how many follow, and their lines.
-#[derive(Clone, Copy)]
-pub(crate) struct Shown;
-
-impl AnswerTo for Shown {
-    ghost writes = { λ reply text. Unit {0} };
-
-    fn write(self, answer: &mut Answer, reply: &Reply) {
-        let _ = write_members(answer, reply.page.as_slice());
-    }
-}
-
 /// Whether the member takes no part.
 fn has_stopped(notes: &ArrayVec<Note, NOTES_MAX>) -> bool
     ensures { result ≡ list_any is_stopped notes.now.items }
@@ -138,39 +113,46 @@ fn is_to_itself(notes: &ArrayVec<Note, NOTES_MAX>) -> bool
         .any(|note| matches!(note, Note::Misdirected))
 }
 
-/// The answer to `join`.
-#[derive(Clone, Copy)]
-pub(crate) struct Joined;
-
-impl AnswerTo for Joined {
-    ghost writes = { λ reply text. text ≡ joined_text reply };
-
-    fn write(self, answer: &mut Answer, reply: &Reply) {
-        if has_stopped(&reply.notes) {
-            add_text(answer, "ok stopped\n");
-        } else if is_to_itself(&reply.notes) {
-            add_text(answer, "error 7 self\n");
-        } else if reply.lost > 0 {
-            add_text(answer, "ok lost\n");
-        } else {
-            add_text(answer, "ok sent\n");
-        }
+/// Writes the answer to `join`.
+fn add_joined(answer: &mut Answer, reply: &Reply)
+    requires { answer.old.bytes ≡ [] }
+    ensures { answer.new.bytes ≡ joined_text reply.now }
+{
+    if has_stopped(&reply.notes) {
+        add_text(answer, "ok stopped\n");
+    } else if is_to_itself(&reply.notes) {
+        add_text(answer, "error 7 self\n");
+    } else if reply.lost > 0 {
+        add_text(answer, "ok lost\n");
+    } else {
+        add_text(answer, "ok sent\n");
     }
 }
 
-/// The answer to `leave`.
-#[derive(Clone, Copy)]
-pub(crate) struct Left;
+/// Writes the answer to `leave`.
+fn add_left(answer: &mut Answer, reply: &Reply)
+    requires { answer.old.bytes ≡ [] }
+    ensures { answer.new.bytes ≡ left_text reply.now }
+{
+    if has_stopped(&reply.notes) {
+        add_text(answer, "ok stopped\n");
+    } else {
+        add_text(answer, "ok left\n");
+    }
+}
 
-impl AnswerTo for Left {
-    ghost writes = { λ reply text. text ≡ left_text reply };
-
-    fn write(self, answer: &mut Answer, reply: &Reply) {
-        if has_stopped(&reply.notes) {
-            add_text(answer, "ok stopped\n");
-        } else {
-            add_text(answer, "ok left\n");
+/// Writes what the call of a request was answered. One that makes no call has no answer here.
+pub(crate) fn add_reply(answer: &mut Answer, asked: Request, reply: &Reply)
+    requires { answer.old.bytes ≡ [] }
+    ensures { Replies asked reply.now answer.new.bytes }
+{
+    match asked {
+        Request::Members(_) => {
+            let _ = write_members(answer, reply.page.as_slice());
         }
+        Request::Join(_) => add_joined(answer, reply),
+        Request::Leave => add_left(answer, reply),
+        _ => {}
     }
 }
 

@@ -1,11 +1,11 @@
 //! A control connection.
 
-ghost use Rattle.std.specs.Prelude.{◌≡◌, []};
-ghost use Rattle.swim_shell.specs.Answers.{Answers, Calls, ShowsStatus, end_of};
+ghost use Rattle.std.specs.Prelude.{◌≡◌, ◌≤◌, [], None, length};
+ghost use Rattle.swim_shell.specs.Answers.{Answers, ShowsStatus, end_of};
 ghost use Rattle.swim_shell.specs.Control.{carried};
 
 use crate::answer_writer::{AnswerWriter, Sent};
-use crate::answers::{Answer, AnswerTo, Joined, Left, Shown, add_refusal, add_status, add_text};
+use crate::answers::{ANSWER_MAX, Answer, add_refusal, add_reply, add_status, add_text};
 use crate::caller::{Observer, Refusal};
 use crate::lines::{LineReader, NoLine};
 use crate::request::{Request, understand};
@@ -60,29 +60,6 @@ pub struct Conversation<Rd: Read + Drop, Wr: Write + Drop> {
     is_silent: bool,
 }
 
-/// Makes the call of a line, and writes what came of it. Says why it was refused, if it was.
-fn call<C: Observer, A: AnswerTo + Copy>(
-    caller: &mut C,
-    answer: &mut Answer,
-    event: Event,
-    answers: A,
-) -> Option<Refusal>
-    requires { answer.old.bytes ≡ [] }
-    ensures { Calls C.limit event A.writes (C.known caller.old) (C.known caller.new) result
-        answer.new.bytes }
-{
-    match caller.call(event) {
-        Ok(reply) => {
-            answers.write(answer, &reply);
-            None
-        }
-        Err(why) => {
-            add_refusal(answer, why);
-            Some(why)
-        }
-    }
-}
-
 /// Writes the status. Says why it could not, if there is no reading of it.
 fn show_status<C: Observer>(caller: &mut C, answer: &mut Answer) -> Option<Refusal>
     requires { answer.old.bytes ≡ [] }
@@ -100,24 +77,42 @@ fn show_status<C: Observer>(caller: &mut C, answer: &mut Answer) -> Option<Refus
     }
 }
 
+/// Writes a text for which no call is made, and so none is refused.
+fn say(answer: &mut Answer, text: &str) -> Option<Refusal>
+    requires { answer.old.bytes ≡ [] }
+    ensures none { result ≡ None }
+    ensures text { length text.now ≤ ANSWER_MAX → answer.new.bytes ≡ text.now }
+{
+    add_text(answer, text);
+    None
+}
+
 /// Does what is asked, and writes the answer. Says why its call was refused, if it was.
 fn respond<C: Observer>(caller: &mut C, answer: &mut Answer, asked: Request) -> Option<Refusal>
     requires { answer.old.bytes ≡ [] }
     ensures { Answers C.limit asked (C.known caller.old) (C.known caller.new) result
         answer.new.bytes }
 {
-    let text = match asked {
+    let event = match asked {
         Request::Status => return show_status(caller, answer),
-        Request::Members(after) => return call(caller, answer, Event::Members { after }, Shown),
-        Request::Join(peer) => return call(caller, answer, Event::Join { peer }, Joined),
-        Request::Leave => return call(caller, answer, Event::Leave, Left),
-        Request::Stop => "ok stopping\n",
-        Request::Unknown => "error 1 unknown\n",
-        Request::Address => "error 2 address\n",
-        Request::TooLong => "error 3 too long\n",
+        Request::Members(after) => Event::Members { after },
+        Request::Join(peer) => Event::Join { peer },
+        Request::Leave => Event::Leave,
+        Request::Stop => return say(answer, "ok stopping\n"),
+        Request::Unknown => return say(answer, "error 1 unknown\n"),
+        Request::Address => return say(answer, "error 2 address\n"),
+        Request::TooLong => return say(answer, "error 3 too long\n"),
     };
-    add_text(answer, text);
-    None
+    match caller.call(event) {
+        Ok(reply) => {
+            add_reply(answer, asked, &reply);
+            None
+        }
+        Err(why) => {
+            add_refusal(answer, why);
+            Some(why)
+        }
+    }
 }
 
 /// How a line ends a conversation, if it does.

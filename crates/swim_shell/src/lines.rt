@@ -143,32 +143,37 @@ impl<Rd: Read + Drop> ByteReader<Rd> {
         Some(byte)
     }
 
-    /// The next byte; none at the end of input. After an error the same byte is next.
-    fn read_byte(&mut self) -> io::Result<Option<u8>>
-        ensures byte { ReadsByte (Rd.remaining self.old.reader) (Rd.remaining self.new.reader)
-            (ahead_of self.old) (ahead_of self.new) result }
-        ensures answers { self.new.answers ≡ self.old.answers }
+    /// Gives this answer, which is told to proofs.
+    fn tell(&mut self, answer: io::Result<Option<u8>>) -> io::Result<Option<u8>>
+        ensures answer { result ≡ answer }
+        ensures reader { self.new.reader ≡ self.old.reader }
+        ensures ahead { ahead_of self.new ≡ ahead_of self.old }
+        ensures told { self.new.answers ≡ self.old.answers ++ answer ∷ [] }
     {
-        if let Some(byte) = self.give() {
-            return Ok(Some(byte));
-        }
-        let mut ahead = ArrayVec::from([0; READ_MAX]);
-        let count = self.reader.read(ahead.as_mut_slice())?;
-        ahead.truncate(count);
-        self.ahead = ahead;
-        self.next = 0;
-        Ok(self.give())
+        self.answers = self.answers.and(&answer);
+        answer
     }
 
-    /// The same, which is told to proofs.
+    /// The next byte; none at the end of input. After an error the same byte is next.
     pub(crate) fn next_byte(&mut self) -> io::Result<Option<u8>>
         ensures byte { ReadsByte (Rd.remaining self.old.reader) (Rd.remaining self.new.reader)
             (ahead_of self.old) (ahead_of self.new) result }
         ensures told { self.new.answers ≡ self.old.answers ++ result ∷ [] }
     {
-        let answer = self.read_byte();
-        self.answers = self.answers.and(&answer);
-        answer
+        if let Some(byte) = self.give() {
+            return self.tell(Ok(Some(byte)));
+        }
+        let mut ahead = ArrayVec::from([0; READ_MAX]);
+        match self.reader.read(ahead.as_mut_slice()) {
+            Ok(count) => {
+                ahead.truncate(count);
+                self.ahead = ahead;
+                self.next = 0;
+                let byte = self.give();
+                self.tell(Ok(byte))
+            }
+            Err(error) => self.tell(Err(error)),
+        }
     }
 }
 

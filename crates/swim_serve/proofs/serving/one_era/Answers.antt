@@ -1,4 +1,4 @@
-use Rattle.std.proofs.Common.{◌≡◌, [], subst}
+use Rattle.std.proofs.Common.{subst}
 use Rattle.swim_node.specs.Lives.{IsRaised}
 use Rattle.swim_node.specs.Node.{next_base}
 use Rattle.swim_shell.specs.Ticks.{answers}

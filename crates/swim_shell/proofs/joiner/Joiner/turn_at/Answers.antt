@@ -1,5 +1,5 @@
 use Rattle.swim_shell.proofs.Asking.{asks_same, in_vain_same}
-use Rattle.std.proofs.Common.{rules, ◌≡◌}
+use Rattle.std.proofs.Common.{rules}
 use Rattle.swim_shell.proofs.joiner.Joiner.turn_at.Goals as goal
 
 pub returns-then-is_draw_due-clause-asks : goal.returns-then-is_draw_due-clause-asks
