@@ -2,6 +2,7 @@ mod Crosses
 mod Eras
 mod Fitting
 mod Handing
+mod Keeping
 mod Notes
 mod Passing
 mod Tending

@@ -4,5 +4,6 @@ pub mod Faults
 pub mod Members
 pub mod Notes
 pub mod Numbers
+pub mod Peers
 pub mod Views
 pub mod Works

@@ -7,6 +7,7 @@ ghost use Rattle.swim_shell.specs.Ticks.{answers};
 ghost use Rattle.swim_serve.specs.Desks.{desk_of};
 ghost use Rattle.swim_serve.specs.Faults.{by_desk, by_receiver, by_refusal, fault_by, fault_of};
 ghost use Rattle.swim_serve.specs.Members.{Era, Lived, end_by_phase, member_end, member_of};
+ghost use Rattle.swim_serve.specs.Peers.{BeginsKept, HasKnown, KeepsPeers, next_era};
 ghost use Rattle.swim_serve.specs.Works.{receiver_of};
 
 use crate::era::{CALLERS, EraEnd, EraEnds, Outside, WATCHES, run_era};
@@ -102,11 +103,16 @@ fn fault_of(ends: &EraEnds) -> Option<Fault>
 
 /// Ends an era of a node, and keeps the peers that the member knows then, if they are others than those that stand in the
 /// state file. A fault there is logged only: the member goes on, and its next save keeps the peers that it knows by then.
+#[tactic(auto, using(crate::proofs::Keeping::keeps_peers, crate::proofs::Keeping::begins_kept))]
 fn end_era<D: Disk, T: Log>(rt: &T, node: &mut Node<D>)
     ensures entries { node.new.entries ≡ [] }
     ensures base { IsRaised (next_base node.old.base node.old.entries) node.new.base }
     ensures owner { node.new.owner ≡ node.old.owner }
     ensures first { node.new.first ≡ node.old.first }
+    ensures kept { (HasKnown (next_era node.old) → ⊥)
+        → KeepsPeers D.keeps_model D.state (next_era node.old) node.new }
+    ensures spared { HasKnown (next_era node.old) → node.new ≡ next_era node.old }
+    ensures begins { BeginsKept node.new }
 {
     node.rebase();
     if !node.has_other_peers() {
@@ -144,6 +150,7 @@ fn one_era<
     ensures entries { IfOk result (λ end. end.node.entries ≡ []) }
     ensures owner { IfOk result (λ end. end.node.owner ≡ node.owner) }
     ensures first { IfOk result (λ end. end.node.first ≡ node.first) }
+    ensures kept { IfOk result (λ end. BeginsKept end.node) }
     ensures era { IfOk result (λ end. Era I.tells M.tells M.took M.failures O.Reader.remaining
         O.Writer.contents
         (member_of node.base (receiver_of I.came I.failures outside.receiver)
