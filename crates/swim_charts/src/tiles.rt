@@ -1,9 +1,15 @@
 //! Numbers of a table, darker where they are greater.
 
-use crate::drawing::{Area, Drawing, LEFT, SPAN};
+use crate::drawing::{Area, Drawing};
 use crate::thousandths::Thousandths;
 use std::alloc::{AllocError, Global};
 use std::fmt::Write;
+
+/// How far from the left the tiles begin; the names of rows stand before that.
+const LEFT: u64 = 240;
+
+/// How wide all tiles of a row are.
+const SPAN: u64 = 740;
 
 /// How high a tile is.
 const HIGH: u64 = 24;

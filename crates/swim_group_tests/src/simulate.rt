@@ -1,8 +1,10 @@
 //! Plans, refused ones, and whole runs.
 
+use arrayvec::ArrayVec;
 use std::alloc::{AllocError, Global};
 use std::test::Fail;
-use swim_simulate::{Key, Plan, simulate};
+use swim_simulate::{Key, Law, Plan, endpoint_of, simulate};
+use swim_wire::{Cursor, Datagram, Kind, Rules, Update, UpdateKind};
 
 /// What a plan is refused for, and nothing where it is not.
 fn refusal_of(alloc: Global, text: &str) -> Result<String, AllocError> {
@@ -104,5 +106,41 @@ fn who_is_paused_is_suspected_and_comes_back(rt: HostRuntime) -> Result<(), Fail
     assert!(rt; counts.suspicions > 0 && counts.confirms == 0, "{counts:?}");
     // of 600 ticks of five members each began at most nine late, and one missed twenty
     assert!(rt; counts.ticks > 2900 && counts.ticks <= 2980, "{counts:?}");
+    Ok(())
+}
+
+/// A ping of the first member that says this number of another one.
+fn ping_that_says(who: usize, number: u64) -> Datagram
+    requires { who < 1000 }
+{
+    let mut updates = ArrayVec::new();
+    updates.push(Update {
+        kind: UpdateKind::Alive,
+        who: endpoint_of(who),
+        number,
+    });
+    Datagram {
+        version: Rules::One,
+        kind: Kind::Ping,
+        group: 1,
+        seq: 1,
+        sender: endpoint_of(0),
+        subject: Cursor::at(endpoint_of(1)),
+        updates,
+    }
+}
+
+#[test]
+fn a_number_that_nobody_told_breaks_the_law(rt: HostRuntime) -> Result<(), Fail> {
+    let mut law = Law::new(rt.alloc());
+    law.look(6, &ping_that_says(0, 5))?;
+    assert_eq!(rt; law.stop(), None);
+    law.look(7, &ping_that_says(1, 5))?;
+    law.look(8, &ping_that_says(2, 5))?;
+    // the first one counts
+    let found = law
+        .stop()
+        .map(|stop| (stop.tick, stop.sender, stop.update.who));
+    assert_eq!(rt; found, Some((7, endpoint_of(0), endpoint_of(1))));
     Ok(())
 }

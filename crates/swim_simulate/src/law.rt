@@ -38,28 +38,37 @@ impl fmt::Display for Stop {
 
 /// What was told so far, and where the law was broken first.
 #[derive(Drop)]
-pub(crate) struct Law {
-    checker: Checker,
+pub struct Law {
+    /// None where a datagram was not seen, so that nothing can be said any more.
+    checker: Option<Checker>,
     stop: Option<Stop>,
 }
 
 impl Law {
     /// Nothing was told yet.
-    pub(crate) fn new(alloc: Global) -> Law {
+    pub fn new(alloc: Global) -> Law {
         Law {
-            checker: Checker::new(alloc),
+            checker: Some(Checker::new(alloc)),
             stop: None,
         }
     }
 
     /// Where the law was broken, if it was.
-    pub(crate) fn stop(&self) -> Option<Stop> {
+    pub fn stop(&self) -> Option<Stop> {
         self.stop
     }
 
+    /// From here on not every datagram is seen.
+    pub fn close(&mut self) {
+        self.checker = None;
+    }
+
     /// Looks at the datagram that was sent next.
-    pub(crate) fn look(&mut self, tick: u64, datagram: &Datagram) -> Result<(), SimulateFault> {
-        match self.checker.check(datagram) {
+    pub fn look(&mut self, tick: u64, datagram: &Datagram) -> Result<(), SimulateFault> {
+        let Some(checker) = &mut self.checker else {
+            return Ok(());
+        };
+        match checker.check(datagram) {
             Ok(()) => Ok(()),
             Err(CheckFault::NoMemory) => Err(SimulateFault::Memory),
             Err(CheckFault::Broken(update, breach)) => {

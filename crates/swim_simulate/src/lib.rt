@@ -17,9 +17,10 @@ mod views;
 
 pub use fault::SimulateFault;
 pub use key::{KEYS, Key, Range};
-pub use law::Stop;
+pub use law::{Law, Stop};
 pub use measures::{Counts, Kill, Measures};
 pub use network::{Draw, Fate, fate_by, is_cut};
+pub use place::endpoint_of;
 pub use plan::Plan;
 pub use refusal::PlanRefusal;
 pub use run::{Done, simulate};

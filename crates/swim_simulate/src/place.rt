@@ -15,7 +15,7 @@ const FIRST: u32 = 0x0a00_0001;
 const PORT: u16 = 7000;
 
 /// The endpoint of the member with this place.
-pub(crate) fn endpoint_of(place: usize) -> Endpoint
+pub fn endpoint_of(place: usize) -> Endpoint
     requires { place < 1000 }
 {
     match Endpoint::new(FIRST + place as u32, PORT) {

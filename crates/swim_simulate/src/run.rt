@@ -148,12 +148,16 @@ impl Run {
         }
     }
 
-    /// Looks whether the datagram that is kept in this place, the last that was sent, keeps the law.
+    /// Looks whether the datagram that is kept in this place, the last that was sent, keeps the law. Where no more are kept,
+    /// later ones are not seen.
     fn judge(&mut self, index: usize) -> Result<(), SimulateFault> {
-        match self.nodes.kept().get(index) {
-            Some(out) => self.law.look(self.now, &out.datagram),
-            None => Ok(()),
+        if let Some(out) = self.nodes.kept().get(index) {
+            self.law.look(self.now, &out.datagram)?;
         }
+        if index >= ROOM - 1 {
+            self.law.close();
+        }
+        Ok(())
     }
 
     /// What this member sent goes its ways.

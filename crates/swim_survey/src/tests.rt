@@ -11,7 +11,9 @@ use crate::sweeping::run_sweep;
 use crate::table::report;
 use std::alloc::{AllocError, Global};
 use std::test::Fail;
-use swim_simulate::{Key, Kill, Plan, SimulateFault, simulate};
+use swim_group::Breach;
+use swim_simulate::{Key, Kill, Plan, SimulateFault, Stop, simulate};
+use swim_wire::{Endpoint, Update, UpdateKind};
 
 /// What runs of a plan print.
 fn printed(alloc: Global, text: &str, seed: u64, runs: u64) -> Result<String, Fail> {
@@ -213,5 +215,35 @@ fn what_is_gathered_adds_up(rt: HostRuntime) -> Result<(), Fail> {
     }
     assert_eq!(rt; all.kills, 4);
     assert_eq!(rt; all.sorted(alloc, Stage::Confirmed)?.len(), 4);
+    Ok(())
+}
+
+#[test]
+fn a_broken_run_tells_where(rt: HostRuntime) -> Result<(), Fail> {
+    let alloc = rt.alloc();
+    let plan = Plan::read(alloc, b"members = 3\nminutes = 1\nkills = 0\n")?;
+    let mut done = simulate(alloc, &plan, 1, 0)?;
+    let who = Endpoint::new(0x0a00_0002, 7000).unwrap_or_default();
+    let update = Update {
+        kind: UpdateKind::Alive,
+        who,
+        number: 9,
+    };
+    done.stop = Some(Stop {
+        tick: 17,
+        sender: who,
+        update,
+        breach: Breach::WentBack,
+    });
+    let found = told(alloc, &plan, 1, &done)?;
+    let line =
+        "# tick 17: 10.0.0.2:7000 told number 9 of 10.0.0.2:7000: it told a greater number of itself before\n";
+    assert!(rt; found.as_str().contains(line), "{found}");
+    assert!(rt;
+        found
+            .as_str()
+            .ends_with("members = 3\nminutes = 1\nkills = 0\n"),
+        "{found}"
+    );
     Ok(())
 }
