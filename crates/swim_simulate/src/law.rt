@@ -63,7 +63,7 @@ impl Law {
         self.checker = None;
     }
 
-    /// Looks at the datagram that was sent next.
+    /// Looks at the datagram that was sent next. `Memory` where there is none to remember it.
     pub fn look(&mut self, tick: u64, datagram: &Datagram) -> Result<(), SimulateFault> {
         let Some(checker) = &mut self.checker else {
             return Ok(());
