@@ -20,7 +20,6 @@ use Rattle.swim_node.specs.declared.fault.ApplyFault.{ApplyFault}
 use Rattle.swim_node.specs.declared.fault.ApplyFault.TheVariants.{EraFull, OutOfTurn}
 use Rattle.swim_node.specs.declared.fault.ApplyFault.TheVariants as apply
 use Rattle.swim_node.specs.Node.{NodeView, IsTurn, Refused as Unentered}
-use Rattle.swim_disk.specs.declared.mem.MemDisk.{MemDisk}
 use Rattle.swim_node.specs.declared.opening.TheConstants.{LIMIT_MAX}
 use Rattle.swim_state.specs.declared.fault.InitFault.{InitFault}
 use Rattle.swim_state.specs.declared.fault.InitFault.TheVariants as init
@@ -32,10 +31,10 @@ use Rattle.swim_group.specs.declared.fault.NodesFault.TheVariants.{Unfit, NotOpe
 use Rattle.swim_group.specs.declared.fault.NodesFault.TheVariants as nodes
 use Rattle.swim_group.specs.declared.seat.Seat.{Seat}
 use Rattle.swim_group.specs.Real.{MayBegin}
-use Rattle.swim_group.specs.RealNodes.{RealNodes}
-use Rattle.swim_group.specs.Refusing.{IsNoLimit, IsUnrecovered, IsUnopened, IsUnopenedFirst, IsNotMade, IsUnentered, IsUnseated, AreUnbegun, IsDeaf, IsShut, IsUnheard, IsNoStep, IsNoDelivery, IsNoOpening, IsNoEnd}
+use Rattle.swim_group.specs.RealNodes.{RealNodes, NodeDisk}
+use Rattle.swim_group.specs.Refusing.{IsNoLimit, IsUnrecovered, IsUnopened, IsUnopenedFirst, IsNotMade, IsUnentered, IsUnseated, AreUnbegun, IsDeaf, IsShut, IsUnheard, IsNoStep, IsNoDelivery, IsNoOpening, IsAbsent}
 use Rattle.swim_group.proofs.Holding.{get-at}
-use Rattle.swim_group.proofs.Seating.{real, seat_of, set-back, left-at}
+use Rattle.swim_group.proofs.Seating.{real, seat_left, set-back, left-at}
 
 -- Files
 
@@ -138,7 +137,7 @@ unmade init.Range range empty = range refl
 unmade init.NotEmpty range empty = empty refl
 
 -- a call in turn
-pub unentered : (node : NodeView MemDisk) (tag : Tag) (fault : ApplyFault) → IsTurn node.entries tag → Unentered node.base node.entries tag fault → IsUnentered node fault
+pub unentered : (node : NodeView NodeDisk) (tag : Tag) (fault : ApplyFault) → IsTurn node.entries tag → Unentered node.base node.entries tag fault → IsUnentered node fault
 unentered node tag EraFull turn h = h.1
 unentered node tag apply.NoMemory turn h = tt {0}
 unentered node tag OutOfTurn turn h = h turn
@@ -155,12 +154,12 @@ module _ (seats : List Seat) (kept : List Out) (room limit which : ℕ) (old : S
   unheard nodes.NoMemory h = tt {0}
   unheard fault h = record { seat = old; found = get-at seats which old there at; has = h }
 
-  pub no-end : (fault : NodesFault) → fault ≡ Gone → old.node ≡ None → IsNoEnd (real seats kept room limit) which fault
-  no-end fault is gone = subst (IsNoEnd (real seats kept room limit) which) (sym is) (record { seat = old; found = get-at seats which old there at; has = gone })
+  pub absent : (fault : NodesFault) → fault ≡ Gone → old.node ≡ None → IsAbsent (real seats kept room limit) which fault
+  absent fault is gone = subst (IsAbsent (real seats kept room limit) which) (sym is) (record { seat = old; found = get-at seats which old there at; has = gone })
 
-  pub no-opening : (new : Seat) → new ≡ seat_of old.settings None → (fault : NodesFault) → IsShut old limit fault → IsNoOpening (real seats kept room limit) (real (slice_set seats which new) kept room limit) which fault
+  pub no-opening : (new : Seat) → new ≡ seat_left old → (fault : NodesFault) → IsShut old limit fault → IsNoOpening (real seats kept room limit) (real (slice_set seats which new) kept room limit) which fault
   no-opening new is Gone h =
-      let same : new ≡ old = is ∙ ap (seat_of old.settings) (sym h) in (
+      let same : new ≡ old = is ∙ ap (λ n. record old { node = n }) (sym h) in (
         record { seat = old; found = get-at seats which old there at; has = h },
         ap (λ ss. real ss kept room limit) (ap (slice_set seats which) same ∙ set-back seats which old there at),
       )

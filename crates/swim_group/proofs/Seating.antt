@@ -1,8 +1,6 @@
 -- Real nodes after a move of one of them.
-use Rattle.std.proofs.Common.{◌≡◌, ℕ, ◌+◌, ◌<◌, ◌==◌, length, slice_index_or, arith, map, refl, sym, ◌∙◌, ap, subst, List, [], ◌∷◌, ◌++◌, take, zero, suc, Option, Some, None, slice_get, slice_set}
+use Rattle.std.proofs.Common.{◌≡◌, ℕ, ◌+◌, ◌<◌, ◌==◌, length, slice_index_or, arith, map, refl, sym, ◌∙◌, ap, subst, List, [], ◌∷◌, ◌++◌, take, zero, suc, Some, None, slice_get, slice_set}
 use Rattle.std.specs.List.{AllByRecursion, IsDistinct}
-use Rattle.swim_disk.specs.declared.mem.MemDisk.{MemDisk}
-use Rattle.swim_disk.specs.MemDisk.{state_of}
 use Rattle.swim_wire.specs.Spelling.{HasText}
 use Rattle.swim_member.specs.declared.answer.Out.{Out}
 use Rattle.swim_member.specs.declared.event.Event.{Event}
@@ -12,10 +10,11 @@ use Rattle.swim_node.specs.declared.entry.Reply.{Reply}
 use Rattle.swim_node.specs.History.{fresh_base}
 use Rattle.swim_node.specs.Lives.{Life, IsLived, IsLiving, MayEnd, life_of}
 use Rattle.swim_node.specs.Node.{NodeView, owner_of}
+use Rattle.swim_group.specs.declared.failure.Failure.{Failure}
 use Rattle.swim_group.specs.declared.seat.Seat.{Seat}
 use Rattle.swim_group.specs.Network.{WasSent, IsNotInvented}
 use Rattle.swim_group.specs.Nodes.{NodeGroup, NodeMove, Calls, Rebases, Opens, NodeMayMove, LivesAt, IsMoveOf, IsNodeRun, IsOpened, name_in, node_of, life_after, sent_in, moved_at, after_node_move, after_node_moves, members_of}
-use Rattle.swim_group.specs.RealNodes.{RealNodes, IsLifeOf, IsLifeIn, SitsThere, AreLivesOf, HasNodeRun, HasSoundNodeRun, HearsThere, HearsAt, OpensThere, OpensAt, LeavesAt, EraEndsThere, EraEndsAt, IsNewNode, AreNewNodes, seat_with}
+use Rattle.swim_group.specs.RealNodes.{RealNodes, NodeDisk, node_disk_state, IsLifeOf, IsLifeIn, SitsThere, AreLivesOf, HasNodeRun, HasSoundNodeRun, HearsThere, HearsAt, OpensThere, OpensAt, LeavesAt, EraEndsThere, EraEndsAt, PlansThere, PlansAt, IsNewNode, AreNewNodes}
 use Rattle.swim_group.specs.Real.{MayBegin, names_in}
 use Rattle.swim_group.proofs.Lists.{all-append, all-weaker, all-take}
 use Rattle.swim_group.proofs.Telling.{told-kept}
@@ -27,17 +26,17 @@ use Rattle.swim_group.proofs.Naming.{take-last}
 
 -- Seats
 
--- a seat with these settings, and this node or none
-abbrev pub seat_of : Settings → Option (NodeView MemDisk) → Seat
-seat_of settings node = record { settings = settings; node = node }
+-- a seat of which the node is gone
+abbrev pub seat_left : Seat → Seat
+seat_left seat = record seat { node = None }
 
 -- who sits in a place lives the life in that place
-pub record Sitting (lives : List (Life MemDisk)) (which : ℕ) (seat : Seat) : Type 0 where
-  pub life : Life MemDisk
+pub record Sitting (lives : List (Life NodeDisk)) (which : ℕ) (seat : Seat) : Type 0 where
+  pub life : Life NodeDisk
   pub found : slice_get lives which ≡ Some life
   pub sits : SitsThere life seat
 
-seat-at : (lives : List (Life MemDisk)) (seats : List Seat) (which : ℕ) (seat : Seat) → AreLivesOf lives seats → slice_get seats which ≡ Some seat → Sitting lives which seat
+seat-at : (lives : List (Life NodeDisk)) (seats : List Seat) (which : ℕ) (seat : Seat) → AreLivesOf lives seats → slice_get seats which ≡ Some seat → Sitting lives which seat
 seat-at [] [] which seat a e = absurd (cc)
 seat-at [] (s ∷ seats) which seat a e = absurd a
 seat-at (l ∷ lives) [] which seat a e = absurd a
@@ -46,7 +45,7 @@ seat-at (l ∷ lives) (s ∷ seats) (suc which) seat a e =
     let rest : Sitting lives which seat = seat-at lives seats which seat a.1 e in
     record { life = rest.life; found = rest.found; sits = rest.sits }
 
-seat-set : (lives : List (Life MemDisk)) (seats : List Seat) (which : ℕ) (life : Life MemDisk) (seat : Seat) → AreLivesOf lives seats → SitsThere life seat → AreLivesOf (slice_set lives which life) (slice_set seats which seat)
+seat-set : (lives : List (Life NodeDisk)) (seats : List Seat) (which : ℕ) (life : Life NodeDisk) (seat : Seat) → AreLivesOf lives seats → SitsThere life seat → AreLivesOf (slice_set lives which life) (slice_set seats which seat)
 seat-set [] [] which life seat a h = a
 seat-set [] (s ∷ seats) which life seat a h = absurd a
 seat-set (l ∷ lives) [] which life seat a h = absurd a
@@ -55,27 +54,27 @@ seat-set (l ∷ lives) (s ∷ seats) (suc which) life seat a h = (a.0, seat-set 
 
 -- Runs
 
-node-moves-snoc : (moves : List (NodeMove MemDisk)) (g : NodeGroup MemDisk) (m : NodeMove MemDisk) → after_node_moves g (moves ++ m ∷ []) ≡ after_node_move (after_node_moves g moves) m
+node-moves-snoc : (moves : List (NodeMove NodeDisk)) (g : NodeGroup NodeDisk) (m : NodeMove NodeDisk) → after_node_moves g (moves ++ m ∷ []) ≡ after_node_move (after_node_moves g moves) m
 node-moves-snoc [] g m = refl
 node-moves-snoc (n ∷ moves) g m = node-moves-snoc moves (after_node_move g n) m
 
-node-run-snoc : (moves : List (NodeMove MemDisk)) (g : NodeGroup MemDisk) (m : NodeMove MemDisk) → IsNodeRun state_of g moves → NodeMayMove state_of (after_node_moves g moves) m → IsNodeRun state_of g (moves ++ m ∷ [])
+node-run-snoc : (moves : List (NodeMove NodeDisk)) (g : NodeGroup NodeDisk) (m : NodeMove NodeDisk) → IsNodeRun node_disk_state g moves → NodeMayMove node_disk_state (after_node_moves g moves) m → IsNodeRun node_disk_state g (moves ++ m ∷ [])
 node-run-snoc [] g m run may = (may, tt {0})
 node-run-snoc (n ∷ moves) g m run may = (run.0, node-run-snoc moves (after_node_move g n) m run.1 may)
 
 -- a node lives in the group where it sits
-lives-at : (g : NodeGroup MemDisk) (which : ℕ) (life : Life MemDisk) (node : NodeView MemDisk) → slice_get g.lives which ≡ Some life → IsLifeOf life node → LivesAt state_of g which node
+lives-at : (g : NodeGroup NodeDisk) (which : ℕ) (life : Life NodeDisk) (node : NodeView NodeDisk) → slice_get g.lives which ≡ Some life → IsLifeOf life node → LivesAt node_disk_state g which node
 lives-at g which life node found h = record {
   settings = life.settings;
   limit = life.limit;
   opened = life.opened;
   eras = life.eras;
-  found = found ∙ ap (λ (l : Life MemDisk). Some l) h.same;
-  living = subst (λ (l : Life MemDisk). IsLiving state_of node.owner l) h.same h.living;
+  found = found ∙ ap (λ (l : Life NodeDisk). Some l) h.same;
+  living = subst (λ (l : Life NodeDisk). IsLiving node_disk_state node.owner l) h.same h.living;
 }
 
 -- the move of a node that sits in this place
-module _ (g : NodeGroup MemDisk) (which : ℕ) (life : Life MemDisk) (found : slice_get g.lives which ≡ Some life) (m : NodeMove MemDisk) (node : node_of m ≡ which) where
+module _ (g : NodeGroup NodeDisk) (which : ℕ) (life : Life NodeDisk) (found : slice_get g.lives which ≡ Some life) (m : NodeMove NodeDisk) (node : node_of m ≡ which) where
   moved-is : after_node_move g m ≡ moved_at g m (Some life)
   moved-is = ap (moved_at g m) (subst (λ n. slice_get g.lives n ≡ Some life) (sym node) found)
 
@@ -83,39 +82,39 @@ module _ (g : NodeGroup MemDisk) (which : ℕ) (life : Life MemDisk) (found : sl
   set-is = ap (λ n. slice_set g.lives n (life_after m life)) node
 
   -- and its life after it
-  moved-life : (next : NodeView MemDisk) → LivesAt state_of (after_node_move g m) which next → IsLifeOf (life_after m life) next
+  moved-life : (next : NodeView NodeDisk) → LivesAt node_disk_state (after_node_move g m) which next → IsLifeOf (life_after m life) next
   moved-life next at =
-      let x : Life MemDisk = life_of at.settings at.limit at.opened at.eras next in
+      let x : Life NodeDisk = life_of at.settings at.limit at.opened at.eras next in
       let there : slice_get (slice_set g.lives which (life_after m life)) which ≡ Some (life_of at.settings at.limit at.opened at.eras next) =
-      subst (λ ls. slice_get ls which ≡ Some (life_of at.settings at.limit at.opened at.eras next)) (ap (λ (k : NodeGroup MemDisk). k.lives) moved-is ∙ set-is) at.found in
-      let both : Some (life_after m life) ≡ Some (life_of at.settings at.limit at.opened at.eras next) = sym (get-set state_of g.lives which life (life_after m life) found) ∙ there in
+      subst (λ ls. slice_get ls which ≡ Some (life_of at.settings at.limit at.opened at.eras next)) (ap (λ (k : NodeGroup NodeDisk). k.lives) moved-is ∙ set-is) at.found in
+      let both : Some (life_after m life) ≡ Some (life_of at.settings at.limit at.opened at.eras next) = sym (get-set node_disk_state g.lives which life (life_after m life) found) ∙ there in
       let same : life_after m life ≡ life_of at.settings at.limit at.opened at.eras next = cc in
       let is : IsLifeOf (life_of at.settings at.limit at.opened at.eras next) next = record { same = refl; living = at.living } in
       subst (λ l. IsLifeOf l next) (sym same) is
 
 -- the run goes on with a move of a node that sits in a place
-pub went-on : (seats : List Seat) (kept more : List Out) (which : ℕ) (seat next : Seat) (before after : NodeView MemDisk) (if_so : List Out → Type 0) (move : ℕ → NodeMove MemDisk)
-    → slice_get seats which ≡ Some seat → seat ≡ seat_with seat.settings before → next ≡ seat_with seat.settings after
-    → IsMoveOf state_of before after if_so move → node_of (move which) ≡ which
-    → ((life : Life MemDisk) → SitsThere life seat → owner_of seat.settings ≡ owner_of (life_after (move which) life).settings)
-    → ((life : Life MemDisk) (sent : List Out) → SitsThere life seat → IsLifeOf life before → AreSentIn sent kept → if_so sent)
+pub went-on : (seats : List Seat) (kept more : List Out) (which : ℕ) (seat next : Seat) (before after : NodeView NodeDisk) (if_so : List Out → Type 0) (move : ℕ → NodeMove NodeDisk)
+    → slice_get seats which ≡ Some seat → seat.node ≡ Some before → next.settings ≡ seat.settings → next.node ≡ Some after
+    → IsMoveOf node_disk_state before after if_so move → node_of (move which) ≡ which
+    → ((life : Life NodeDisk) → SitsThere life seat → owner_of seat.settings ≡ owner_of (life_after (move which) life).settings)
+    → ((life : Life NodeDisk) (sent : List Out) → SitsThere life seat → IsLifeOf life before → AreSentIn sent kept → if_so sent)
     → ((sent : List Out) → AreSentIn sent kept → AreSentIn (sent ++ sent_in (move which)) more)
     → AllByRecursion (λ (out : Out). HasText out.datagram) more
     → HasNodeRun seats kept → HasNodeRun (slice_set seats which next) more
-went-on seats kept more which seat next before after if_so move there was is goes node owned so keeps fit h =
-    let end : NodeGroup MemDisk = after_node_moves h.group h.moves in
-    let m : NodeMove MemDisk = move which in
+went-on seats kept more which seat next before after if_so move there was same is goes node owned so keeps fit h =
+    let end : NodeGroup NodeDisk = after_node_moves h.group h.moves in
+    let m : NodeMove NodeDisk = move which in
     let at : Sitting (after_node_moves h.group h.moves).lives which seat = seat-at (after_node_moves h.group h.moves).lives seats which seat h.lives there in
-    let alive : IsLifeOf at.life before = subst (λ (s : Seat). IsLifeIn at.life s.node) was at.sits.alive in
-    let moved : NodeMayMove state_of (after_node_moves h.group h.moves) (move which) × LivesAt state_of (after_node_move (after_node_moves h.group h.moves) (move which)) which after =
+    let alive : IsLifeOf at.life before = subst (IsLifeIn at.life) was at.sits.alive in
+    let moved : NodeMayMove node_disk_state (after_node_moves h.group h.moves) (move which) × LivesAt node_disk_state (after_node_move (after_node_moves h.group h.moves) (move which)) which after =
     goes (after_node_moves h.group h.moves) which (lives-at (after_node_moves h.group h.moves) which at.life before at.found alive) (so at.life (after_node_moves h.group h.moves).sent at.sits alive h.sent) in
-    let sits : SitsThere (life_after (move which) at.life) (seat_with seat.settings after) = record {
-      owner = owned at.life at.sits;
-      sound = at.sits.sound;
-      alive = moved-life (after_node_moves h.group h.moves) which at.life at.found (move which) node after moved.1;
+    let sits : SitsThere (life_after (move which) at.life) next = record {
+      owner = ap owner_of same ∙ owned at.life at.sits;
+      sound = subst AreSound (sym same) at.sits.sound;
+      alive = subst (IsLifeIn (life_after (move which) at.life)) (sym is) (moved-life (after_node_moves h.group h.moves) which at.life at.found (move which) node after moved.1);
     } in
     let lives : AreLivesOf (slice_set (after_node_moves h.group h.moves).lives which (life_after (move which) at.life)) (slice_set seats which next) =
-    seat-set (after_node_moves h.group h.moves).lives seats which (life_after (move which) at.life) next h.lives (subst (SitsThere (life_after (move which) at.life)) (sym is) sits) in
+    seat-set (after_node_moves h.group h.moves).lives seats which (life_after (move which) at.life) next h.lives sits in
     let now : after_node_moves h.group (h.moves ++ move which ∷ []) ≡ moved_at (after_node_moves h.group h.moves) (move which) (Some at.life) =
     node-moves-snoc h.moves h.group (move which) ∙ moved-is (after_node_moves h.group h.moves) which at.life at.found (move which) node in
     record {
@@ -123,9 +122,9 @@ went-on seats kept more which seat next before after if_so move there was is goe
       moves = h.moves ++ move which ∷ [];
       begins = h.begins;
       run = node-run-snoc h.moves h.group (move which) h.run moved.0;
-      lives = subst (λ (k : NodeGroup MemDisk). AreLivesOf k.lives (slice_set seats which next)) (sym now)
+      lives = subst (λ (k : NodeGroup NodeDisk). AreLivesOf k.lives (slice_set seats which next)) (sym now)
           (subst (λ ls. AreLivesOf ls (slice_set seats which next)) (sym (set-is (after_node_moves h.group h.moves) which at.life at.found (move which) node)) lives);
-      sent = subst (λ (k : NodeGroup MemDisk). AreSentIn k.sent more) (sym now) (keeps (after_node_moves h.group h.moves).sent h.sent);
+      sent = subst (λ (k : NodeGroup NodeDisk). AreSentIn k.sent more) (sym now) (keeps (after_node_moves h.group h.moves).sent h.sent);
       fit = fit;
     }
 
@@ -133,7 +132,7 @@ went-on seats kept more which seat next before after if_so move there was is goe
 pub heard-on : (seats : List Seat) (kept : List Out) (room which : ℕ) (seat next : Seat) (event : Event) (reply : Reply) → slice_get seats which ≡ Some seat → (hears : HearsThere seat next event reply) → IsNotInvented kept event
     → HasNodeRun seats kept → HasNodeRun (slice_set seats which next) (take room (kept ++ hears.e.outs.items))
 heard-on seats kept room which seat next event reply there hears comes h =
-    went-on seats kept (take room (kept ++ hears.e.outs.items)) which seat next hears.before hears.after (λ sent. IsNotInvented sent event) (λ k. Calls k hears.e hears.after.disk) there hears.was hears.is hears.moves refl
+    went-on seats kept (take room (kept ++ hears.e.outs.items)) which seat next hears.before hears.after (λ sent. IsNotInvented sent event) (λ k. Calls k hears.e hears.after.disk) there hears.was (ap (λ (s : Seat). s.settings) hears.is) (ap (λ (s : Seat). s.node) hears.is) hears.moves refl
     (λ life sits. sits.owner) (λ life sent sits alive a. come-kept sent kept a event comes)
     (λ sent a. all-take (λ (out : Out). WasSent (sent ++ hears.e.outs.items) out.datagram) room (kept ++ hears.e.outs.items)
     (all-append (λ (out : Out). WasSent (sent ++ hears.e.outs.items) out.datagram) kept hears.e.outs.items
@@ -145,39 +144,48 @@ heard-on seats kept room which seat next event reply there hears comes h =
 -- after a crash and an opening
 pub opened-on : (seats : List Seat) (kept : List Out) (limit which : ℕ) (seat next : Seat) → slice_get seats which ≡ Some seat → OpensThere seat next limit → HasNodeRun seats kept → HasNodeRun (slice_set seats which next) kept
 opened-on seats kept limit which seat next there opens h =
-    went-on seats kept kept which seat next opens.before opens.after (λ sent. owner_of seat.settings ≡ opens.before.owner) (λ k. Opens k seat.settings limit opens.after.first opens.opened opens.after.disk) there opens.was opens.is opens.moves refl
+    went-on seats kept kept which seat next opens.before opens.after (λ sent. owner_of seat.settings ≡ opens.before.owner) (λ k. Opens k seat.settings limit opens.after.first opens.opened opens.after.disk) there opens.was (ap (λ (s : Seat). s.settings) opens.is) (ap (λ (s : Seat). s.node) opens.is) opens.moves refl
     (λ life sits. refl) (λ life sent sits alive a. sits.owner ∙ sym alive.living.same_owner)
     (λ sent a. all-weaker (λ (out : Out). WasSent sent out.datagram) (λ (out : Out). WasSent (sent ++ []) out.datagram) (λ out w. was-before sent [] out.datagram w) kept a)
     h.fit h
 
--- a node that is gone
-pub gone-on : (seats : List Seat) (kept : List Out) (which : ℕ) (seat : Seat) → slice_get seats which ≡ Some seat → HasNodeRun seats kept → HasNodeRun (slice_set seats which (record { settings = seat.settings; node = None })) kept
-gone-on seats kept which seat there h =
-    let at : Sitting (after_node_moves h.group h.moves).lives which seat = seat-at (after_node_moves h.group h.moves).lives seats which seat h.lives there in
+-- a seat in which the same life goes on
+reseated : (seats : List Seat) (kept : List Out) (which : ℕ) (seat next : Seat) → slice_get seats which ≡ Some seat → ((life : Life NodeDisk) → SitsThere life seat → SitsThere life next) → HasNodeRun seats kept → HasNodeRun (slice_set seats which next) kept
+reseated seats kept which seat next there keeps h =
     record {
       group = h.group;
       moves = h.moves;
       begins = h.begins;
       run = h.run;
-      lives = alone (after_node_moves h.group h.moves).lives seats which seat h.lives there;
+      lives = alone (after_node_moves h.group h.moves).lives seats which h.lives there;
       sent = h.sent;
       fit = h.fit;
     }
   where
-    alone : (lives : List (Life MemDisk)) (ss : List Seat) (k : ℕ) (s : Seat) → AreLivesOf lives ss → slice_get ss k ≡ Some s → AreLivesOf lives (slice_set ss k (record { settings = s.settings; node = None }))
-    alone [] [] k s a e = absurd (cc)
-    alone [] (t ∷ ss) k s a e = absurd a
-    alone (l ∷ lives) [] k s a e = absurd a
-    alone (l ∷ lives) (t ∷ ss) zero s a e =
-        let same : t ≡ s = cc in
-        let sits : SitsThere l s = subst (SitsThere l) same a.0 in
-        (record { owner = sits.owner; sound = sits.sound; alive = tt {0} }, a.1)
-    alone (l ∷ lives) (t ∷ ss) (suc k) s a e = (a.0, alone lives ss k s a.1 e)
+    alone : (lives : List (Life NodeDisk)) (ss : List Seat) (k : ℕ) → AreLivesOf lives ss → slice_get ss k ≡ Some seat → AreLivesOf lives (slice_set ss k next)
+    alone [] [] k a e = absurd (cc)
+    alone [] (t ∷ ss) k a e = absurd a
+    alone (l ∷ lives) [] k a e = absurd a
+    alone (l ∷ lives) (t ∷ ss) zero a e =
+        let same : t ≡ seat = cc in
+        (keeps l (subst (SitsThere l) same a.0), a.1)
+    alone (l ∷ lives) (t ∷ ss) (suc k) a e = (a.0, alone lives ss k a.1 e)
+
+-- a node that is gone
+pub gone-on : (seats : List Seat) (kept : List Out) (which : ℕ) (seat : Seat) → slice_get seats which ≡ Some seat → HasNodeRun seats kept → HasNodeRun (slice_set seats which (seat_left seat)) kept
+gone-on seats kept which seat there h =
+    reseated seats kept which seat (seat_left seat) there (λ life sits. record { owner = sits.owner; sound = sits.sound; alive = tt {0} }) h
+
+-- a node of whose disk a failure is planned
+pub planned-on : (seats : List Seat) (kept : List Out) (which : ℕ) (seat next : Seat) (failure : Failure) → slice_get seats which ≡ Some seat → PlansThere seat next failure → HasNodeRun seats kept → HasNodeRun (slice_set seats which next) kept
+planned-on seats kept which seat next failure there plans h =
+    reseated seats kept which seat next there
+    (λ life sits. subst (SitsThere life) (sym plans.is) (record { owner = sits.owner; sound = sits.sound; alive = sits.alive })) h
 
 -- after an era
 pub ended-on : (seats : List Seat) (kept : List Out) (which : ℕ) (seat next : Seat) → slice_get seats which ≡ Some seat → EraEndsThere seat next → HasNodeRun seats kept → HasNodeRun (slice_set seats which next) kept
 ended-on seats kept which seat next there ends h =
-    went-on seats kept kept which seat next ends.before ends.after (λ sent. Unit {0}) (λ k. Rebases k) there ends.was ends.is ends.moves refl
+    went-on seats kept kept which seat next ends.before ends.after (λ sent. Unit {0}) (λ k. Rebases k) there ends.was (ap (λ (s : Seat). s.settings) ends.is) (ap (λ (s : Seat). s.node) ends.is) ends.moves refl
     (λ life sits. sits.owner) (λ life sent sits alive a. tt {0})
     (λ sent a. all-weaker (λ (out : Out). WasSent sent out.datagram) (λ (out : Out). WasSent (sent ++ []) out.datagram) (λ out w. was-before sent [] out.datagram w) kept a)
     h.fit h
@@ -189,10 +197,10 @@ seat-sound seats kept which seat there h =
     at.sits.sound
 
 -- of the owner of its node
-pub seat-owner : (seats : List Seat) (kept : List Out) (which : ℕ) (seat : Seat) (node : NodeView MemDisk) → slice_get seats which ≡ Some seat → seat ≡ seat_with seat.settings node → HasNodeRun seats kept → owner_of seat.settings ≡ node.owner
+pub seat-owner : (seats : List Seat) (kept : List Out) (which : ℕ) (seat : Seat) (node : NodeView NodeDisk) → slice_get seats which ≡ Some seat → seat.node ≡ Some node → HasNodeRun seats kept → owner_of seat.settings ≡ node.owner
 seat-owner seats kept which seat node there is h =
     let at : Sitting (after_node_moves h.group h.moves).lives which seat = seat-at (after_node_moves h.group h.moves).lives seats which seat h.lives there in
-    let alive : IsLifeOf at.life node = subst (λ (s : Seat). IsLifeIn at.life s.node) is at.sits.alive in
+    let alive : IsLifeOf at.life node = subst (IsLifeIn at.life) is at.sits.alive in
     at.sits.owner ∙ sym alive.living.same_owner
 
 -- Calls
@@ -228,7 +236,11 @@ pub ended-at : (seats : List Seat) (kept : List Out) (room limit which : ℕ) (o
     → EraEndsAt (real seats kept room limit) (real (slice_set seats which new) kept room limit) which
 ended-at seats kept room limit which old new l at ends = record { seat = old; next = new; found = get-at seats which old l at; ends = ends; is = refl }
 
-pub left-at : (seats : List Seat) (kept : List Out) (room limit which : ℕ) (old new : Seat) → which < length seats → old ≡ slice_index_or seats which old → new ≡ seat_of old.settings None
+pub planned-at : (seats : List Seat) (kept : List Out) (room limit which : ℕ) (old new : Seat) (failure : Failure) → which < length seats → old ≡ slice_index_or seats which old → PlansThere old new failure
+    → PlansAt (real seats kept room limit) (real (slice_set seats which new) kept room limit) which failure
+planned-at seats kept room limit which old new failure l at plans = record { seat = old; next = new; found = get-at seats which old l at; plans = plans; is = refl }
+
+pub left-at : (seats : List Seat) (kept : List Out) (room limit which : ℕ) (old new : Seat) → which < length seats → old ≡ slice_index_or seats which old → new ≡ seat_left old
     → LeavesAt (real seats kept room limit) (real (slice_set seats which new) kept room limit) which
 left-at seats kept room limit which old new l at gone =
     record { seat = old; found = get-at seats which old l at; is = ap (λ s. real (slice_set seats which s) kept room limit) gone }
@@ -237,25 +249,25 @@ left-at seats kept room limit which old new l at gone =
 pub sound-node-run : (view : RealNodes) → HasNodeRun view.seats view.kept → HasSoundNodeRun view
 sound-node-run view h = record {
   ran = h;
-  told = told-kept (members_of (after_node_moves h.group h.moves)) (living-moves state_of h.moves h.group (living-begins state_of h.group h.begins) h.run).kept;
-  within = within-kept (members_of (after_node_moves h.group h.moves)) (living-moves state_of h.moves h.group (living-begins state_of h.group h.begins) h.run).kept;
+  told = told-kept (members_of (after_node_moves h.group h.moves)) (living-moves node_disk_state h.moves h.group (living-begins node_disk_state h.group h.begins) h.run).kept;
+  within = within-kept (members_of (after_node_moves h.group h.moves)) (living-moves node_disk_state h.moves h.group (living-begins node_disk_state h.group h.begins) h.run).kept;
 }
 
 -- Beginning
 
 -- a life that a node began
-pub began : (settings : Settings) (limit : ℕ) (opened : MemDisk) (node : NodeView MemDisk) → node.base ≡ fresh_base settings node.first limit → node.entries ≡ [] → IsLiving state_of node.owner (life_of settings limit opened [] node) → MayEnd state_of node
-    → IsNewNode settings limit (seat_with settings node)
-began settings limit opened node base entries living ends =
-    let lived : IsLived state_of node.owner (life_of settings limit opened [] node) = ends settings limit opened [] living in
+pub began : (settings : Settings) (limit : ℕ) (opened : NodeDisk) (node : NodeView NodeDisk) → node.base ≡ fresh_base settings node.first limit → node.entries ≡ [] → IsLiving node_disk_state node.owner (life_of settings limit opened [] node) → MayEnd node_disk_state node
+    → (seat : Seat) → seat ≡ record seat { settings = settings; node = Some node; planned = None } → IsNewNode settings limit seat
+began settings limit opened node base entries living ends seat is =
+    let lived : IsLived node_disk_state node.owner (life_of settings limit opened [] node) = ends settings limit opened [] living in
     record {
       node = node;
       opened = opened;
-      is = refl;
+      is = is;
       begins = record {
-        new = ap (λ b. life_with state_of settings limit opened [] node.disk node.first b node.entries) base
-            ∙ ap (life_with state_of settings limit opened [] node.disk node.first (fresh_base settings node.first limit)) entries;
-        lived = subst (λ o. IsLived state_of o (life_of settings limit opened [] node)) living.same_owner lived;
+        new = ap (λ b. life_with node_disk_state settings limit opened [] node.disk node.first b node.entries) base
+            ∙ ap (life_with node_disk_state settings limit opened [] node.disk node.first (fresh_base settings node.first limit)) entries;
+        lived = subst (λ o. IsLived node_disk_state o (life_of settings limit opened [] node)) living.same_owner lived;
       };
       living = living;
     }
@@ -272,8 +284,8 @@ first-more limit settings i s seats seat l e h a =
 
 -- the lives of nodes that were opened
 pub record HasLives (settings : List Settings) (seats : List Seat) : Type 0 where
-  pub lives : List (Life MemDisk)
-  pub opened : AllByRecursion (IsOpened state_of) lives
+  pub lives : List (Life NodeDisk)
+  pub opened : AllByRecursion (IsOpened node_disk_state) lives
   pub names : map name_in lives ≡ names_in settings
   pub sit : AreLivesOf lives seats
 
@@ -284,8 +296,8 @@ first-lives limit (s ∷ settings) [] sound a = absurd a
 first-lives limit (s ∷ settings) (seat ∷ seats) sound a =
     let rest : HasLives settings seats = first-lives limit settings seats sound.1 a.1 in
     let first : IsNewNode s limit seat = a.0 in
-    let life : Life MemDisk = life_of s limit first.opened [] first.node in
-    let sits : SitsThere (life_of s limit first.opened [] first.node) (seat_with s first.node) = record { owner = refl; sound = sound.0; alive = record { same = refl; living = first.living } } in
+    let life : Life NodeDisk = life_of s limit first.opened [] first.node in
+    let sits : SitsThere (life_of s limit first.opened [] first.node) (record seat { settings = s; node = Some first.node; planned = None }) = record { owner = refl; sound = sound.0; alive = record { same = refl; living = first.living } } in
     record {
       lives = life_of s limit first.opened [] first.node ∷ rest.lives;
       opened = (first.begins, rest.opened);

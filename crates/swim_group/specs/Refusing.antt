@@ -1,9 +1,8 @@
--- When a group of real nodes refuses a call. Memory may lack at any time, and
--- a disk in memory fails for nothing else: then its failure is a Device.
+-- When a group of real nodes refuses a call. Memory may lack at any time. A disk fails for want
+-- of memory, or by what is planned of it: then its failure is a Device. Of a disk that was made,
+-- or that a crash left, nothing is planned.
 use Rattle.std.specs.Prelude.{◌≡◌, ◌⊎◌, ℕ, ◌<◌, ◌≤◌, List, length, slice_get, Some, None}
 use Rattle.swim_wire.specs.declared.update.TheConstants.{NUMBER_MAX}
-use Rattle.swim_disk.specs.declared.mem.MemDisk.{MemDisk}
-use Rattle.swim_disk.specs.MemDisk.{state_of}
 use Rattle.swim_state.specs.File.{floor}
 use Rattle.swim_state.specs.declared.fault.InitFault.{InitFault}
 use Rattle.swim_state.specs.declared.fault.InitFault.TheVariants as init
@@ -25,7 +24,7 @@ use Rattle.swim_group.specs.declared.fault.NodesFault.TheVariants.{NoNode, Gone,
 use Rattle.swim_group.specs.declared.fault.NodesFault.TheVariants.{Readable, Refused, NoMemory}
 use Rattle.swim_group.specs.declared.seat.Seat.{Seat}
 use Rattle.swim_group.specs.Real.{MayBegin, IsUnfit, IsReadable}
-use Rattle.swim_group.specs.RealNodes.{RealNodes, LeavesAt, seat_with}
+use Rattle.swim_group.specs.RealNodes.{RealNodes, NodeDisk, LeavesAt, node_disk_state}
 
 -- no era has so many entries at most
 abbrev pub IsNoLimit : ℕ → Type 0
@@ -73,11 +72,11 @@ AreUnbegun settings limit fault = MayBegin settings × IsUnseated limit fault
 
 -- a node that sits there
 pub record HasNode (seat : Seat) : Type 0 where
-  pub node : NodeView MemDisk
-  pub sits : seat ≡ seat_with seat.settings node
+  pub node : NodeView NodeDisk
+  pub sits : seat.node ≡ Some node
 
 -- a node does not enter a call in turn
-abbrev pub IsUnentered : NodeView MemDisk → ApplyFault → Type 0
+abbrev pub IsUnentered : NodeView NodeDisk → ApplyFault → Type 0
 IsUnentered node EraFull = IsFull node.base node.entries
 IsUnentered node apply.NoMemory = Unit {0}
 IsUnentered node OutOfTurn = ⊥
@@ -92,7 +91,7 @@ IsDeaf seat _ = ⊥
 pub record IsLost (seat : Seat) (limit : ℕ) (why : OpenFault) : Type 0 where
   pub has : HasNode seat
   pub content : List ℕ
-  pub left : (state_of has.node.disk).images content
+  pub left : (node_disk_state has.node.disk).images content
   pub unopened : IsUnopened limit content why
 
 -- who sits there is not opened again
@@ -133,8 +132,8 @@ IsNoOpening old new which (NotOpened why) =
     SeatHas old which (λ seat. IsLost seat old.limit why) × LeavesAt old new which
 IsNoOpening old new which _ = ⊥
 
--- an era does not end
-abbrev pub IsNoEnd : RealNodes → ℕ → NodesFault → Type 0
-IsNoEnd g which NoNode = length g.seats ≤ which
-IsNoEnd g which Gone = SeatHas g which (λ seat. seat.node ≡ None)
-IsNoEnd g which _ = ⊥
+-- there is no such node, or it is gone
+abbrev pub IsAbsent : RealNodes → ℕ → NodesFault → Type 0
+IsAbsent g which NoNode = length g.seats ≤ which
+IsAbsent g which Gone = SeatHas g which (λ seat. seat.node ≡ None)
+IsAbsent g which _ = ⊥

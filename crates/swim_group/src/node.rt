@@ -1,7 +1,6 @@
 //! Nodes with their state files: each of these calls is a move of whichever group the node lives in.
 
 ghost use Rattle.std.specs.Prelude.{◌≡◌, ◌<◌, ◌++◌, ◌∷◌, [], ℕ, List, IfOk, IfErr, OnOk, OnErr};
-ghost use Rattle.swim_disk.specs.MemDisk.{state_of};
 ghost use Rattle.swim_member.specs.Checks.{AreSound};
 ghost use Rattle.swim_state.specs.Held.{Held};
 ghost use Rattle.swim_node.specs.declared.entry.Entry.{Entry as Entries};
@@ -12,7 +11,9 @@ ghost use Rattle.swim_node.specs.Sending.{HasTexts};
 ghost use Rattle.swim_group.specs.Network.{IsNotInvented};
 ghost use Rattle.swim_group.specs.Refusing.{IsNoLimit, IsUnopened};
 ghost use Rattle.swim_group.specs.Nodes.{IsMoveOf, IsOpeningOf, Calls, Rebases, Raises, Opens};
+ghost use Rattle.swim_group.specs.RealNodes.{NodeDisk as Disks, node_disk_state};
 
+use crate::seat::NodeDisk;
 use std::alloc::Global;
 use swim_disk::{Choice, Disk, MemDisk};
 use swim_member::{Event, Settings};
@@ -112,25 +113,27 @@ pub fn open_again<D: Disk>(
 }
 
 /// A node crashes, with its disk, of which the crash leaves what is chosen, and is opened anew on that. That is the next
-/// move of each group in which it lived.
+/// move of each group in which it lived. What is planned of the disk stays planned.
 pub fn crash(
     alloc: Global,
-    node: Node<MemDisk>,
+    node: Node<NodeDisk>,
     choice: Choice,
     settings: Settings,
     limit: u32,
-) -> Result<Node<MemDisk>, (MemDisk, OpenFault)>
+) -> Result<Node<NodeDisk>, (NodeDisk, OpenFault)>
     requires sound { AreSound settings }
     ensures fresh { IfOk result (λ new. (new.base ≡ fresh_base settings new.first limit)
         × (new.entries ≡ [])) }
-    ensures moved { IfOk result (λ new. (opened : MemDisk)
-        × IsMoveOf state_of node new
+    ensures moved { IfOk result (λ new. (opened : Disks)
+        × IsMoveOf node_disk_state node new
         (λ sent. owner_of settings ≡ node.owner)
         (λ which. Opens which settings limit new.first opened new.disk)) }
     ensures refused { owner_of settings ≡ node.owner → IfErr result (λ fault. (content : List ℕ)
-        × (state_of node.disk).images content
+        × (node_disk_state node.disk).images content
         × IsUnopened limit content fault.1) }
 {
-    let disk = node.into_disk().crash(choice);
+    let mut disk = node.into_disk();
+    let before = disk.replace(MemDisk::new(alloc, 0, Vec::new(alloc)));
+    disk.replace(before.crash(choice));
     open_again(alloc, disk, settings, limit)
 }

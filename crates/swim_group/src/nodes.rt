@@ -1,15 +1,16 @@
-//! A group of real nodes on disks in memory, and the datagrams of theirs that may still come.
+//! A group of real nodes on disks in memory that fail by plans, and the datagrams of theirs that may still come.
 
 ghost use Rattle.std.specs.Prelude.{◌≡◌, ◌≤◌, ◌<◌, ◌↔◌, [], length, IfOk, IfErr, OnOk, OnErr, Err};
 ghost use Rattle.swim_group.specs.declared.fault.NodesFault.TheVariants as fault;
 ghost use Rattle.swim_group.specs.Network.{IsNotInvented};
 ghost use Rattle.swim_group.specs.Real.{MayBegin, IsReadable};
-ghost use Rattle.swim_group.specs.RealNodes.{HasSoundNodeRun, HearsAt, DeliversAt, OpensAt, EraEndsAt, LosesAt, AreNewNodes};
-ghost use Rattle.swim_group.specs.Refusing.{IsNoLimit, AreUnbegun, IsUnheard, IsNoStep, IsNoDelivery, IsNoOpening, IsNoEnd};
+ghost use Rattle.swim_group.specs.RealNodes.{HasSoundNodeRun, HearsAt, DeliversAt, OpensAt, EraEndsAt, PlansAt, LosesAt, AreNewNodes};
+ghost use Rattle.swim_group.specs.Refusing.{IsNoLimit, AreUnbegun, IsUnheard, IsNoStep, IsNoDelivery, IsNoOpening, IsAbsent};
 
 use crate::beginning::may_begin;
+use crate::failure::Failure;
 use crate::fault::NodesFault;
-use crate::seat::{Seat, end_there, first_seats, hear_there, keep_last, open_there};
+use crate::seat::{Seat, end_there, first_seats, hear_there, keep_last, open_there, plan_there};
 use crate::step::{arrival, is_readable};
 use std::alloc::Global;
 use std::marker::Model;
@@ -157,8 +158,8 @@ impl Nodes {
         self.bring(node, event)
     }
 
-    /// A node crashes with its disk, of which the crash leaves what is chosen, and is opened anew on that. If it is not
-    /// opened, it is gone.
+    /// A node crashes with its disk, of which the crash leaves what is chosen, and is opened anew on that. Nothing is planned
+    /// of the disk any more. If the node is not opened, it is gone.
     pub fn crash(&mut self, node: usize, choice: Choice) -> Result<(), NodesFault>
         ensures ok { OnOk result (OpensAt self.old self.new node) }
         // no such node, one that was gone before, or one that is gone now: for an era that has no such limit, for a floor
@@ -178,12 +179,27 @@ impl Nodes {
     pub fn end_era(&mut self, node: usize) -> Result<(), NodesFault>
         ensures ok { OnOk result (EraEndsAt self.old self.new node) }
         // no such node, or one that is gone
-        ensures refused { IfErr result (λ fault. IsNoEnd self.old node fault) }
+        ensures refused { IfErr result (λ fault. IsAbsent self.old node fault) }
         ensures err { OnErr result (self.new ≡ self.old) }
         ensures run { HasSoundNodeRun self.new }
     {
         self.find(node)?;
         if let Err(fault) = end_there(&mut self.seats[node]) {
+            return Err(fault);
+        }
+        Ok(())
+    }
+
+    /// A failure of a node's disk is planned, in place of what was planned of it before.
+    pub fn plan_failure(&mut self, node: usize, failure: Failure) -> Result<(), NodesFault>
+        ensures ok { OnOk result (PlansAt self.old self.new node failure) }
+        // no such node, or one that is gone
+        ensures refused { IfErr result (λ fault. IsAbsent self.old node fault) }
+        ensures err { OnErr result (self.new ≡ self.old) }
+        ensures run { HasSoundNodeRun self.new }
+    {
+        self.find(node)?;
+        if let Err(fault) = plan_there(&mut self.seats[node], failure) {
             return Err(fault);
         }
         Ok(())

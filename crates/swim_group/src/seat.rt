@@ -4,33 +4,37 @@ ghost use Rattle.std.specs.Prelude.{◌≡◌, ◌+◌, ◌≤◌, ◌++◌, ◌
 ghost use Rattle.std.specs.Vec.{vec_capacity};
 ghost use Rattle.swim_member.specs.declared.answer.TheConstants.{OUTS_MAX};
 ghost use Rattle.swim_member.specs.Checks.{AreSound};
-ghost use Rattle.swim_member.specs.declared.settings.Settings.{Settings as Options};
-ghost use Rattle.swim_disk.specs.declared.mem.MemDisk.{MemDisk as Disks};
 ghost use Rattle.swim_node.specs.declared.entry.Entry.{Entry as Entries};
 ghost use Rattle.swim_node.specs.Node.{NodeView, owner_of};
-ghost use Rattle.swim_disk.specs.MemDisk.{state_of};
 ghost use Rattle.swim_state.specs.File.{floor, IsSound};
 ghost use Rattle.swim_group.specs.declared.fault.NodesFault.TheVariants as nodes;
-ghost use Rattle.swim_group.specs.RealNodes.{HearsThere, OpensThere, EraEndsThere, IsNewNode, AreNewNodes, seat_with};
+ghost use Rattle.swim_group.specs.RealNodes.{NodeDisk as Disks, node_disk_state, HearsThere, OpensThere, EraEndsThere, PlansThere, IsNewNode, AreNewNodes};
 ghost use Rattle.swim_group.specs.Refusing.{IsDeaf, IsShut, IsNoLimit, IsNotMade, IsUnseated};
 
+use crate::failure::{Failure, plan_only};
 use crate::fault::NodesFault;
 use crate::node::{crash, hear, open_again, rebase};
 use crate::step::keep;
 use std::alloc::Global;
-use swim_disk::{Choice, MemDisk};
+use swim_disk::{Choice, FaultDisk, MemDisk, Plan};
 use swim_member::{Event, OUTS_MAX, Out, Settings};
 use swim_node::{Link, LinkFault, Node, Reply, Tag};
 use swim_state::{InitFault, Owner, init};
 use swim_wire::Endpoint;
 
-/// A node on a disk in memory, or none where it was not opened again, and the settings with which it is opened.
+/// The disk of a node: in memory, and it fails by a plan.
+pub type NodeDisk = FaultDisk<MemDisk>;
+
+/// A node, or none where it was not opened again, the settings with which it is opened, and what is planned of its disk.
 #[derive(Drop)]
 pub struct Seat {
     /// The settings.
     pub settings: Settings,
     /// The node.
-    pub node: Option<Node<MemDisk>>,
+    pub node: Option<Node<NodeDisk>>,
+    /// The failure that was planned last of its disk, if one was since it was opened.
+    pub planned: Option<Failure>,
+    plan: Plan,
 }
 
 /// A link that takes every datagram and tells nothing of it: what becomes of them is the network's.
@@ -74,9 +78,8 @@ pub(crate) fn hear_there(seat: &mut Seat, event: Event) -> Result<Reply, NodesFa
 pub(crate) fn keep_last(seat: &Seat, kept: &mut Vec<Out>, room: usize)
     requires within { length kept.old.items ≤ room }
     requires memory { vec_len kept.old + OUTS_MAX ≤ vec_capacity kept.old }
-    ensures kept { (settings : Options) → (node : NodeView Disks)
-        → (before : List Entries) → (e : Entries)
-        → seat.now ≡ seat_with settings node
+    ensures kept { (node : NodeView Disks) → (before : List Entries) → (e : Entries)
+        → seat.now.node ≡ Some node
         → node.entries ≡ before ++ e ∷ []
         → kept.new.items ≡ take room (kept.old.items ++ e.outs.items) }
     ensures within { length kept.new.items ≤ room }
@@ -99,19 +102,20 @@ pub(crate) fn open_there(
 ) -> Result<(), NodesFault>
     requires sound { AreSound seat.old.settings }
     requires owner { (node : NodeView Disks)
-        → seat.old ≡ seat_with seat.old.settings node
+        → seat.old.node ≡ Some node
         → owner_of seat.old.settings ≡ node.owner }
     ensures ok { OnOk result (OpensThere seat.old seat.new limit) }
     ensures refused { IfErr result (λ fault. IsShut seat.old limit fault) }
-    ensures err { OnErr result
-        (seat.new ≡ record { settings = seat.old.settings; node = None }) }
+    ensures err { OnErr result (seat.new ≡ record seat.old { node = None }) }
 {
     let Some(node) = seat.node.take() else {
         return Err(NodesFault::Gone);
     };
+    seat.plan.clear();
     match crash(alloc, node, choice, seat.settings, limit) {
         Ok(node) => {
             seat.node = Some(node);
+            seat.planned = None;
             Ok(())
         }
         Err((_, fault)) => Err(NodesFault::NotOpened(fault)),
@@ -131,22 +135,36 @@ pub(crate) fn end_there(seat: &mut Seat) -> Result<(), NodesFault>
     Ok(())
 }
 
-/// A disk with this number, and a new state file on it.
-fn made(alloc: Global, number: u64, owner: Owner) -> Result<MemDisk, InitFault>
-    ensures made { IfOk result (λ disk. (c : List ℕ) → (state_of disk).images c
+/// A failure of the disk of the node that sits there is planned, in place of what was planned of it before.
+pub(crate) fn plan_there(seat: &mut Seat, failure: Failure) -> Result<(), NodesFault>
+    ensures ok { OnOk result (PlansThere seat.old seat.new failure) }
+    ensures gone { IfErr result (λ fault. (fault ≡ nodes.Gone) × (seat.old.node ≡ None)) }
+    ensures err { OnErr result (seat.new ≡ seat.old) }
+{
+    if seat.node.is_none() {
+        return Err(NodesFault::Gone);
+    }
+    plan_only(&seat.plan, failure);
+    seat.planned = Some(failure);
+    Ok(())
+}
+
+/// A new state file on an empty disk.
+fn made(disk: &mut NodeDisk, owner: Owner) -> Result<(), InitFault>
+    requires empty { (node_disk_state disk.old).content ≡ [] }
+    ensures made { OnOk result ((c : List ℕ) → (node_disk_state disk.new).images c
         → IsSound owner c × (floor c ≡ 0)) }
     ensures refused { IfErr result (λ why. IsNotMade why) }
 {
-    let mut disk = MemDisk::new(alloc, number, Vec::new(alloc));
-    init(&mut disk, owner, 0)?;
-    Ok(disk)
+    init(disk, owner, 0)
 }
 
 /// A node is opened for the first time, on this disk, and sits there.
-fn first_there(alloc: Global, seat: &mut Seat, disk: MemDisk, limit: u32) -> Result<(), NodesFault>
+fn first_there(alloc: Global, seat: &mut Seat, disk: NodeDisk, limit: u32) -> Result<(), NodesFault>
     requires sound { AreSound seat.old.settings }
-    requires made { (c : List ℕ) → (state_of disk).images c
+    requires made { (c : List ℕ) → (node_disk_state disk).images c
         → IsSound (owner_of seat.old.settings) c × (floor c ≡ 0) }
+    requires unplanned { seat.old.planned ≡ None }
     ensures ok { OnOk result (IsNewNode seat.old.settings limit seat.new) }
     ensures limit { OnOk result (IsNoLimit limit → ⊥) }
     ensures refused { IfErr result (λ fault. IsUnseated limit fault) }
@@ -176,13 +194,18 @@ fn first_seat(
         group: settings.group,
         me: settings.me,
     };
-    let disk = match made(alloc, number, owner) {
-        Ok(disk) => disk,
-        Err(fault) => return Err(NodesFault::NotMade(fault)),
+    let memory = MemDisk::new(alloc, number, Vec::new(alloc));
+    let Ok((mut disk, plan)) = FaultDisk::new(alloc, memory) else {
+        return Err(NodesFault::NoMemory);
     };
+    if let Err(fault) = made(&mut disk, owner) {
+        return Err(NodesFault::NotMade(fault));
+    }
     let mut seat = Seat {
         settings,
         node: None,
+        planned: None,
+        plan,
     };
     first_there(alloc, &mut seat, disk, limit)?;
     Ok(seat)

@@ -1,6 +1,5 @@
 use Rattle.std.proofs.Common.{◌+◌, refl, ap}
 use Rattle.swim_group.proofs.Refusing.{unentered}
-use Rattle.swim_group.proofs.Seating.{seat_of}
 use Rattle.swim_group.proofs.seat.hear_there.Goals as goal
 
 pub returns-in-Ok-clause-ok : goal.returns-in-Ok-clause-ok
@@ -10,7 +9,7 @@ returns-in-Ok-clause-ok c =
       before = c.in-Some.node;
       after = c.hear.new.node;
       e = heard.0;
-      was = ap (seat_of c.args.seat.now.settings) c.in-Some.is;
+      was = c.in-Some.is;
       is = refl;
       entries = heard.3;
       event_is = heard.1;
@@ -21,6 +20,6 @@ returns-in-Ok-clause-ok c =
 
 pub returns-in-Err-clause-refused : goal.returns-in-Err-clause-refused
 returns-in-Err-clause-refused c = (
-  record { node = c.in-Some.node; sits = ap (seat_of c.args.seat.now.settings) c.in-Some.is },
+  record { node = c.in-Some.node; sits = c.in-Some.is },
   unentered c.in-Some.node (record { caller = 0; turn = c.turns-turn.result + 1 }) c.in-Err.fault (ap (λ n. n + 1) c.turns-turn.ensures.value) c.in-Err.ensures.refused,
 )

@@ -31,7 +31,7 @@ module _ (c : goal.After-keep_last) where
   keeps : c.keep_last.new.kept.items ≡ take c.self.inside.room (c.self.inside.kept.items ++ heard.e.outs.items)
   keeps =
       let seat : c.index.result.now ≡ c.hear_there.new.seat = c.index.ensures ∙ index-set c.self.inside.seats.items c.args.node c.hear_there.new.seat c.index.result.now there in
-      c.keep_last.ensures.kept c.index_mut.result.now.settings heard.after heard.before.entries heard.e (seat ∙ heard.is) heard.entries
+      c.keep_last.ensures.kept heard.after heard.before.entries heard.e (ap (λ (s : Seats). s.node) (seat ∙ heard.is)) heard.entries
       ∙ ap (λ (ks : List Outs). take c.self.inside.room (ks ++ heard.e.outs.items)) c.reserve.ensures.items
 
   ran : HasNodeRun (slice_set c.self.inside.seats.items c.args.node c.hear_there.new.seat) c.keep_last.new.kept.items

@@ -3,7 +3,7 @@ use Rattle.swim_group.specs.declared.seat.Seat.{Seat as Seats}
 use Rattle.swim_group.specs.RealNodes.{HasNodeRun}
 use Rattle.swim_group.proofs.Holding.{get-at}
 use Rattle.swim_group.proofs.Seating.{sound-node-run, set-back, ended-on, ended-at, real}
-use Rattle.swim_group.proofs.Refusing.{no-end}
+use Rattle.swim_group.proofs.Refusing.{absent}
 use Rattle.swim_group.proofs.nodes.Nodes.end_era.Goals as goal
 
 pub returns-in-Err-clause-run : goal.returns-in-Err-clause-run
@@ -35,4 +35,4 @@ pub returns-in-Err-clause-refused : goal.returns-in-Err-clause-refused
 returns-in-Err-clause-refused c =
     let there : c.args.node < length c.self.inside.seats.items = search rules in
     rw (← c.self.view_is)
-    (no-end c.self.inside.seats.items c.self.inside.kept.items c.self.inside.room c.self.inside.limit c.args.node c.index_mut.result.now there c.index_mut.ensures.value c.in-Err.fault c.in-Err.ensures.gone.0 c.in-Err.ensures.gone.1)
+    (absent c.self.inside.seats.items c.self.inside.kept.items c.self.inside.room c.self.inside.limit c.args.node c.index_mut.result.now there c.index_mut.ensures.value c.in-Err.fault c.in-Err.ensures.gone.0 c.in-Err.ensures.gone.1)
