@@ -1,6 +1,6 @@
 //! All workers at once.
 
-ghost use Rattle.std.specs.Prelude.{◌≡◌, IfSome};
+ghost use Rattle.std.specs.Prelude.{◌≡◌, IfSome, IsSome};
 
 use crate::ending::Ending;
 use std::snapshot::Snapshot;
@@ -82,8 +82,9 @@ fn end_of<T: Threads, K: Work<Done: Send + Drop> + Drop>(
     rt: &T,
     thread: Option<PromisedHandle<K::Done, Does<K>>>,
 ) -> Option<K::Done>
-    ensures { (work : K) → IfSome thread (λ thread. thread.promise.work.value ≡ work)
+    ensures done { (work : K) → IfSome thread (λ thread. thread.promise.work.value ≡ work)
         → IfSome result (K.does work) }
+    ensures some { IfSome thread (λ _. IsSome result) }
 {
     Some(thread?.join(rt))
 }

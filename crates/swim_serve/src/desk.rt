@@ -78,6 +78,8 @@ impl<W: Log + Clock + Drop, O: Doors + Drop> Desk<W, O> {
         ensures last { self.new.others ≡ self.old.others ++ conversation ∷ [] }
         ensures same { (self.new.conversation ≡ self.old.conversation)
             × (self.new.joiner ≡ self.old.joiner) }
+        ensures silent { self.new.silent ≡ (if conversation.is_silent
+            then min (self.old.silent + 1) usize.MAX else 0) }
     {
         self.silent = silent_after(self.silent, conversation.is_silent());
         self.others.push(conversation);
@@ -91,6 +93,7 @@ impl<W: Log + Clock + Drop, O: Doors + Drop> Desk<W, O> {
         ensures none { IfNone result (self.new.others ≡ self.old.others) }
         ensures room { IfSome result (λ _. length self.new.others < OPEN_MAX) }
         ensures silent { IfNone result (length self.old.others ≤ self.old.silent) }
+        ensures some { IfSome result (λ _. self.old.silent < length self.old.others) }
         ensures same { (self.new.conversation ≡ self.old.conversation)
             × (self.new.joiner ≡ self.old.joiner) }
     {
