@@ -9,7 +9,7 @@ use Rattle.swim_simulate.specs.declared.key.Key.TheVariants.{Listed, Rejoin, Los
 use Rattle.swim_simulate.specs.declared.key.Key.TheVariants.{Delay, Jitter, Kills, RestartAfter}
 use Rattle.swim_simulate.specs.declared.key.Key.TheVariants.{Dropped, Filled, OddClocks, ClockRate}
 use Rattle.swim_simulate.specs.declared.key.Key.TheVariants.{CutMembers, CutAt, CutFor}
-use Rattle.swim_simulate.specs.declared.key.Key.TheVariants.{Pauses, PauseFor}
+use Rattle.swim_simulate.specs.declared.key.Key.TheVariants.{Pauses, PauseFor, FailingSyncs}
 use Rattle.swim_wire.specs.declared.update.TheConstants.{MEMBERS_MAX}
 use Rattle.swim_member.specs.declared.settings.TheConstants.{HELPERS_MAX, BLOCK_MAX}
 use Rattle.swim_node.specs.declared.opening.TheConstants.{LIMIT_MAX}
@@ -45,6 +45,7 @@ plan_key CutAt = codes "cut_at"
 plan_key CutFor = codes "cut_for"
 plan_key Pauses = codes "pauses"
 plan_key PauseFor = codes "pause_for"
+plan_key FailingSyncs = codes "failing_syncs"
 
 -- a default, the least and the greatest
 abbrev pub within : ℕ → ℕ → ℕ → Range
@@ -81,6 +82,7 @@ range_of CutAt = within 60 0 86400
 range_of CutFor = within 60 0 86400
 range_of Pauses = within 0 0 100
 range_of PauseFor = within 40 0 1000000
+range_of FailingSyncs = within 0 0 100
 
 -- how many keys come before it
 abbrev pub rank_of : Key → ℕ
@@ -113,3 +115,4 @@ rank_of CutAt = 25
 rank_of CutFor = 26
 rank_of Pauses = 27
 rank_of PauseFor = 28
+rank_of FailingSyncs = 29

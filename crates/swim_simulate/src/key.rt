@@ -6,7 +6,7 @@ ghost use Rattle.swim_simulate.specs.Keys.{plan_key, rank_of, range_of};
 use std::fmt;
 
 /// How many keys there are.
-pub const KEYS: usize = 29;
+pub const KEYS: usize = 30;
 
 /// A key of a plan.
 #[derive(Clone, Copy, Debug, PartialEq, Eq)]
@@ -69,6 +69,8 @@ pub enum Key {
     Pauses,
     /// Ticks that a pause lasts.
     PauseFor,
+    /// Of 100 saves, how many have a sync that fails.
+    FailingSyncs,
 }
 
 /// Which numbers a key takes.
@@ -125,6 +127,7 @@ impl Key {
         Key::CutFor,
         Key::Pauses,
         Key::PauseFor,
+        Key::FailingSyncs,
     ];
 
     /// The key as a plan has it.
@@ -161,6 +164,7 @@ impl Key {
             Key::CutFor => "cut_for",
             Key::Pauses => "pauses",
             Key::PauseFor => "pause_for",
+            Key::FailingSyncs => "failing_syncs",
         }
     }
 
@@ -198,6 +202,7 @@ impl Key {
             Key::CutFor => within(60, 0, 86_400),
             Key::Pauses => within(0, 0, 100),
             Key::PauseFor => within(40, 0, 1_000_000),
+            Key::FailingSyncs => within(0, 0, 100),
         }
     }
 
@@ -236,6 +241,7 @@ impl Key {
             Key::CutFor => 26,
             Key::Pauses => 27,
             Key::PauseFor => 28,
+            Key::FailingSyncs => 29,
         }
     }
 }

@@ -48,6 +48,8 @@ pub struct Counts {
     pub came: u64,
     /// Saves of a state file.
     pub saves: u64,
+    /// Saves that failed.
+    pub failed_saves: u64,
     /// How often a member began to suspect one that was never killed.
     pub suspicions: u64,
     /// How often a member began to hold one for failed that was never killed.
@@ -73,6 +75,7 @@ impl Counts {
             lost: 0,
             came: 0,
             saves: 0,
+            failed_saves: 0,
             suspicions: 0,
             confirms: 0,
             ticks: 0,
@@ -101,6 +104,7 @@ impl Counts {
         raise(&mut self.lost, other.lost);
         raise(&mut self.came, other.came);
         raise(&mut self.saves, other.saves);
+        raise(&mut self.failed_saves, other.failed_saves);
         raise(&mut self.suspicions, other.suspicions);
         raise(&mut self.confirms, other.confirms);
         raise(&mut self.ticks, other.ticks);

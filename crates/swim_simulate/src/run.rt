@@ -16,7 +16,7 @@ use crate::views::{View, Views};
 use std::alloc::Global;
 use swim_charts::Tally;
 use swim_disk::Choice;
-use swim_group::{Nodes, NodesFault};
+use swim_group::{Failure, Nodes, NodesFault};
 use swim_member::{Event, Phase};
 use swim_node::{Save, Status};
 use swim_wire::{Cursor, MEMBERS_MAX, UPDATES_MAX};
@@ -173,22 +173,40 @@ impl Run {
         Ok(())
     }
 
-    /// Whether a member saved its ceiling at its last event.
-    fn has_saved(&self, who: usize) -> bool {
+    /// What became of a member's ceiling at its last event.
+    fn last_save(&self, who: usize) -> Save {
         match self.nodes.seats().get(who) {
             Some(seat) => match &seat.node {
-                Some(node) if node.len() > 0 => node.last().save == Save::Done,
-                _ => false,
+                Some(node) if node.len() > 0 => node.last().save,
+                _ => Save::Kept,
             },
-            None => false,
+            None => Save::Kept,
         }
+    }
+
+    /// Draws whether the next save of a member fails, if the plan has saves that fail.
+    fn draw_save(&mut self, who: usize) -> Result<(), SimulateFault> {
+        let failing = self.plan.get(Key::FailingSyncs);
+        if failing > 0 && u64::from(self.dice.word() % 100) < failing {
+            self.nodes.plan_failure(who, Failure::Sync(1))?;
+        }
+        Ok(())
+    }
+
+    /// A save of a member is counted, if there was one.
+    fn note_save(&mut self, who: usize) -> Result<(), SimulateFault> {
+        let counter = match self.last_save(who) {
+            Save::Kept => return Ok(()),
+            Save::Done => &mut self.measures.counts.saves,
+            Save::Failed => &mut self.measures.counts.failed_saves,
+        };
+        count(counter);
+        self.draw_save(who)
     }
 
     /// What a member did goes into the network and the counts. Its era ends where it is full.
     fn settle(&mut self, who: usize, status: &Status) -> Result<(), SimulateFault> {
-        if self.has_saved(who) {
-            count(&mut self.measures.counts.saves);
-        }
+        self.note_save(who)?;
         self.send(who)?;
         if status.length as u64 >= self.plan.get(Key::Limit) {
             self.nodes.end_era(who)?;
@@ -525,6 +543,9 @@ impl Run {
         }
         if was_killed {
             self.restart(who)?;
+        }
+        if self.is_up(who) {
+            self.draw_save(who)?;
         }
         Ok(())
     }

@@ -12,7 +12,7 @@ const ROUNDS: u64 = 3;
 const HALVES: u64 = 32;
 
 /// The keys whose numbers are made smaller, those first that make a run short.
-const SHRUNK: [Key; 14] = [
+const SHRUNK: [Key; 15] = [
     Key::Minutes,
     Key::Members,
     Key::Kills,
@@ -27,6 +27,7 @@ const SHRUNK: [Key; 14] = [
     Key::Filled,
     Key::RestartAfter,
     Key::PauseFor,
+    Key::FailingSyncs,
 ];
 
 /// What is tried with plans.

@@ -146,6 +146,9 @@ pub(crate) fn report(
     write_kills(alloc, &mut text, &runs.all)?;
     write_rates(alloc, &mut text, &runs.all)?;
     write_counts(&mut text, &runs.all.counts)?;
+    if plan.get(Key::FailingSyncs) > 0 {
+        write_count(&mut text, "saves that failed", runs.all.counts.failed_saves)?;
+    }
     if runs.count > 1 {
         write_spreads(alloc, &mut text, runs)?;
     }
