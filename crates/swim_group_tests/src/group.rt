@@ -5,8 +5,9 @@ ghost use Rattle.std.specs.Prelude.{◌<◌};
 use std::alloc::Global;
 use std::process::Abort;
 use swim_disk::Choice;
-use swim_group::{Breach, CheckFault, Checker, Group, GroupFault, Nodes, NodesFault};
-use swim_member::{Event, Out, Settings, SettingsFault};
+use swim_group::{Breach, CheckFault, Checker, Failure, Group, GroupFault, Nodes, NodesFault};
+use swim_member::{Deal, Event, Out, Settings, SettingsFault};
+use swim_node::Save;
 use swim_wire::{Datagram, Endpoint, Update, UpdateKind};
 
 /// The endpoint 10.0.0.`last`:7000.
@@ -217,6 +218,74 @@ fn nodes_refuse(rt: HostRuntime) {
     assert!(rt; group.step(0, Event::Leave).is_err());
     assert_eq!(rt; group.end_era(0), Ok(()));
     assert!(rt; group.step(0, Event::Leave).is_ok());
+}
+
+/// What became of the ceiling at the last event of a node, if it had any.
+fn last_save(group: &Nodes, node: usize) -> Option<Save> {
+    let seat = group.seats().get(node)?;
+    match &seat.node {
+        Some(node) if node.len() > 0 => Some(node.last().save),
+        _ => None,
+    }
+}
+
+/// A tick of the first node. What it sends comes to the second one, whose answers are lost. Says whether it sent anything.
+fn tick(group: &mut Nodes) -> Result<bool, NodesFault> {
+    let deal = Deal::from_first(0);
+    group.step(0, Event::Tick { deal })?;
+    let sent = group.kept().len();
+    for datagram in 0..sent {
+        group.deliver(1, datagram)?;
+    }
+    for _ in 0..group.kept().len() {
+        group.lose(0)?;
+    }
+    Ok(sent > 0)
+}
+
+#[test]
+fn a_planned_sync_fails_once(rt: HostRuntime) {
+    let both = [settings(1), settings(2)];
+    let mut group = Nodes::new(rt.alloc(), &both, 1000, 8)
+        .ok()
+        .expect(&rt, "memory");
+    let sync = Failure::Sync(1);
+    assert_eq!(rt; group.plan_failure(2, sync), Err(NodesFault::NoNode));
+    assert!(rt; group.step(1, Event::Join { peer: endpoint(1) }).is_ok());
+    assert!(rt; group.deliver(0, 0).is_ok());
+    assert_eq!(rt; group.plan_failure(1, sync), Ok(()));
+    // who is suspected wants to save a greater number, again and again until it has
+    let (mut failed, mut done) = (0, 0);
+    for _ in 0..40 {
+        let has_sent = tick(&mut group).ok().expect(&rt, "a tick");
+        match last_save(&group, 1) {
+            Some(Save::Failed) if has_sent => failed += 1,
+            Some(Save::Done) if has_sent => done += 1,
+            _ => {}
+        }
+        if done > 0 {
+            break;
+        }
+    }
+    assert_eq!(rt; (failed, done), (1, 1));
+}
+
+#[test]
+fn after_a_crash_nothing_is_planned(rt: HostRuntime) {
+    let mut group = Nodes::new(rt.alloc(), &[settings(1)], 8, 8)
+        .ok()
+        .expect(&rt, "memory");
+    let born = first(&group, 0);
+    for failure in [
+        Failure::Read(1),
+        Failure::Write(1),
+        Failure::TornWrite(1),
+        Failure::Sync(1),
+    ] {
+        assert_eq!(rt; group.plan_failure(0, failure), Ok(()));
+        assert_eq!(rt; group.crash(0, Choice::Keep), Ok(()));
+    }
+    assert!(rt; born < first(&group, 0));
 }
 
 /// A datagram of 10.0.0.`sender`:7000 that says this.

@@ -3,7 +3,7 @@
 use arrayvec::ArrayVec;
 use std::alloc::{AllocError, Global};
 use std::test::Fail;
-use swim_simulate::{Key, Law, Plan, endpoint_of, simulate};
+use swim_simulate::{Counts, Key, Law, Plan, endpoint_of, simulate};
 use swim_wire::{Cursor, Datagram, Kind, Rules, Update, UpdateKind};
 
 /// What a plan is refused for, and nothing where it is not.
@@ -142,5 +142,24 @@ fn a_number_that_nobody_told_breaks_the_law(rt: HostRuntime) -> Result<(), Fail>
         .stop()
         .map(|stop| (stop.tick, stop.sender, stop.update.who));
     assert_eq!(rt; found, Some((7, endpoint_of(0), endpoint_of(1))));
+    Ok(())
+}
+
+/// The counts of a minute of five members that suspect one another, where of 100 saves so many fail.
+fn with_failing(alloc: Global, failing: u64) -> Result<Counts, Fail> {
+    let text = b"members = 5\nminutes = 1\nloss = 50\nkills = 0\n";
+    let plan = Plan::read(alloc, text)?;
+    let plan = plan.with(Key::FailingSyncs, failing).unwrap_or(plan);
+    Ok(simulate(alloc, &plan, 1, 0)?.measures.counts)
+}
+
+#[test]
+fn saves_fail_as_the_plan_says(rt: HostRuntime) -> Result<(), Fail> {
+    let none = with_failing(rt.alloc(), 0)?;
+    assert!(rt; none.saves > 0 && none.failed_saves == 0, "{none:?}");
+    let all = with_failing(rt.alloc(), 100)?;
+    assert!(rt; all.saves == 0 && all.failed_saves > 0, "{all:?}");
+    let some = with_failing(rt.alloc(), 50)?;
+    assert!(rt; some.saves > 0 && some.failed_saves > 0, "{some:?}");
     Ok(())
 }
