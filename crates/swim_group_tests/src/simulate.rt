@@ -1,5 +1,7 @@
 //! Plans, refused ones, and whole runs.
 
+ghost use Rattle.std.specs.Prelude.{◌<◌};
+
 use arrayvec::ArrayVec;
 use std::alloc::{AllocError, Global};
 use std::test::Fail;
