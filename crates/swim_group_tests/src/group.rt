@@ -255,12 +255,12 @@ fn a_planned_sync_fails_once(rt: HostRuntime) {
     assert!(rt; group.deliver(0, 0).is_ok());
     assert_eq!(rt; group.plan_failure(1, sync), Ok(()));
     // who is suspected wants to save a greater number, again and again until it has
-    let (mut failed, mut done) = (0, 0);
+    let (mut failed, mut done) = (0_u32, 0_u32);
     for _ in 0..40 {
         let has_sent = tick(&mut group).ok().expect(&rt, "a tick");
         match last_save(&group, 1) {
-            Some(Save::Failed) if has_sent => failed += 1,
-            Some(Save::Done) if has_sent => done += 1,
+            Some(Save::Failed) if has_sent => failed = failed.saturating_add(1),
+            Some(Save::Done) if has_sent => done = done.saturating_add(1),
             _ => {}
         }
         if done > 0 {
