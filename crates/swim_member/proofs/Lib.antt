@@ -17,3 +17,4 @@ pub mod Adding
 pub mod TurnLists
 pub mod FewRows
 pub mod TurnNews
+pub mod Resuming

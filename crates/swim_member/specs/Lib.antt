@@ -18,4 +18,5 @@ pub mod Events
 pub mod Looks
 pub mod Fit
 pub mod Texts
+pub mod Resuming
 pub mod Machinery

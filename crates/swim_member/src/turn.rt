@@ -94,6 +94,30 @@ impl Turn {
         &self.listed
     }
 
+    /// A turn that has come to this place of a list.
+    pub(crate) fn with_list(listed: ArrayVec<Endpoint, ROWS_MAX>, place: usize) -> Turn
+        requires { IsTurn listed.items place }
+        ensures { result ≡ record { listed = listed.items; place = place } }
+    {
+        Turn { listed, place }
+    }
+
+    /// A copy of the turn list.
+    pub(crate) fn list(&self) -> ArrayVec<Endpoint, ROWS_MAX>
+        ensures { result.items ≡ self.now.listed }
+    {
+        let mut copy = ArrayVec::new();
+        let _ = copy.try_extend_from_slice(&self.listed);
+        copy
+    }
+
+    /// How many of its members were probed or passed over.
+    pub(crate) fn place(&self) -> usize
+        ensures { result ≡ self.now.place }
+    {
+        self.place
+    }
+
     /// The next listed member that is eligible, or none. Those before it are passed over for this turn.
     pub(crate) fn go_on(&mut self, table: &Table) -> Option<Endpoint>
         ensures next { result

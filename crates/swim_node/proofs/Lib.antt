@@ -4,6 +4,7 @@ pub mod Nodes
 pub mod Lives
 pub mod Living
 pub mod Crosses
+pub mod Replaying
 mod Examples
 mod TurnExamples
 mod Known

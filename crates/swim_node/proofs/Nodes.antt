@@ -63,7 +63,7 @@ module _ (base : Base) (xs : List Entry) (e : Entry) (first : ℕ) (old new : St
   pub state-snoc : IsNode base xs first old low top → Enters xs old new low high e → state_after base (xs ++ e ∷ []) ≡ new
   state-snoc n h = ap (λ (s : List Step). state_of base.state s) (steps-append xs (e ∷ [])) ∙ h.steps.state base.state (steps xs) n.member
 
-  next-entered : IsNode base xs first old low top → Enters xs old new low high e → IsNext base xs e
+  pub next-entered : IsNode base xs first old low top → Enters xs old new low high e → IsNext base xs e
   next-entered n h = record {
     fits = record {
       saved = saves-at (state_after base xs) old e.event (granted_of base xs) low e.save e.granted n.member n.granted h.saved;

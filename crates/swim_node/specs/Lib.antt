@@ -8,4 +8,5 @@ pub mod Owns
 pub mod Peers
 pub mod Node
 pub mod Lives
+pub mod Replaying
 pub mod Machinery

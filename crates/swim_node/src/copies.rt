@@ -2,9 +2,9 @@
 
 ghost use Rattle.std.specs.Prelude.{◌≡◌};
 
-use crate::Reply;
+use crate::{Outcome, Reply};
 use arrayvec::ArrayVec;
-use swim_member::{Event, NOTES_MAX, Note, RECEIVED_MAX};
+use swim_member::{Event, NOTES_MAX, Note, OUTS_MAX, RECEIVED_MAX};
 use swim_wire::{UPDATES_MAX, Update};
 
 fn copy_notes(notes: &ArrayVec<Note, NOTES_MAX>) -> ArrayVec<Note, NOTES_MAX>
@@ -28,6 +28,14 @@ fn copy_bytes(bytes: &ArrayVec<u8, RECEIVED_MAX>) -> ArrayVec<u8, RECEIVED_MAX>
 {
     let mut copy = ArrayVec::new();
     let _ = copy.try_extend_from_slice(bytes.as_slice());
+    copy
+}
+
+pub(crate) fn copy_outcomes(outcomes: &ArrayVec<Outcome, OUTS_MAX>) -> ArrayVec<Outcome, OUTS_MAX>
+    ensures { result.items ≡ outcomes.now.items }
+{
+    let mut copy = ArrayVec::new();
+    let _ = copy.try_extend_from_slice(outcomes.as_slice());
     copy
 }
 

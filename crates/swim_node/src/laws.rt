@@ -1,11 +1,12 @@
-//! The law of lives, and that of turns. The functions do nothing: their contracts are the laws.
+//! The law of lives, that of turns, and that of causes. The functions do nothing: their contracts are the laws.
 
-ghost use Rattle.std.specs.Prelude.{List, []};
+ghost use Rattle.std.specs.Prelude.{◌≡◌, List, [], map};
 ghost use Rattle.swim_state.specs.declared.owner.Owner.{Owner};
 ghost use Rattle.swim_node.specs.declared.entry.Entry.{Entry};
 ghost use Rattle.swim_node.specs.History.{Base, IsLegal, state_after};
 ghost use Rattle.swim_node.specs.Lives.{Life, AreLives, AreRising};
 ghost use Rattle.swim_node.specs.Probing.{ProbesInTurns, GoesInTurns, IsStart};
+ghost use Rattle.swim_node.specs.Replaying.{cause_of};
 
 use swim_disk::Disk;
 
@@ -28,4 +29,13 @@ pub fn listed_are_probed_once()
         → IsLegal base history
         → IsStart (state_after base [])
         → GoesInTurns base history }
+{}
+
+/// Where an era began and the causes of its entries, in order, say all that is in it.
+pub fn causes_make_the_entries()
+    ensures { (base : Base) → (history other : List Entry)
+        → IsLegal base history
+        → IsLegal base other
+        → map cause_of history ≡ map cause_of other
+        → history ≡ other }
 {}

@@ -3,6 +3,7 @@
 #![tactic(auto)]
 
 mod base;
+mod beginning;
 mod copies;
 mod counts;
 mod entering;
@@ -18,17 +19,20 @@ mod memory_link;
 mod node;
 mod opening;
 mod peers;
+mod replay;
 mod running;
 mod saving;
 mod sending;
 
 pub use base::Base;
+pub use beginning::{BeginFault, Beginning};
 pub use entry::{Entry, Outcome, Reply, Save, Status, Tag};
 pub use era::Era;
 pub use fault::{ApplyFault, OpenFault};
-pub use laws::{listed_are_probed_once, own_numbers_rise};
+pub use laws::{causes_make_the_entries, listed_are_probed_once, own_numbers_rise};
 pub use link::{Link, LinkFault};
 pub use memory_link::{MemoryLink, Taken};
 pub use node::Node;
 pub use opening::LIMIT_MAX;
+pub use replay::{Cause, Replay};
 pub use running::run;

@@ -15,6 +15,8 @@ mod node;
 #[cfg(test)]
 mod play;
 #[cfg(test)]
+mod record;
+#[cfg(test)]
 mod rules;
 #[cfg(test)]
 mod script;

@@ -1,5 +1,7 @@
 //! Rows of a node on one thread, as calls. The expected values follow from the rules of saves, turns and eras.
 
+mod replay;
+
 use arrayvec::ArrayVec;
 use std::alloc::Global;
 use std::process::Abort;

@@ -1,0 +1,174 @@
+-- An era that begins anew, and one entry for one cause.
+use Rattle.std.proofs.Common.{◌≡◌, ℕ, ◌+◌, ◌≤◌, ◌<◌, ◌==◌, nat_lt, Bool, true, false, List, [], ◌∷◌, ◌++◌, length, drop, refl, ap, sym, ◌∙◌, arith, subst, Option, Some, None, zero, suc, length-append, map}
+use Rattle.std.specs.List.{IsDistinct}
+use Rattle.std.specs.Option.{option_to_list}
+use Rattle.std.proofs.lemmas.Bool.{ltb-false}
+use Rattle.std.proofs.lemmas.List.Elements.{All-nil}
+use Rattle.std.proofs.lemmas.Map.Keys.{IsDistinct-tail}
+use Rattle.swim_rules.specs.declared.table.TheConstants.{ROWS_MAX}
+use Rattle.swim_member.specs.declared.answer.Answer.{Answer}
+use Rattle.swim_member.specs.declared.event.Event.{Event}
+use Rattle.swim_member.specs.State.{State}
+use Rattle.swim_member.specs.Events.{Step, answer, state_of}
+use Rattle.swim_member.specs.Judge.{wanted}
+use Rattle.swim_node.specs.declared.entry.Entry.{Entry}
+use Rattle.swim_node.specs.declared.entry.Outcome.{Outcome}
+use Rattle.swim_node.specs.declared.entry.Save.{Save}
+use Rattle.swim_node.specs.declared.entry.Save.TheVariants.{Kept, Done, Failed}
+use Rattle.swim_node.specs.declared.entry.Status.{Status}
+use Rattle.swim_node.specs.declared.entry.Tag.{Tag}
+use Rattle.swim_node.specs.declared.opening.TheConstants.{LIMIT_MAX}
+use Rattle.swim_node.specs.declared.replay.Cause.{Cause}
+use Rattle.swim_node.specs.History.{Base, AreNext, IsLegal, IsNext, Saves, answer_in, granted_of, lost_in, state_after, status_at, status_of, steps, taken_in}
+use Rattle.swim_node.specs.Node.{IsNode}
+use Rattle.swim_node.specs.Owns.{AreAtLeast, AreAtMost, greatest_of}
+use Rattle.swim_node.specs.Probing.{IsStart}
+use Rattle.swim_node.specs.Replaying.{cause_of, is_above}
+use Rattle.swim_node.specs.Sending.{HasTexts}
+use Rattle.swim_node.proofs.Lists.{steps-append}
+
+-- The beginning
+
+distinct-drop : (n : ℕ) (names : List ℕ) → IsDistinct (λ x y. x == y) names → IsDistinct (λ x y. x == y) (drop n names)
+distinct-drop zero names h = h
+distinct-drop (suc n) [] h = h
+distinct-drop (suc n) (x ∷ names) h = distinct-drop n names (IsDistinct-tail (λ x y. x == y) x names h)
+
+most-tested : (granted : ℕ) (past : Option ℕ) → is_above granted past ≡ false → AreAtMost granted (option_to_list past ++ [])
+most-tested granted None h = tt {0}
+most-tested granted (Some n) h = (ltb-false granted n h, tt {0})
+
+least-any : (past : Option ℕ) → AreAtLeast 0 (option_to_list past ++ [])
+least-any None = tt {0}
+least-any (Some n) = (omega arith, tt {0})
+
+greatest-past : (past : Option ℕ) → greatest_of (option_to_list past ++ []) ≡ past
+greatest-past None = refl
+greatest-past (Some n) = refl
+
+-- a node whose era begins with this state, of a life of which nothing is asked
+pub node-begun : (s : State) (granted : ℕ) (past : Option ℕ) (limit : ℕ) → state_of s [] ≡ s → IsDistinct (λ x y. x == y) s.listed → length s.rows ≤ ROWS_MAX → s.number ≤ granted → is_above granted past ≡ false → limit ≤ LIMIT_MAX → IsNode (record { state = s; granted = granted; past = past; limit = limit }) [] 0 s granted past
+node-begun s granted past limit reads once few low above short = record {
+  legal = record { each = tt {0}; within = omega arith };
+  start = subst IsStart (sym reads) (record { once = distinct-drop s.place s.listed once; few = few });
+  member = reads;
+  settings = refl;
+  granted = refl;
+  low = low;
+  high = omega arith;
+  covers = most-tested granted past above;
+  begun = least-any past;
+  most = greatest-past past;
+  texts = All-nil HasTexts;
+  short = short;
+}
+
+-- One entry for one cause
+
+-- what was granted says what became of the ceiling
+saves-one : (o : Option ℕ) (g granted : ℕ) (save other : Save) → Saves o g save granted → Saves o g other granted → save ≡ other
+saves-one None g granted Kept Kept h k = refl
+saves-one None g granted Kept Done h k = absurd k
+saves-one None g granted Kept Failed h k = absurd k
+saves-one None g granted Done other h k = absurd h
+saves-one None g granted Failed other h k = absurd h
+saves-one (Some w) g granted Kept Kept h k = refl
+saves-one (Some w) g granted Kept Done h k = absurd (omega (arith, h.0, k.0))
+saves-one (Some w) g granted Kept Failed h k = absurd (omega (arith, h.0, k.0))
+saves-one (Some w) g granted Done Kept h k = absurd (omega (arith, h.0, k.0))
+saves-one (Some w) g granted Done Done h k = refl
+saves-one (Some w) g granted Done Failed h k = absurd (omega (arith, h.1, k.2))
+saves-one (Some w) g granted Failed Kept h k = absurd (omega (arith, h.0, k.0))
+saves-one (Some w) g granted Failed Done h k = absurd (omega (arith, h.2, k.1))
+saves-one (Some w) g granted Failed Failed h k = refl
+
+-- an entry with what the member said, and with this status and these counts
+with_said : Entry → Answer → Status → ℕ → ℕ → Entry
+with_said e said status sent lost = record {
+  tag = e.tag;
+  event = e.event;
+  granted = e.granted;
+  save = e.save;
+  outs = said.outs;
+  outcomes = e.outcomes;
+  reply = record { status = status; notes = said.notes; page = said.page; sent = sent; lost = lost };
+}
+
+module _ (base : Base) (xs : List Entry) where
+  -- the entry of a cause, with what became of the ceiling
+  entry_by : Cause → Save → Entry
+  entry_by c save =
+      let said : Answer = answer base.state (steps xs) c.event c.granted in
+      record {
+        tag = c.tag;
+        event = c.event;
+        granted = c.granted;
+        save = save;
+        outs = said.outs;
+        outcomes = c.outcomes;
+        reply = record {
+          status = status_at (state_of base.state (steps xs ++ record { event = c.event; granted = c.granted } ∷ [])) (length xs + 1);
+          notes = said.notes;
+          page = said.page;
+          sent = taken_in c.outcomes.items;
+          lost = lost_in c.outcomes.items;
+        };
+      }
+
+  status_by : Entry → Status
+  status_by e = status_at (state_of base.state (steps xs ++ record { event = e.event; granted = e.granted } ∷ [])) (length xs + 1)
+
+  next-by : (e : Entry) → IsNext base xs e → e ≡ entry_by (cause_of e) e.save
+  unfolding entry_by with_said status_by
+  next-by e h =
+      let status : e.reply.status ≡ status_by e =
+      h.status
+      ∙ ap (λ (l : List Step). status_at (state_of base.state l) (length (xs ++ e ∷ []))) (steps-append xs (e ∷ []))
+      ∙ ap (λ (k : ℕ). status_at (state_of base.state (steps xs ++ record { event = e.event; granted = e.granted } ∷ [])) k) (length-append xs (e ∷ [])) in
+      ap (λ (s : Status). with_said e (answer_in e) s e.reply.sent e.reply.lost) status
+      ∙ ap (λ (n : ℕ). with_said e (answer_in e) (status_by e) n e.reply.lost) h.sent
+      ∙ ap (λ (n : ℕ). with_said e (answer_in e) (status_by e) (taken_in e.outcomes.items) n) h.lost
+      ∙ ap (λ (said : Answer). with_said e said (status_by e) (taken_in e.outcomes.items) (lost_in e.outcomes.items)) (sym h.answered)
+
+  same-next : (e f : Entry) → IsNext base xs e → IsNext base xs f → cause_of e ≡ cause_of f → e ≡ f
+  same-next e f h k same =
+      let save : e.save ≡ f.save = saves-one (wanted (state_after base xs) e.event) (granted_of base xs) e.granted e.save f.save h.fits.saved (subst (λ (c : Cause). Saves (wanted (state_after base xs) c.event) (granted_of base xs) f.save c.granted) (sym same) k.fits.saved) in
+      next-by e h ∙ ap (λ (c : Cause). entry_by c e.save) same ∙ ap (λ (s : Save). entry_by (cause_of f) s) save ∙ sym (next-by f k)
+
+  -- an entry that takes over what it is told of a cause is whatever entry could stand there with that cause
+  pub next-again : (cause : Cause) (f : Entry) → IsNext base xs f → f.tag ≡ cause.tag → f.event ≡ cause.event → ((save : Save) → Saves (wanted (state_after base xs) cause.event) (granted_of base xs) save cause.granted → (f.save ≡ save) × (f.granted ≡ cause.granted)) → (length cause.outcomes.items ≡ length f.outs.items → f.outcomes.items ≡ cause.outcomes.items) → (e : Entry) → IsNext base xs e → cause_of e ≡ cause → f ≡ e
+  next-again cause f k tag event granted outcomes e h is =
+      let saved : Saves (wanted (state_after base xs) cause.event) (granted_of base xs) e.save cause.granted = subst (λ (c : Cause). Saves (wanted (state_after base xs) c.event) (granted_of base xs) e.save c.granted) is h.fits.saved in
+      let stood : f.granted ≡ cause.granted = (granted e.save saved).1 in
+      let same_event : f.event ≡ e.event = event ∙ sym (ap (λ (c : Cause). c.event) is) in
+      let same_granted : f.granted ≡ e.granted = stood ∙ sym (ap (λ (c : Cause). c.granted) is) in
+      let said : answer_in f ≡ answer_in e =
+      sym k.answered
+      ∙ ap (λ (v : Event). answer base.state (steps xs) v f.granted) same_event
+      ∙ ap (λ (g : ℕ). answer base.state (steps xs) e.event g) same_granted
+      ∙ h.answered in
+      let as_many : length cause.outcomes.items ≡ length f.outs.items =
+      sym (ap (λ (c : Cause). length c.outcomes.items) is) ∙ h.fits.outcomes ∙ ap (λ (a : Answer). length a.outs.items) (sym said) in
+      let became : f.outcomes ≡ cause.outcomes = ap (λ (l : List Outcome). record { items = l }) (outcomes as_many) in
+      let caused : cause_of f ≡ cause =
+      ap (λ (t : Tag). record { tag = t; event = f.event; granted = f.granted; outcomes = f.outcomes }) tag
+      ∙ ap (λ (v : Event). record { tag = cause.tag; event = v; granted = f.granted; outcomes = f.outcomes }) event
+      ∙ ap (λ (g : ℕ). record { tag = cause.tag; event = cause.event; granted = g; outcomes = f.outcomes }) stood
+      ∙ ap (λ o. record { tag = cause.tag; event = cause.event; granted = cause.granted; outcomes = o }) became in
+      same-next f e k h (caused ∙ sym is)
+
+-- Histories
+
+same-entries : (base : Base) (before xs ys : List Entry) → AreNext base before xs → AreNext base before ys → map cause_of xs ≡ map cause_of ys → xs ≡ ys
+same-entries base before [] [] h k is = refl
+same-entries base before [] (y ∷ ys) h k is = absurd (cc)
+same-entries base before (x ∷ xs) [] h k is = absurd (cc)
+same-entries base before (x ∷ xs) (y ∷ ys) h k is =
+    let first : cause_of x ≡ cause_of y = cc in
+    let others : map cause_of xs ≡ map cause_of ys = cc in
+    let same : x ≡ y = same-next base before x y h.0 k.0 first in
+    let next : AreNext base (before ++ x ∷ []) ys = subst (λ (e : Entry). AreNext base (before ++ e ∷ []) ys) (sym same) k.1 in
+    ap (λ (e : Entry). e ∷ xs) same ∙ ap (λ (rest : List Entry). y ∷ rest) (same-entries base (before ++ x ∷ []) xs ys h.1 next others)
+
+pub same-legal : (base : Base) (history other : List Entry) → IsLegal base history → IsLegal base other → map cause_of history ≡ map cause_of other → history ≡ other
+same-legal base history other h k is = same-entries base [] history other h.each k.each is

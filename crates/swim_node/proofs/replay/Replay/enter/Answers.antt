@@ -1,0 +1,75 @@
+use Rattle.std.proofs.Common.{arith, ◌≡◌, ℕ, ◌<◌, ◌∷◌, ◌++◌, [], List, length, ap, sym, ◌∙◌, subst, refl}
+use Rattle.swim_member.specs.State.{State}
+use Rattle.swim_member.specs.Judge.{wanted}
+use Rattle.swim_node.specs.declared.entry.Entry.{Entry}
+use Rattle.swim_node.specs.declared.entry.Save.{Save}
+use Rattle.swim_node.specs.History.{Base, Saves, IsNext, granted_of, state_after}
+use Rattle.swim_node.specs.Lives.{Era}
+use Rattle.swim_node.specs.Node.{base_of, entry_with}
+use Rattle.swim_node.proofs.Nodes.{Enters, next-entered, node-snoc}
+use Rattle.swim_node.proofs.Replaying.{next-again}
+use Rattle.swim_node.proofs.replay.Replay.enter.Goals as goal
+
+module _ (c : goal.After-add) where
+  abbrev entry : Entry
+  entry = entry_with c.args.cause.tag c.args.cause.event c.enter_again-done.result c.enter_again-done.new.answer c.status_now-status.result
+
+  abbrev base : Base
+  base = base_of c.self.inside.base
+
+  same_entries : c.args.self.now.entries ≡ c.self.inside.journal.entries
+  same_entries = sym (ap (λ (v : Era). v.entries) c.self.view_is)
+
+  snoc : c.add.new.self.entries ≡ c.self.inside.journal.entries ++ entry ∷ []
+  snoc = c.add.ensures ∙ ap (λ (l : List Entry). l ++ entry ∷ []) c.reserve.ensures.entries
+
+  enters : Enters c.self.inside.journal.entries c.self.inside.member c.enter_again-done.new.member c.self.inside.granted c.enter_again-done.result.granted entry
+  enters = record {
+    saved = c.enter_again-done.ensures.saves;
+    granted = refl;
+    grows = c.enter_again-done.ensures.grows;
+    steps = c.enter_again-done.ensures.steps;
+    outcomes = c.enter_again-done.ensures.each;
+    status = rw (c.status_now-status.ensures, c.entries.ensures, c.reserve.ensures.entries) refl;
+    sent = refl;
+    lost = refl;
+    turn = rw (← same_entries) c.in_ok-judge.ensures.ok.0;
+    deal = c.enter_again-done.ensures.deal;
+    texts = c.enter_again-done.ensures.texts;
+  }
+
+  next : IsNext base c.self.inside.journal.entries entry
+  next = next-entered base c.self.inside.journal.entries entry 0 c.self.inside.member c.enter_again-done.new.member c.self.inside.granted c.enter_again-done.result.granted c.self.inside.most c.self.invariant enters
+
+  room : length c.self.inside.journal.entries < c.self.inside.base.limit
+  room =
+      let same : c.self.inside.base.limit ≡ c.args.self.now.base.limit = ap (λ (v : Era). v.base.limit) c.self.view_is in
+      rw (← same_entries, same) c.in_ok-judge.ensures.ok.1
+
+pub invariant_of-self-2 : goal.invariant_of-self-2
+invariant_of-self-2 c =
+    rw (c.greatest_own-self-inside.ensures, c.settings.ensures, c.deref.ensures.0, c.add.ensures, c.reserve.ensures.entries)
+    (node-snoc (base c) c.self.inside.journal.entries (entry c) 0 c.self.inside.member c.enter_again-done.new.member c.self.inside.granted c.enter_again-done.result.granted c.self.inside.most c.self.invariant (enters c) (room c))
+
+pub returns-clause-ok : goal.returns-clause-ok
+returns-clause-ok c = (
+  entry c,
+  snoc c ∙ ap (λ (v : Era). v.entries ++ entry c ∷ []) c.self.view_is,
+  subst (λ (v : Era). IsNext v.base v.entries (entry c)) c.self.view_is (next c),
+  refl,
+  refl,
+)
+
+pub returns-clause-again : goal.returns-clause-again
+returns-clause-again c e stands is =
+    let event = c.args.cause.event in
+    let told = c.args.cause.granted in
+    let xs = c.self.inside.journal.entries in
+    let other : IsNext (base c) xs e = subst (λ (v : Era). IsNext v.base v.entries e) (sym c.self.view_is) stands in
+    let same : entry c ≡ e =
+    next-again (base c) xs c.args.cause (entry c) (next c) refl refl
+    (λ save k. c.enter_again-done.ensures.granted save
+    (subst (λ (s : State). Saves (wanted s event) c.self.inside.granted save told) c.self.invariant.member
+    (subst (λ (g : ℕ). Saves (wanted (state_after (base c) xs) event) g save told) c.self.invariant.granted k)))
+    c.enter_again-done.ensures.outcomes e other is in
+    snoc c ∙ ap (λ (x : Entry). xs ++ x ∷ []) same ∙ ap (λ (v : Era). v.entries ++ e ∷ []) c.self.view_is

@@ -1,0 +1,4 @@
+pub mod Backs
+pub mod Others
+pub mod Texts
+pub mod Writing

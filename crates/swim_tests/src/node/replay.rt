@@ -1,0 +1,200 @@
+//! An era that is played again, and states from which none begins.
+
+use super::{alive, endpoint, opened, ping};
+use std::process::Abort;
+use swim_member::{Deal, Event, Out, Relay, ResumeFault};
+use swim_node::{BeginFault, Beginning, Cause, Entry, MemoryLink, Replay, Tag};
+use swim_wire::{Cursor, NUMBER_MAX, Update, UpdateKind, encode};
+
+/// That 10.0.0.1:7000 is suspected with this number.
+fn suspicion(rt: &impl Abort, number: u64) -> Update {
+    Update {
+        kind: UpdateKind::Suspect,
+        ..alive(rt, 1, number)
+    }
+}
+
+/// The event of a row of the table.
+fn event_of(rt: &impl Abort, number: u32) -> Event {
+    match number {
+        0 => Event::ReceiveFailed,
+        1 => ping(rt, 7, &[alive(rt, 3, 2), suspicion(rt, 1)]),
+        2 => ping(rt, 8, &[suspicion(rt, 4), suspicion(rt, 2)]),
+        3 => ping(rt, 9, &[suspicion(rt, 3)]),
+        4 => Event::Members {
+            after: Cursor::zero(),
+        },
+        5 => Event::Join {
+            peer: endpoint(rt, 4),
+        },
+        6 => Event::Leave,
+        _ => Event::Tick {
+            deal: Deal::from_first(77),
+        },
+    }
+}
+
+/// The two datagrams are the same, byte by byte.
+fn same_out(rt: &impl Abort, out: &Out, other: &Out) {
+    assert_eq!(rt; out.to, other.to);
+    assert!(rt; out.datagram.is_encodable() && other.datagram.is_encodable());
+    let bytes = encode(&out.datagram);
+    let others = encode(&other.datagram);
+    assert_eq!(rt; bytes.as_slice(), others.as_slice());
+}
+
+/// The two entries are the same, but for the event, which the causes have.
+fn same_entry(rt: &impl Abort, entry: &Entry, other: &Entry) {
+    assert_eq!(rt; entry.tag, other.tag);
+    assert_eq!(rt; (entry.save, entry.granted), (other.save, other.granted));
+    assert_eq!(rt; entry.outcomes.as_slice(), other.outcomes.as_slice());
+    assert_eq!(rt; entry.reply.status, other.reply.status);
+    assert_eq!(rt; entry.reply.notes.as_slice(), other.reply.notes.as_slice());
+    assert_eq!(rt; entry.reply.page.as_slice(), other.reply.page.as_slice());
+    assert_eq!(rt;
+        (entry.reply.sent, entry.reply.lost),
+        (other.reply.sent, other.reply.lost)
+    );
+    assert_eq!(rt; entry.outs.len(), other.outs.len());
+    for (out, other) in entry.outs.iter().zip(other.outs.iter()) {
+        same_out(rt, out, other);
+    }
+}
+
+/// An era that begins in the middle of a life, after eight ticks, is played again to the same bytes. The first save fails
+/// and leaves its number in the file, so that the next one finds it there. An ack, a join, the ping of the tenth tick and
+/// the ping-req of the thirteenth are lost.
+#[test]
+fn an_era_again(rt: HostRuntime) {
+    let (mut node, plan) = opened(&rt, rt.alloc(), 32);
+    let mut link = MemoryLink::new(rt.alloc(), 1);
+    let heard = ping(&rt, 1, &[alive(&rt, 2, 1), alive(&rt, 3, 1)]);
+    let first = Tag { caller: 0, turn: 1 };
+    assert!(rt; node.apply(&mut link, first, heard).is_ok());
+    for turn in 2..10 {
+        let tag = Tag { caller: 0, turn };
+        assert!(rt; node.apply(&mut link, tag, event_of(&rt, 7)).is_ok());
+    }
+    let beginning = node.beginning();
+    let sound = beginning.state.settings.check();
+    sound.ok().expect(&rt, "sound settings");
+    node.rebase();
+    let mut turns = [0, 0];
+    for (caller, number, lose, sync, write) in [
+        (0, 4, 0, 0, 0),
+        (1, 2, 0, 3, 0),
+        (0, 1, 1, 0, 0),
+        (0, 3, 0, 0, 1),
+        (1, 3, 0, 0, 0),
+        (1, 5, 1, 0, 0),
+        (0, 7, 0, 0, 0),
+        (0, 7, 1, 0, 0),
+        (0, 7, 0, 0, 0),
+        (0, 7, 0, 0, 0),
+        (0, 7, 1, 0, 0),
+        (0, 7, 0, 0, 0),
+        (0, 0, 0, 0, 0),
+        (1, 6, 0, 0, 0),
+        (0, 7, 0, 0, 0),
+    ] {
+        assert!(rt; caller < 2 && turns[caller as usize] < 100);
+        turns[caller as usize] += 1;
+        if lose > 0 {
+            link.lose(lose);
+        }
+        plan.fail_sync(sync);
+        plan.fail_write(write);
+        let tag = Tag {
+            caller,
+            turn: turns[caller as usize],
+        };
+        assert!(rt; node.apply(&mut link, tag, event_of(&rt, number)).is_ok());
+    }
+    let mut again = Replay::begin(rt.alloc(), beginning)
+        .ok()
+        .expect(&rt, "an era");
+    for entry in node.journal() {
+        assert!(rt; entry.tag.caller < 16);
+        assert_eq!(rt; again.enter(Cause::of(entry)), Ok(()));
+    }
+    assert_eq!(rt; again.journal().len(), 15);
+    let lossy = node
+        .journal()
+        .iter()
+        .filter(|entry| entry.reply.lost == 1)
+        .count();
+    assert_eq!(rt; lossy, 4);
+    for (entry, other) in node.journal().iter().zip(again.journal()) {
+        same_entry(&rt, entry, other);
+    }
+}
+
+/// Breaks one thing of a beginning, by the row of the table.
+fn spoil(rt: &impl Abort, beginning: &mut Beginning, row: u32) {
+    let state = &mut beginning.state;
+    match row {
+        1 => beginning.limit = 65_537,
+        2 => beginning.granted = 0,
+        3 => beginning.past = Some(9),
+        4 => {
+            state.number = NUMBER_MAX + 1;
+            beginning.granted = NUMBER_MAX + 1;
+        }
+        5 => state.time = NUMBER_MAX + 1,
+        6 => state.rows.as_mut_slice().reverse(),
+        7 => assert!(rt; state.queue.pop().is_some()),
+        8 => state.number = 0,
+        9 => {
+            assert!(rt; !state.queue.is_empty());
+            state.queue[0].count = 19;
+        }
+        10 => {
+            assert!(rt; state.relays.is_empty());
+            state.time = 10;
+            state.relays.push(Relay::default());
+        }
+        11 => {
+            assert!(rt; state.listed.is_empty());
+            state.listed.push(endpoint(rt, 2));
+            state.listed.push(endpoint(rt, 2));
+        }
+        12 => state.place = 257,
+        _ => {}
+    }
+}
+
+/// A beginning is refused by its first fault, and without one an era begins.
+#[test]
+fn refused_beginnings(rt: HostRuntime) {
+    for (row, want) in [
+        (0, Ok(())),
+        (1, Err(BeginFault::Limit)),
+        (2, Err(BeginFault::Ceiling)),
+        (3, Err(BeginFault::Past)),
+        (4, Err(BeginFault::State(ResumeFault::Number))),
+        (5, Err(BeginFault::State(ResumeFault::Time))),
+        (6, Err(BeginFault::State(ResumeFault::Rows))),
+        (7, Err(BeginFault::State(ResumeFault::Queue))),
+        (8, Err(BeginFault::State(ResumeFault::Said))),
+        (9, Err(BeginFault::State(ResumeFault::Sent))),
+        (10, Err(BeginFault::State(ResumeFault::Relays))),
+        (11, Err(BeginFault::State(ResumeFault::Listed))),
+        (12, Err(BeginFault::State(ResumeFault::Place))),
+    ] {
+        let (mut node, _) = opened(&rt, rt.alloc(), 32);
+        let mut link = MemoryLink::new(rt.alloc(), 1);
+        let heard = ping(&rt, 1, &[alive(&rt, 2, 1), alive(&rt, 3, 1)]);
+        let first = Tag { caller: 0, turn: 1 };
+        assert!(rt; node.apply(&mut link, first, heard).is_ok());
+        let mut beginning = node.beginning();
+        spoil(&rt, &mut beginning, row);
+        beginning
+            .state
+            .settings
+            .check()
+            .ok()
+            .expect(&rt, "sound settings");
+        let begun = Replay::begin(rt.alloc(), beginning).map(|_| ());
+        assert_eq!(rt; begun, want, "row {row}");
+    }
+}

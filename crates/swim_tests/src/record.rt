@@ -1,0 +1,59 @@
+//! A recording, by the tables of its page, written by hand.
+
+use swim_member::Event;
+use swim_node::{MemoryLink, Tag};
+use swim_record::recording;
+use swim_scenes::{endpoint, opened_by_plan, ping, suspicion, update};
+use swim_wire::UpdateKind;
+
+/// What was heard before the era, and the calls of the era: the second caller's join is taken, and the first bye of its
+/// leave is lost.
+const WANT: &str = "recording 1
+member 7 10.0.0.1:7000 3 1
+times 10 3 50 6000 3 1 8
+alive 10.0.0.2:7000 1 0
+alive 10.0.0.3:7000 1 0
++alive 10.0.0.1:7000 1 1
++alive 10.0.0.2:7000 1 1
++alive 10.0.0.3:7000 1 1
+running 1 0 1 0 1 1
+sendfail 4
+granted 2
+recv 10.0.0.2:7000 5357494d010101000000000000000007000000010a0000021b580a0000011b5802000a0000011b580000000000000001
+caller 3
+join 10.0.0.4:7000
+caller 3
+lost 1
+leave
+";
+
+#[test]
+fn an_era_is_written(rt: HostRuntime) {
+    let (mut node, _) = opened_by_plan(rt.alloc(), 8).expect(&rt, "a node");
+    let mut link = MemoryLink::new(rt.alloc(), 1);
+    let second = update(UpdateKind::Alive, 2, 1).expect(&rt, "a port");
+    let third = update(UpdateKind::Alive, 3, 1).expect(&rt, "a port");
+    let heard = ping(1, &[second, third]).expect(&rt, "a text");
+    let first = Tag { caller: 0, turn: 1 };
+    assert!(rt; node.apply(&mut link, first, heard).is_ok());
+    let beginning = node.beginning();
+    node.rebase();
+    let suspected = suspicion(1).expect(&rt, "a text");
+    let peer = endpoint(4).expect(&rt, "a port");
+    for (caller, turn, lose, event) in [
+        (0, 1, 0, Event::SendFailed { count: 4 }),
+        (0, 2, 0, suspected),
+        (3, 1, 0, Event::Join { peer }),
+        (3, 2, 1, Event::Leave),
+    ] {
+        assert!(rt; caller < 16);
+        if lose > 0 {
+            link.lose(lose);
+        }
+        assert!(rt; node.apply(&mut link, Tag { caller, turn }, event).is_ok());
+    }
+    let text = recording(rt.alloc(), &beginning, node.journal())
+        .ok()
+        .expect(&rt, "memory");
+    assert_eq!(rt; text.as_str(), WANT);
+}
