@@ -6,13 +6,12 @@
 
 ghost use Rattle.std.specs.Prelude.{◌≡◌, ◌++◌, ◌∷◌, [], false, OnOk, OnErr, IfOk};
 
+use crate::MOST_BYTES;
+use crate::open_file::OpenFile;
 use crate::past::Call;
-use crate::{DiskFault, MOST_BYTES};
 use std::alloc::Global;
-use std::fs::File;
 use std::io;
-use std::os::fd::AsRawFd;
-use std::os::unix::fs::{FileExt, MetadataExt};
+use std::os::unix::fs::FileExt;
 use swim_trace::Pairs;
 
 /// How many zero bytes are written at once.
@@ -39,7 +38,7 @@ pub(crate) enum Deed {
 /// have seen a sync fail.
 #[derive(Drop)]
 pub(crate) struct CachedFile {
-    file: File,
+    file: OpenFile,
     pub(crate) deeds: Pairs<Deed, Call>,
 }
 
@@ -50,8 +49,8 @@ impl CachedFile {
     ghost use Rattle.swim_disk.specs.declared.past.Call.TheVariants.{Sync};
 
     /// Takes the file over, and reads it, at most [`MOST_BYTES`] bytes, as the disk has it: it syncs, drops what the
-    /// system holds in memory, and reads. What it found is a write of all of it; the file's number comes with it.
-    pub(crate) fn load(alloc: Global, file: File) -> io::Result<(CachedFile, Call, u64)>
+    /// system holds in memory, and reads. What it found is a write of all of it.
+    pub(crate) fn load(alloc: Global, file: OpenFile) -> io::Result<(CachedFile, Call)>
         ensures size { IfOk result (λ made. IsLoaded made.1) }
         ensures found { IfOk result (λ made. (deeds : List _)
             × (made.0.deeds.items ≡ deeds ++ (Loaded, made.1) ∷ [])) }
@@ -63,8 +62,8 @@ impl CachedFile {
         };
         cached.sync()?;
         cached.drop_held()?;
-        let (found, number) = cached.read(alloc)?;
-        Ok((cached, found, number))
+        let found = cached.read(alloc)?;
+        Ok((cached, found))
     }
 
     fn note(&mut self, deed: Deed, call: &Call)
@@ -76,7 +75,7 @@ impl CachedFile {
     /// Writes zero bytes from the end of the file up to this offset. They are what a read gives there anyway. Written, each
     /// block of them has its place, so that a full disk refuses this write and not a later one.
     fn fill_gap(&self, to: u64) -> io::Result<()> {
-        let end = self.file.metadata()?.len();
+        let end = self.file.length()?;
         for block in 0..MOST_BYTES / BLOCK {
             let from = (block * BLOCK).max(end);
             let until = ((block + 1) * BLOCK).min(to);
@@ -132,27 +131,24 @@ impl CachedFile {
         ensures done { OnOk result
             (self.new.deeds.items ≡ self.old.deeds.items ++ (Dropped, Sync) ∷ []) }
     {
-        let refused = libc::posix_fadvise(self.file.as_raw_fd(), 0, 0, libc::POSIX_FADV_DONTNEED);
-        if refused != 0 {
-            return Err(io::Error::from_raw_os_error(refused));
-        }
+        self.file.drop_held()?;
         self.note(Deed::Dropped, &Call::Sync);
         Ok(())
     }
 
-    /// The first [`MOST_BYTES`] bytes, or all if there are fewer, as a write of them, and the file's number.
-    fn read(&mut self, alloc: Global) -> io::Result<(Call, u64)>
-        ensures size { IfOk result (λ read. IsLoaded read.0) }
+    /// The first [`MOST_BYTES`] bytes, or all if there are fewer, as a write of them.
+    fn read(&mut self, alloc: Global) -> io::Result<Call>
+        ensures size { IfOk result IsLoaded }
         ensures done { IfOk result (λ read.
-            self.new.deeds.items ≡ self.old.deeds.items ++ (Loaded, read.0) ∷ []) }
+            self.new.deeds.items ≡ self.old.deeds.items ++ (Loaded, read) ∷ []) }
     {
-        let found = self.file.metadata()?;
+        let length = self.file.length()?;
         let mut bytes = Vec::new(alloc);
-        bytes.resize(found.len().min(MOST_BYTES) as usize, 0)?;
+        bytes.resize(length.min(MOST_BYTES) as usize, 0)?;
         self.file.read_exact_at(&mut bytes, 0)?;
         let read = Call::Write { at: 0, bytes };
         self.note(Deed::Loaded, &read);
-        Ok((read, found.ino()))
+        Ok(read)
     }
 
     /// Makes all of these writes again, in their order. It stops at the first that fails.

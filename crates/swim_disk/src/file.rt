@@ -7,12 +7,15 @@ ghost use Rattle.swim_disk.specs.declared.past.Call.TheVariants.{Write, Sync};
 use crate::cached::CachedFile;
 use crate::count::Count;
 use crate::mem::overlay;
+use crate::open_file::OpenFile;
 use crate::past::Call;
 use crate::{Disk, DiskFault, MOST_BYTES};
 use std::alloc::{AllocError, Global};
 use std::fs::{File, Files, OpenOptions};
 use std::io;
 use std::marker::Model;
+use std::os::fd::{AsRawFd, OwnedFd};
+use std::os::unix::fs::MetadataExt;
 use std::path::AsPath;
 use swim_trace::Trace;
 
@@ -71,7 +74,29 @@ impl FileDisk {
             × (disk.calls ≡ found ∷ Sync ∷ []) × (disk.deeds ≡ deeds ++ (Loaded, found) ∷ [])) }
         ensures has_all { IfOk result HasAll }
     {
-        let (file, found, number) = CachedFile::load(alloc, file)?;
+        let number = file.metadata()?.ino();
+        FileDisk::load_numbered(alloc, number, OwnedFd::from(file))
+    }
+
+    /// The same over the file of a descriptor. It is closed where the disk is dropped.
+    pub fn load_descriptor(alloc: Global, fd: OwnedFd) -> io::Result<FileDisk>
+        ensures settled { IfOk result (λ disk. IsSettled (file_state disk)) }
+        ensures found { IfOk result (λ disk. (found : Calls) × (deeds : List _) × (IsLoaded found)
+            × (disk.calls ≡ found ∷ Sync ∷ []) × (disk.deeds ≡ deeds ++ (Loaded, found) ∷ [])) }
+        ensures has_all { IfOk result HasAll }
+    {
+        let number = u64::from(fd.as_raw_fd().unsigned_abs());
+        FileDisk::load_numbered(alloc, number, fd)
+    }
+
+    /// The same, by the name that contracts give it.
+    fn load_numbered(alloc: Global, number: u64, fd: OwnedFd) -> io::Result<FileDisk>
+        ensures settled { IfOk result (λ disk. IsSettled (file_state disk)) }
+        ensures found { IfOk result (λ disk. (found : Calls) × (deeds : List _) × (IsLoaded found)
+            × (disk.calls ≡ found ∷ Sync ∷ []) × (disk.deeds ≡ deeds ++ (Loaded, found) ∷ [])) }
+        ensures has_all { IfOk result HasAll }
+    {
+        let (file, found) = CachedFile::load(alloc, OpenFile::new(fd))?;
         let calls = Trace::new().and(&found).and(&Call::Sync);
         let Call::Write { at: _, bytes } = found else {
             unreachable!()

@@ -10,6 +10,7 @@ mod disk;
 mod fault;
 mod file;
 mod mem;
+mod open_file;
 mod past;
 mod plan;
 

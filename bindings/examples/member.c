@@ -1,0 +1,134 @@
+/*
+ * A member in C: one UDP socket on loopback, one poll() loop, no thread.
+ *
+ *     member STATE-FILE GROUP PORT PEER-PORT SECONDS
+ *
+ * It makes the state file where there is none, joins the member on PEER-PORT and whom an earlier life knew, ticks each 100 ms,
+ * prints whom it knows in the end, leaves, and ends. PEER-PORT 0 joins nobody.
+ */
+#include "swim.h"
+
+#include <arpa/inet.h>
+#include <poll.h>
+#include <stdio.h>
+#include <stdlib.h>
+#include <sys/random.h>
+#include <sys/socket.h>
+#include <time.h>
+#include <unistd.h>
+
+#define TICK_MS 100
+#define LOOPBACK 0x7f000001u
+
+static void must(int code, const char *what) {
+    if (code != SWIM_OK) {
+        fprintf(stderr, "%s: %s: %s\n", what, swim_name(code), swim_text(code));
+        exit(1);
+    }
+}
+
+static long long now_ms(void) {
+    struct timespec now;
+    clock_gettime(CLOCK_MONOTONIC, &now);
+    return now.tv_sec * 1000LL + now.tv_nsec / 1000000;
+}
+
+/* Sends all that waits, and tells how many datagrams the system refused. */
+static void send_all(struct swim_member *member, int udp) {
+    uint8_t bytes[SWIM_DATAGRAM_MAX];
+    struct swim_endpoint to;
+    size_t length;
+    uint32_t lost = 0;
+    while (swim_next_datagram(member, &to, bytes, sizeof bytes, &length) == SWIM_OK) {
+        struct sockaddr_in at = {.sin_family = AF_INET, .sin_port = htons(to.port)};
+        at.sin_addr.s_addr = htonl(to.address);
+        if (sendto(udp, bytes, length, 0, (struct sockaddr *)&at, sizeof at) < 0)
+            lost++;
+    }
+    if (lost > 0)
+        must(swim_send_failed(member, lost), "send_failed");
+}
+
+/* Hands in what came, at most 64 datagrams at once, so that a tick is never late for them. */
+static void receive_all(struct swim_member *member, int udp) {
+    uint8_t bytes[SWIM_DATAGRAM_MAX + 1];
+    struct sockaddr_in at;
+    for (int i = 0; i < 64; i++) {
+        socklen_t size = sizeof at;
+        ssize_t length = recvfrom(udp, bytes, sizeof bytes, MSG_DONTWAIT, (struct sockaddr *)&at, &size);
+        if (length < 0)
+            return;
+        struct swim_endpoint from = {ntohl(at.sin_addr.s_addr), ntohs(at.sin_port)};
+        must(swim_receive(member, from, bytes, (size_t)length), "receive");
+        send_all(member, udp);
+    }
+}
+
+static void tick(struct swim_member *member, int udp) {
+    uint64_t random;
+    if (getrandom(&random, sizeof random, 0) != sizeof random)
+        must(SWIM_FILE, "getrandom");
+    must(swim_tick(member, random), "tick");
+    send_all(member, udp);
+}
+
+static void join_all(struct swim_member *member, int udp, uint16_t peer) {
+    struct swim_endpoint peers[SWIM_PEERS_MAX + 1];
+    size_t count;
+    must(swim_stored_peers(member, peers, &count), "stored_peers");
+    if (peer != 0)
+        peers[count++] = (struct swim_endpoint){LOOPBACK, peer};
+    for (size_t i = 0; i < count; i++) {
+        must(swim_join(member, peers[i]), "join");
+        send_all(member, udp);
+    }
+}
+
+static void print_members(struct swim_member *member) {
+    static const char *const kinds[] = {"?", "alive", "suspect", "confirm"};
+    struct swim_row rows[SWIM_MEMBERS_MAX];
+    size_t count;
+    must(swim_members(member, rows, SWIM_MEMBERS_MAX, &count), "members");
+    for (size_t i = 0; i < count; i++)
+        printf("%s 127.0.0.1:%u %llu\n", kinds[rows[i].kind], rows[i].port, (unsigned long long)rows[i].number);
+}
+
+int main(int argc, char **argv) {
+    if (argc != 6)
+        return fprintf(stderr, "member STATE-FILE GROUP PORT PEER-PORT SECONDS\n"), 2;
+    struct swim_settings settings = SWIM_USUAL_SETTINGS;
+    settings.group = strtoull(argv[2], NULL, 10);
+    settings.address = LOOPBACK;
+    settings.port = (uint16_t)atoi(argv[3]);
+
+    struct swim_member member = SWIM_CLOSED_MEMBER;
+    if (access(argv[1], F_OK) != 0)
+        must(swim_make(argv[1], &settings), "make");
+    int udp = socket(AF_INET, SOCK_DGRAM | SOCK_CLOEXEC, 0);
+    struct sockaddr_in me = {.sin_family = AF_INET, .sin_port = htons(settings.port)};
+    me.sin_addr.s_addr = htonl(LOOPBACK);
+    if (udp < 0 || bind(udp, (struct sockaddr *)&me, sizeof me) < 0)
+        return perror("bind"), 1;
+    must(swim_open(&member, argv[1], &settings, 1), "open");
+
+    join_all(&member, udp, (uint16_t)atoi(argv[4]));
+    long long next = now_ms() + TICK_MS, end = now_ms() + atoll(argv[5]) * 1000;
+    while (now_ms() < end) {
+        long long left = next - now_ms();
+        struct pollfd ready = {udp, POLLIN, 0};
+        if (left > 0 && poll(&ready, 1, (int)left) > 0) {
+            receive_all(&member, udp);
+        } else if (now_ms() >= next) {
+            tick(&member, udp);
+            next += TICK_MS;
+        }
+    }
+
+    print_members(&member);
+    must(swim_keep_peers(&member), "keep_peers");
+    must(swim_leave(&member), "leave");
+    send_all(&member, udp);
+    must(swim_close(&member), "close");
+    close(udp);
+    return 0;
+}

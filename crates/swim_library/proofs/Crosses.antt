@@ -1,0 +1,49 @@
+-- What may go to another thread.
+use denote.Param.Send.{IsSend, sendable, view_send, recorded_send, struct_send}
+use denote.Struct.Declared.{shape}
+use Rattle.std.proofs.Crossing.{crosses}
+use Rattle.http_server.proofs.log.Log.TheSendSync as log
+use Rattle.swim_disk.specs.contracts.cached.CachedFile as CachedFile
+use Rattle.swim_disk.specs.contracts.past.Call as Call
+use Rattle.swim_disk.specs.contracts.file.FileDisk as FileDisk
+use Rattle.swim_disk.specs.contracts.file.FileDisk.TheInside as FileInside
+use Rattle.swim_node.proofs.Crosses.{Node-send}
+use Rattle.swim_trace.proofs.Crosses.{Trace-send}
+use Rattle.swim_library.specs.contracts.running.Running as Running
+
+pub Call-send : IsSend Call.the_row
+Call-send = search (sendable, crosses) depth 60 fits 20000
+
+pub CachedFile-send : IsSend CachedFile.the_field.row
+CachedFile-send = search (sendable, crosses, log.the_send) depth 60 fits 20000
+
+pub FileDisk-send : IsSend FileDisk.the_row
+FileDisk-send = view_send FileInside.the_row _ _ _ _ (recorded_send FileInside.the_field.row _ _ FileInside.the_type.to_one (struct_send (shape FileInside.the_type) (
+  search (sendable, crosses) depth 60 fits 20000,
+  (
+    search sendable,
+    (
+      CachedFile-send,
+      (
+        search (sendable, crosses) depth 60 fits 20000,
+        (
+          search (sendable, Trace-send, Call-send) depth 60 fits 20000,
+          (
+            search (sendable, crosses, Call-send) depth 60 fits 20000,
+            (
+              search sendable,
+              (
+                search (sendable, Trace-send) depth 60 fits 20000,
+                (search (sendable, Trace-send) depth 60 fits 20000, tt),
+              ),
+            ),
+          ),
+        ),
+      ),
+    ),
+  ),
+))
+    )
+
+pub Running-send : IsSend Running.the_row
+Running-send = search (sendable, crosses, Trace-send, Node-send, FileDisk-send) depth 60 fits 20000

@@ -1,0 +1,4 @@
+mod Crosses
+mod Doing
+mod Owned
+mod Waiting

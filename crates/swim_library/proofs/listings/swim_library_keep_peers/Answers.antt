@@ -1,0 +1,13 @@
+use Rattle.std.proofs.Common.{Some, ap, sym, ◌∙◌}
+use Rattle.swim_library.specs.declared.running.Running.{Running}
+use Rattle.swim_library.proofs.Doing.{done}
+use Rattle.swim_library.proofs.listings.swim_library_keep_peers.Goals as goal
+
+pub returns-in-Some-clause-kept : goal.returns-in-Some-clause-kept
+returns-in-Some-clause-kept c = λ ok. record {
+  before = c.deref_mut.result.now;
+  after = c.keep_peers-done.new.self;
+  was = c.in-Some.ensures.open ∙ ap (λ (r : Running). Some r) (sym c.deref_mut.ensures.value);
+  is = c.put.ensures;
+  how = (done c.keep_peers-done.result c.code-in-Some.result c.code-in-Some.ensures ok c.keep_peers-done.ensures.kept, c.keep_peers-done.ensures.outbox, c.keep_peers-done.ensures.notes);
+}

@@ -1,0 +1,7 @@
+pub mod Codes
+pub mod Handle
+pub mod Holding
+pub mod Opening
+pub mod Outbox
+pub mod Running
+pub mod Shapes

@@ -1,0 +1,71 @@
+-- What a call does to a member that runs.
+use Rattle.std.specs.Prelude.{◌≡◌, ◌⊎◌, List, [], ◌∷◌, ◌++◌, map, ℕ}
+use Rattle.swim_disk.specs.File.{FileView, file_state}
+use Rattle.swim_member.specs.declared.event.Event.{Event}
+use Rattle.swim_node.specs.declared.entry.Entry.{Entry}
+use Rattle.swim_node.specs.declared.entry.Reply.{Reply}
+use Rattle.swim_node.specs.History.{IsLegal, state_after}
+use Rattle.swim_node.specs.Lives.{Era, IsLiving, life_of}
+use Rattle.swim_node.specs.Node.{NodeView, next_base}
+use Rattle.swim_node.specs.Peers.{known_peers}
+use Rattle.swim_node.specs.Sending.{taken_by}
+use Rattle.swim_state.specs.Held.{HasPeers}
+use Rattle.swim_library.specs.Outbox.{waiting_in}
+use Rattle.swim_library.specs.Shapes.{endpoint_as, row_as}
+use Rattle.swim_library.specs.declared.running.Running.{Running}
+use Rattle.swim_library.specs.declared.shapes.SwimEndpoint.{SwimEndpoint}
+use Rattle.swim_library.specs.declared.shapes.SwimRow.{SwimRow}
+
+-- the life of the node goes on, with as many ended eras or more
+abbrev pub LivesOn : NodeView FileView → NodeView FileView → Type 0
+LivesOn old new = (settings : _) → (limit : ℕ) → (opened : FileView) → (eras : List Era)
+    → IsLiving file_state old.owner (life_of settings limit opened eras old)
+    → (more : List Era)
+    × IsLiving file_state new.owner (life_of settings limit opened (eras ++ more) new)
+
+-- the entry is the last of the era, or it filled it, and the next era began
+abbrev pub GoesInto : NodeView FileView → NodeView FileView → Entry → Type 0
+GoesInto old new e = ((new.base ≡ old.base) × (new.entries ≡ old.entries ++ e ∷ []))
+    ⊎ ((new.base ≡ next_base old.base (old.entries ++ e ∷ [])) × (new.entries ≡ []))
+
+-- one call of the node, with this event and this reply: what it sent, and no more, waits too
+pub record AddsTo (old new : Running) (event : Event) (reply : Reply) : Type 0 where
+  pub entry : Entry
+  pub event_is : entry.event ≡ event
+  pub reply_is : entry.reply ≡ reply
+  pub legal : IsLegal old.node.base (old.node.entries ++ entry ∷ [])
+  pub era : GoesInto old.node new.node entry
+  pub waits : waiting_in new.outbox
+      ≡ waiting_in old.outbox ++ taken_by entry.outs.items entry.outcomes.items
+  pub owner : new.node.owner ≡ old.node.owner
+  pub first : new.node.first ≡ old.node.first
+  pub lives : LivesOn old.node new.node
+
+-- the event was entered: what it sent is all that waits
+pub record EntersEvent (old new : Running) (event : Event) : Type 0 where
+  pub reply : Reply
+  pub adds : AddsTo old new event reply
+  pub empty : waiting_in old.outbox ≡ []
+  pub notes : new.notes ≡ reply.notes
+
+-- the first datagram that waited goes there, with these bytes, and the others still wait
+pub record Hands (old new : Running) (to : SwimEndpoint) (bytes : List ℕ) : Type 0 where
+  pub who : ℕ
+  pub first : waiting_in old.outbox ≡ (who, bytes) ∷ waiting_in new.outbox
+  pub to_is : to ≡ endpoint_as who
+  pub node : new.node ≡ old.node
+  pub notes : new.notes ≡ old.notes
+
+-- these rows are those of the page that was answered
+pub record ShowsRows (old new : Running) (event : Event) (rows : List SwimRow) : Type 0 where
+  pub reply : Reply
+  pub adds : AddsTo old new event reply
+  pub rows_are : rows ≡ map row_as reply.page.items
+
+-- the peers that it knows are saved, and a crash leaves them
+pub record SavesPeers (old new : NodeView FileView) : Type 0 where
+  pub peers : new.peers ≡ known_peers (state_after new.base new.entries)
+  pub named : HasPeers (file_state new.disk) new.peers
+  pub owner : new.owner ≡ old.owner
+  pub first : new.first ≡ old.first
+  pub lives : LivesOn old new

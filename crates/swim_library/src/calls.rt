@@ -1,0 +1,244 @@
+//! What a member that runs is asked for.
+
+ghost use Rattle.std.specs.Prelude.{◌≡◌, ◌≢◌, ◌⊎◌, ◌↔◌, ◌<◌, ◌≤◌, ◌∷◌, [], length, map, take, Err, IfErr, IfOk, IsErrOf, IsOk, OnErr, OnOk};
+ghost use Rattle.swim_library.specs.Outbox.{waiting_in};
+ghost use Rattle.swim_library.specs.Running.{AddsTo, EntersEvent, Hands, SavesPeers, LivesOn, ShowsRows};
+ghost use Rattle.swim_library.specs.Shapes.{endpoint_as, note_as, row_as, status_as};
+ghost use Rattle.swim_library.specs.declared.refusal.Refusal.TheVariants as why;
+ghost use Rattle.swim_member.specs.declared.answer.TheConstants.{NOTES_MAX};
+ghost use Rattle.swim_member.specs.declared.event.Event.TheVariants.{Members};
+ghost use Rattle.swim_node.specs.History.{status_of};
+ghost use Rattle.swim_node.specs.Node.{next_base};
+ghost use Rattle.swim_state.specs.declared.peers.TheConstants.{PEERS_MAX};
+ghost use Rattle.swim_wire.specs.declared.datagram.TheConstants.{UPDATES_MAX};
+
+use crate::outbox::Waiting;
+use crate::refusal::Refusal;
+use crate::running::Running;
+use crate::shapes::{SwimEndpoint, SwimRow, SwimStatus};
+use swim_disk::FileDisk;
+use swim_member::{Event, NOTES_MAX, Note};
+use swim_node::{ApplyFault, Node, Reply, Tag};
+use swim_state::PEERS_MAX;
+use swim_wire::{Cursor, Endpoint, UPDATES_MAX, Update};
+
+/// Writes a datagram with its length and its destination, where there is room.
+fn hand_out(
+    first: &Waiting,
+    to: &mut SwimEndpoint,
+    bytes: &mut [u8],
+    count: &mut usize,
+) -> Result<(), Refusal>
+    ensures room { length bytes.new ≡ length bytes.old }
+    ensures bytes { OnOk result (take count.new bytes.new ≡ first.now.bytes.items) }
+    ensures count { OnOk result (count.new ≡ length first.now.bytes.items) }
+    ensures to { OnOk result (to.new ≡ endpoint_as first.now.to) }
+    ensures short { IfErr result (λ refusal. refusal ≡ why.Short) }
+    ensures room_is { IsErrOf result why.Short ↔ (length bytes.old < length first.now.bytes.items) }
+    ensures unwritten { OnErr result ((bytes.new ≡ bytes.old) × (count.new ≡ count.old)
+        × (to.new ≡ to.old)) }
+{
+    let len = first.bytes.len();
+    if bytes.len() < len {
+        return Err(Refusal::Short);
+    }
+    bytes[..len].copy_from_slice(&first.bytes);
+    *to = SwimEndpoint::of(first.to);
+    *count = len;
+    Ok(())
+}
+
+/// Ends the era if it has so many entries, and begins the next one.
+fn end_era_of(node: &mut Node<FileDisk>, limit: u32)
+    ensures era { ((node.new.base ≡ node.old.base) × (node.new.entries ≡ node.old.entries))
+        ⊎ ((node.new.base ≡ next_base node.old.base node.old.entries)
+        × (node.new.entries ≡ [])) }
+    ensures room { 0 < limit → length node.new.entries < limit }
+    ensures empty { limit ≡ 1 → node.new.entries ≡ [] }
+    ensures limit { node.new.base.limit ≡ node.old.base.limit }
+    ensures owner { node.new.owner ≡ node.old.owner }
+    ensures first { node.new.first ≡ node.old.first }
+    ensures disk { node.new.disk ≡ node.old.disk }
+    ensures lives { LivesOn node.old node.new }
+{
+    if node.len() >= limit as usize {
+        node.rebase();
+    }
+}
+
+/// Writes the rows of a page.
+fn write_rows(page: &[Update], rows: &mut [SwimRow])
+    requires { length page.now ≤ length rows.old }
+    ensures rows { take (length page.now) rows.new ≡ map row_as page.now }
+    ensures room { length rows.new ≡ length rows.old }
+{
+    for place in 0..page.len() {
+        rows[place] = SwimRow::of(&page[place]);
+    }
+}
+
+/// Writes the numbers of notes.
+fn write_notes(noted: &[Note], notes: &mut [u8])
+    requires { length noted.now ≤ length notes.old }
+    ensures notes { take (length noted.now) notes.new ≡ map note_as noted.now }
+    ensures room { length notes.new ≡ length notes.old }
+{
+    for place in 0..noted.len() {
+        notes[place] = noted[place].number();
+    }
+}
+
+/// Writes endpoints.
+fn write_endpoints(endpoints: &[Endpoint], out: &mut [SwimEndpoint])
+    requires { length endpoints.now ≤ length out.old }
+    ensures endpoints { take (length endpoints.now) out.new ≡ map endpoint_as endpoints.now }
+    ensures room { length out.new ≡ length out.old }
+{
+    for place in 0..endpoints.len() {
+        out[place] = SwimEndpoint::of(endpoints[place]);
+    }
+}
+
+impl Running {
+    /// Makes one call of the node. Where it fills the era, the next one begins.
+    fn apply(&mut self, event: Event) -> Result<Reply, Refusal>
+        ensures added { IfOk result (λ reply. AddsTo self.old self.new event reply) }
+        ensures notes { self.new.notes ≡ self.old.notes }
+        ensures refused { IfErr result (λ refusal. refusal ≡ why.NoMemory) }
+        ensures same { OnErr result (self.new ≡ self.old) }
+    {
+        let tag = Tag {
+            caller: 0,
+            turn: self.node.turns(0) + 1,
+        };
+        let reply = match self.node.apply(&mut self.outbox, tag, event) {
+            Ok(reply) => reply,
+            Err(ApplyFault::NoMemory) => return Err(Refusal::NoMemory),
+            Err(_) => unreachable!(),
+        };
+        // that its journal is legal
+        let _ = self.node.journal();
+        end_era_of(&mut self.node, self.limit);
+        Ok(reply)
+    }
+
+    /// Enters an event. While datagrams of an earlier one wait, nothing happens.
+    pub(crate) fn enter(&mut self, event: Event) -> Result<(), Refusal>
+        ensures entered { OnOk result (EntersEvent self.old self.new event) }
+        ensures waits { IsErrOf result why.Waiting ↔ (waiting_in self.old.outbox ≢ []) }
+        ensures refused { IfErr result (λ refusal. refusal ≢ why.Waiting
+            → refusal ≡ why.NoMemory) }
+        ensures same { OnErr result (self.new ≡ self.old) }
+    {
+        if !self.outbox.is_empty() {
+            return Err(Refusal::Waiting);
+        }
+        let reply = self.apply(event)?;
+        self.notes = reply.notes;
+        Ok(())
+    }
+
+    /// Hands out the next datagram that waits, which then waits no more.
+    pub(crate) fn next_datagram(
+        &mut self,
+        to: &mut SwimEndpoint,
+        bytes: &mut [u8],
+        count: &mut usize,
+    ) -> Result<(), Refusal>
+        ensures handed { OnOk result
+            (Hands self.old self.new to.new (take count.new bytes.new)) }
+        ensures nothing { IsErrOf result why.Nothing ↔ (waiting_in self.old.outbox ≡ []) }
+        ensures short { IfErr result (λ refusal. refusal ≢ why.Nothing → refusal ≡ why.Short) }
+        ensures same { OnErr result (self.new ≡ self.old) }
+        ensures unwritten { OnErr result ((bytes.new ≡ bytes.old) × (count.new ≡ count.old)
+            × (to.new ≡ to.old)) }
+        ensures room { length bytes.new ≡ length bytes.old }
+    {
+        if self.outbox.is_empty() {
+            return Err(Refusal::Nothing);
+        }
+        hand_out(&self.outbox.datagrams[0], to, bytes, count)?;
+        self.outbox.datagrams.remove(0);
+        Ok(())
+    }
+
+    /// Writes the rows after a cursor, at most 30, and how many they are.
+    pub(crate) fn rows_after(
+        &mut self,
+        after: Cursor,
+        rows: &mut [SwimRow],
+        count: &mut usize,
+    ) -> Result<(), Refusal>
+        ensures shown { OnOk result (ShowsRows self.old self.new (Members after)
+            (take count.new rows.new)) }
+        ensures same { OnErr result (self.new ≡ self.old) }
+        ensures room { length rows.new ≡ length rows.old }
+        ensures notes { self.new.notes ≡ self.old.notes }
+        ensures short { IsErrOf result why.Short → length rows.old < UPDATES_MAX }
+    {
+        if rows.len() < UPDATES_MAX {
+            return Err(Refusal::Short);
+        }
+        let reply = self.apply(Event::Members { after })?;
+        write_rows(&reply.page, rows);
+        *count = reply.page.len();
+        Ok(())
+    }
+
+    /// What a status page shows.
+    pub(crate) fn status(&self) -> SwimStatus
+        ensures { result ≡ status_as (status_of self.now.node.base self.now.node.entries)
+            self.now.node.first }
+    {
+        SwimStatus::of(&self.node.status(), self.node.first())
+    }
+
+    /// Writes the numbers of the last event's notes, and how many they are.
+    pub(crate) fn write_notes(&self, notes: &mut [u8], count: &mut usize) -> Result<(), Refusal>
+        ensures notes { OnOk result (take count.new notes.new ≡ map note_as self.now.notes.items) }
+        ensures room { length notes.new ≡ length notes.old }
+        ensures short { IfErr result (λ refusal. refusal ≡ why.Short) }
+        ensures enough { NOTES_MAX ≤ length notes.old → IsOk result }
+    {
+        if notes.len() < NOTES_MAX {
+            return Err(Refusal::Short);
+        }
+        write_notes(&self.notes, notes);
+        *count = self.notes.len();
+        Ok(())
+    }
+
+    /// Writes the peers that stand in the state file, and how many they are.
+    pub(crate) fn write_peers(
+        &self,
+        peers: &mut [SwimEndpoint],
+        count: &mut usize,
+    ) -> Result<(), Refusal>
+        ensures peers { OnOk result
+            (take count.new peers.new ≡ map endpoint_as self.now.node.peers) }
+        ensures room { length peers.new ≡ length peers.old }
+        ensures short { IfErr result (λ refusal. refusal ≡ why.Short) }
+        ensures enough { PEERS_MAX ≤ length peers.old → IsOk result }
+    {
+        if peers.len() < PEERS_MAX {
+            return Err(Refusal::Short);
+        }
+        let stored = self.node.peers();
+        write_endpoints(stored.as_slice(), peers);
+        *count = stored.as_slice().len();
+        Ok(())
+    }
+
+    /// Saves whom the member knows, the first eight that are Alive or Suspect.
+    pub(crate) fn keep_peers(&mut self) -> Result<(), Refusal>
+        ensures kept { OnOk result (SavesPeers self.old.node self.new.node) }
+        ensures outbox { self.new.outbox ≡ self.old.outbox }
+        ensures notes { self.new.notes ≡ self.old.notes }
+    {
+        end_era_of(&mut self.node, 1);
+        match self.node.keep_peers() {
+            Ok(()) => Ok(()),
+            Err(fault) => Err(Refusal::Keeping(fault)),
+        }
+    }
+}

@@ -1,0 +1,206 @@
+//! The events of a member, and what it is to send.
+
+ghost use Rattle.std.specs.Prelude.{◌≡◌, ◌≢◌, ◌*◌, ◌+◌, ◌∷◌, [], List, ℕ, length, take as first, Some, None};
+ghost use Rattle.swim_library.specs.Codes.{CLOSED, NO_ENDPOINT, NOTHING, OK, WAITING};
+ghost use Rattle.swim_library.specs.Holding.{HandleBecomes, held};
+ghost use Rattle.swim_library.specs.Outbox.{waiting_in};
+ghost use Rattle.swim_library.specs.Running.{EntersEvent, Hands};
+ghost use Rattle.swim_library.specs.Shapes.{number_of_endpoint};
+ghost use Rattle.swim_library.specs.declared.running.Running.{Running};
+ghost use Rattle.swim_member.specs.declared.event.Event.TheVariants.{Datagram, Join, Leave, ReceiveFailed, SendFailed, Tick};
+ghost use Rattle.swim_member.specs.declared.event.TheConstants.{RECEIVED_MAX};
+
+use crate::deal::deal_of;
+use crate::handle::{SwimMember, put, take};
+use crate::refusal::{Refusal, code};
+use crate::shapes::SwimEndpoint;
+use arrayvec::ArrayVec;
+use swim_member::{Event, RECEIVED_MAX};
+
+/// The bytes of a datagram that a member looks at.
+fn kept_of(bytes: &[u8]) -> ArrayVec<u8, RECEIVED_MAX>
+    ensures { result.items ≡ first RECEIVED_MAX bytes.now }
+{
+    let mut kept = ArrayVec::new();
+    match kept.try_extend_from_slice(&bytes[..RECEIVED_MAX.min(bytes.len())]) {
+        Ok(()) => kept,
+        Err(_) => unreachable!(),
+    }
+}
+
+/// Enters an event in the member that a handle leads to.
+fn enter(member: &mut SwimMember, spare: SwimMember, event: Event) -> u32
+    ensures entered { result ≡ OK
+        → HandleBecomes member.old member.new
+        (λ before after. EntersEvent before after event) }
+    ensures refused { result ≢ OK → held member.new ≡ held member.old }
+    ensures closed { held member.old ≡ None → result ≡ CLOSED }
+    ensures waits { (running : Running) → held member.old ≡ Some running
+        → waiting_in running.outbox ≢ []
+        → result ≡ WAITING }
+{
+    match take(member, spare) {
+        None => code(Err(Refusal::Closed)),
+        Some(mut running) => {
+            let done = running.enter(event);
+            put(member, running);
+            code(done)
+        }
+    }
+}
+
+/// Time goes on by one tick.
+#[unsafe(no_mangle)]
+pub extern "C" fn swim_library_tick(member: &mut SwimMember, spare: SwimMember, random: u64) -> u32
+    ensures entered { result ≡ OK → (numbers : List ℕ)
+        × HandleBecomes member.old member.new
+        (λ before after. EntersEvent before after (Tick numbers)) }
+    ensures refused { result ≢ OK → held member.new ≡ held member.old }
+    ensures closed { held member.old ≡ None → result ≡ CLOSED }
+    ensures waits { (running : Running) → held member.old ≡ Some running
+        → waiting_in running.outbox ≢ []
+        → result ≡ WAITING }
+{
+    enter(
+        member,
+        spare,
+        Event::Tick {
+            deal: deal_of(random),
+        },
+    )
+}
+
+/// Bytes came. What passes 513 of them is cut off.
+#[unsafe(no_mangle)]
+pub extern "C" fn swim_library_receive(
+    member: &mut SwimMember,
+    spare: SwimMember,
+    from: &SwimEndpoint,
+    bytes: &[u8],
+) -> u32
+    ensures entered { result ≡ OK
+        → HandleBecomes member.old member.new (λ before after. EntersEvent before after
+        (Datagram (number_of_endpoint from.now)
+        (record { items = first RECEIVED_MAX bytes.now }))) }
+    ensures refused { result ≢ OK → held member.new ≡ held member.old }
+    ensures closed { held member.old ≡ None → from.now.port ≢ 0 → result ≡ CLOSED }
+    ensures endpoint { from.now.port ≡ 0 → result ≡ NO_ENDPOINT }
+    ensures waits { (running : Running) → held member.old ≡ Some running
+        → from.now.port ≢ 0
+        → waiting_in running.outbox ≢ []
+        → result ≡ WAITING }
+{
+    match from.endpoint() {
+        None => code(Err(Refusal::NoEndpoint)),
+        Some(from) => {
+            let bytes = kept_of(bytes);
+            enter(member, spare, Event::Datagram { from, bytes })
+        }
+    }
+}
+
+/// A receive failed.
+#[unsafe(no_mangle)]
+pub extern "C" fn swim_library_receive_failed(member: &mut SwimMember, spare: SwimMember) -> u32
+    ensures entered { result ≡ OK
+        → HandleBecomes member.old member.new
+        (λ before after. EntersEvent before after ReceiveFailed) }
+    ensures refused { result ≢ OK → held member.new ≡ held member.old }
+    ensures closed { held member.old ≡ None → result ≡ CLOSED }
+    ensures waits { (running : Running) → held member.old ≡ Some running
+        → waiting_in running.outbox ≢ []
+        → result ≡ WAITING }
+{
+    enter(member, spare, Event::ReceiveFailed)
+}
+
+/// So many datagrams were not sent.
+#[unsafe(no_mangle)]
+pub extern "C" fn swim_library_send_failed(
+    member: &mut SwimMember,
+    spare: SwimMember,
+    count: u32,
+) -> u32
+    ensures entered { result ≡ OK
+        → HandleBecomes member.old member.new
+        (λ before after. EntersEvent before after (SendFailed count)) }
+    ensures refused { result ≢ OK → held member.new ≡ held member.old }
+    ensures closed { held member.old ≡ None → result ≡ CLOSED }
+    ensures waits { (running : Running) → held member.old ≡ Some running
+        → waiting_in running.outbox ≢ []
+        → result ≡ WAITING }
+{
+    enter(member, spare, Event::SendFailed { count })
+}
+
+/// The member asks another for all that it knows.
+#[unsafe(no_mangle)]
+pub extern "C" fn swim_library_join(
+    member: &mut SwimMember,
+    spare: SwimMember,
+    peer: &SwimEndpoint,
+) -> u32
+    ensures entered { result ≡ OK
+        → HandleBecomes member.old member.new (λ before after. EntersEvent before after
+        (Join (number_of_endpoint peer.now))) }
+    ensures refused { result ≢ OK → held member.new ≡ held member.old }
+    ensures closed { held member.old ≡ None → peer.now.port ≢ 0 → result ≡ CLOSED }
+    ensures endpoint { peer.now.port ≡ 0 → result ≡ NO_ENDPOINT }
+    ensures waits { (running : Running) → held member.old ≡ Some running
+        → peer.now.port ≢ 0
+        → waiting_in running.outbox ≢ []
+        → result ≡ WAITING }
+{
+    match peer.endpoint() {
+        None => code(Err(Refusal::NoEndpoint)),
+        Some(peer) => enter(member, spare, Event::Join { peer }),
+    }
+}
+
+/// The member leaves the group.
+#[unsafe(no_mangle)]
+pub extern "C" fn swim_library_leave(member: &mut SwimMember, spare: SwimMember) -> u32
+    ensures entered { result ≡ OK
+        → HandleBecomes member.old member.new
+        (λ before after. EntersEvent before after Leave) }
+    ensures refused { result ≢ OK → held member.new ≡ held member.old }
+    ensures closed { held member.old ≡ None → result ≡ CLOSED }
+    ensures waits { (running : Running) → held member.old ≡ Some running
+        → waiting_in running.outbox ≢ []
+        → result ≡ WAITING }
+{
+    enter(member, spare, Event::Leave)
+}
+
+/// Hands out the next datagram that waits.
+#[unsafe(no_mangle)]
+pub extern "C" fn swim_library_next_datagram(
+    member: &mut SwimMember,
+    spare: SwimMember,
+    to: &mut SwimEndpoint,
+    bytes: &mut [u8],
+    count: &mut usize,
+) -> u32
+    ensures handed { result ≡ OK → HandleBecomes member.old member.new
+        (λ before after. Hands before after to.new (first count.new bytes.new)) }
+    ensures refused { result ≢ OK → held member.new ≡ held member.old }
+    ensures closed { held member.old ≡ None → result ≡ CLOSED }
+    ensures nothing { (running : Running) → held member.old ≡ Some running
+        → waiting_in running.outbox ≡ []
+        → result ≡ NOTHING }
+    ensures some { (running : Running) → held member.old ≡ Some running
+        → waiting_in running.outbox ≢ []
+        → result ≢ NOTHING }
+    ensures unwritten { result ≢ OK → (bytes.new ≡ bytes.old) × (count.new ≡ count.old)
+        × (to.new ≡ to.old) }
+    ensures room { length bytes.new ≡ length bytes.old }
+{
+    match take(member, spare) {
+        None => code(Err(Refusal::Closed)),
+        Some(mut running) => {
+            let done = running.next_datagram(to, bytes, count);
+            put(member, running);
+            code(done)
+        }
+    }
+}

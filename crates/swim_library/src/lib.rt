@@ -1,0 +1,21 @@
+//! A member for programs in C, and in all that can call C: the proved node behind a handle, by polling.
+//!
+//! `bindings/c/swim.h` says what the calls are for. The functions here are those that it names, without the word
+//! `library`; `bindings/c/swim.c` refuses null before it calls them.
+//!
+//! A call takes the handle behind a `&mut`, and an empty one, which stands there while the call lasts.
+#![tactic(auto)]
+
+mod calls;
+mod deal;
+mod events;
+mod handle;
+mod listings;
+mod opening;
+mod outbox;
+mod refusal;
+mod running;
+mod shapes;
+
+pub use handle::SwimMember;
+pub use shapes::{SwimEndpoint, SwimRow, SwimSettings, SwimStatus};

@@ -1,0 +1,130 @@
+//! What a member shows and keeps.
+
+ghost use Rattle.std.specs.Prelude.{◌≡◌, ◌≢◌, ◌≤◌, length, map, take as first, Some, None};
+ghost use Rattle.swim_library.specs.Codes.{CLOSED, OK};
+ghost use Rattle.swim_library.specs.Holding.{HandleBecomes, held};
+ghost use Rattle.swim_library.specs.Running.{SavesPeers, ShowsRows};
+ghost use Rattle.swim_library.specs.Shapes.{cursor_of, endpoint_as, note_as, status_as};
+ghost use Rattle.swim_library.specs.declared.running.Running.{Running};
+ghost use Rattle.swim_member.specs.declared.event.Event.TheVariants.{Members};
+ghost use Rattle.swim_node.specs.History.{status_of};
+
+use crate::handle::{SwimMember, put, take};
+use crate::refusal::{Refusal, code};
+use crate::shapes::{SwimEndpoint, SwimRow, SwimStatus};
+
+/// The rows after an endpoint, at most 30, for which there has to be room; from the begin where its port is 0.
+#[unsafe(no_mangle)]
+pub extern "C" fn swim_library_members(
+    member: &mut SwimMember,
+    spare: SwimMember,
+    after: &SwimEndpoint,
+    rows: &mut [SwimRow],
+    count: &mut usize,
+) -> u32
+    ensures shown { result ≡ OK → HandleBecomes member.old member.new
+        (λ before later. ShowsRows before later (Members (cursor_of after.now))
+        (first count.new rows.new)) }
+    ensures refused { result ≢ OK → held member.new ≡ held member.old }
+    ensures closed { held member.old ≡ None → result ≡ CLOSED }
+    ensures room { length rows.new ≡ length rows.old }
+{
+    match take(member, spare) {
+        None => code(Err(Refusal::Closed)),
+        Some(mut running) => {
+            let done = running.rows_after(after.cursor(), rows, count);
+            put(member, running);
+            code(done)
+        }
+    }
+}
+
+/// What a status page shows.
+#[unsafe(no_mangle)]
+pub extern "C" fn swim_library_status(
+    member: &mut SwimMember,
+    spare: SwimMember,
+    status: &mut SwimStatus,
+) -> u32
+    ensures same { held member.new ≡ held member.old }
+    ensures status { (running : Running) → held member.old ≡ Some running
+        → status.new ≡ status_as (status_of running.node.base running.node.entries)
+        running.node.first }
+    ensures closed { held member.old ≡ None → result ≡ CLOSED }
+    ensures open { held member.old ≢ None → result ≡ OK }
+{
+    match take(member, spare) {
+        None => code(Err(Refusal::Closed)),
+        Some(running) => {
+            *status = running.status();
+            put(member, running);
+            code(Ok(()))
+        }
+    }
+}
+
+/// The numbers of the last event's notes, and how many they are. There has to be room for 32.
+#[unsafe(no_mangle)]
+pub extern "C" fn swim_library_notes(
+    member: &mut SwimMember,
+    spare: SwimMember,
+    notes: &mut [u8],
+    count: &mut usize,
+) -> u32
+    ensures same { held member.new ≡ held member.old }
+    ensures notes { result ≡ OK → (running : Running) → held member.old ≡ Some running
+        → first count.new notes.new ≡ map note_as running.notes.items }
+    ensures closed { held member.old ≡ None → result ≡ CLOSED }
+    ensures room { length notes.new ≡ length notes.old }
+{
+    match take(member, spare) {
+        None => code(Err(Refusal::Closed)),
+        Some(running) => {
+            let done = running.write_notes(notes, count);
+            put(member, running);
+            code(done)
+        }
+    }
+}
+
+/// The peers that stand in the state file, and how many they are. There has to be room for eight.
+#[unsafe(no_mangle)]
+pub extern "C" fn swim_library_stored_peers(
+    member: &mut SwimMember,
+    spare: SwimMember,
+    peers: &mut [SwimEndpoint],
+    count: &mut usize,
+) -> u32
+    ensures same { held member.new ≡ held member.old }
+    ensures peers { result ≡ OK → (running : Running) → held member.old ≡ Some running
+        → first count.new peers.new ≡ map endpoint_as running.node.peers }
+    ensures closed { held member.old ≡ None → result ≡ CLOSED }
+    ensures room { length peers.new ≡ length peers.old }
+{
+    match take(member, spare) {
+        None => code(Err(Refusal::Closed)),
+        Some(running) => {
+            let done = running.write_peers(peers, count);
+            put(member, running);
+            code(done)
+        }
+    }
+}
+
+/// Saves whom the member knows in the state file.
+#[unsafe(no_mangle)]
+pub extern "C" fn swim_library_keep_peers(member: &mut SwimMember, spare: SwimMember) -> u32
+    ensures kept { result ≡ OK → HandleBecomes member.old member.new
+        (λ before after. SavesPeers before.node after.node
+        × (after.outbox ≡ before.outbox) × (after.notes ≡ before.notes)) }
+    ensures closed { held member.old ≡ None → result ≡ CLOSED }
+{
+    match take(member, spare) {
+        None => code(Err(Refusal::Closed)),
+        Some(mut running) => {
+            let done = running.keep_peers();
+            put(member, running);
+            code(done)
+        }
+    }
+}

@@ -1,0 +1,22 @@
+//! A member that runs: its node, and what it is to send.
+
+ghost use Rattle.std.specs.Prelude.{◌≡◌, ◌<◌, length};
+
+use crate::outbox::Outbox;
+use arrayvec::ArrayVec;
+use swim_disk::FileDisk;
+use swim_member::{NOTES_MAX, Note};
+use swim_node::Node;
+
+/// A member that runs.
+#[derive(Drop)]
+pub(crate) struct Running {
+    pub(crate) node: Node<FileDisk>,
+    pub(crate) outbox: Outbox,
+    /// What the last event took note of.
+    pub(crate) notes: ArrayVec<Note, NOTES_MAX>,
+    /// How many entries an era has.
+    pub(crate) limit: u32,
+    ghost limit_is: { node.base.limit ≡ limit },
+    ghost has_room: { length node.entries < limit },
+}

@@ -1,0 +1,464 @@
+/*
+ * Calls of swim.h as programs should not make them, and as they may. tests/embedded builds it with sanitizers, and with
+ * malloc, realloc, free, pwrite and fsync of the library wrapped, so that any of them can be refused:
+ *
+ *     calls misuse              each wrong call answers its code
+ *     calls refuse              each allocation of an opening is refused once, and nothing is left
+ *     calls fail                each write and sync of a life is failed once, and no life says a number of an earlier one
+ *     calls random SEED COUNT   random calls with random bytes
+ */
+#include "swim.h"
+
+#include <errno.h>
+#include <stdio.h>
+#include <stdlib.h>
+#include <string.h>
+#include <unistd.h>
+
+static int wrong, made;
+
+static void holds(int held, const char *about) {
+    made++;
+    if (!held) {
+        wrong++;
+        printf("not so: %s\n", about);
+    }
+}
+
+static void want(const char *about, int code, int expected) {
+    made++;
+    if (code != expected) {
+        wrong++;
+        printf("%s: %s in place of %s\n", about, swim_name(code), swim_name(expected));
+    }
+}
+
+/* What the library asks of the C library. */
+
+void *__real_malloc(size_t);
+void *__real_realloc(void *, size_t);
+void __real_free(void *);
+ssize_t __real_pwrite(int, const void *, size_t, off_t);
+int __real_fsync(int);
+
+static long allocations, live, refused_at, disk_calls, failed_at;
+
+void *__wrap_malloc(size_t size) {
+    void *block = ++allocations == refused_at ? NULL : __real_malloc(size);
+    live += block != NULL;
+    return block;
+}
+
+void *__wrap_realloc(void *old, size_t size) {
+    void *block = ++allocations == refused_at ? NULL : __real_realloc(old, size);
+    live += old == NULL && block != NULL;
+    return block;
+}
+
+void __wrap_free(void *block) {
+    live -= block != NULL;
+    __real_free(block);
+}
+
+ssize_t __wrap_pwrite(int fd, const void *bytes, size_t length, off_t at) {
+    if (++disk_calls == failed_at)
+        return errno = EIO, -1;
+    return __real_pwrite(fd, bytes, length, at);
+}
+
+int __wrap_fsync(int fd) {
+    if (++disk_calls == failed_at)
+        return errno = EIO, -1;
+    return __real_fsync(fd);
+}
+
+/* What is sent to a member. */
+
+#define ME_PORT 7801
+#define LOOPBACK 0x7f000001u
+
+static const struct swim_endpoint peer = {LOOPBACK, 7802};
+
+static struct swim_settings sound(void) {
+    struct swim_settings settings = SWIM_USUAL_SETTINGS;
+    settings.group = 7;
+    settings.address = LOOPBACK;
+    settings.port = ME_PORT;
+    return settings;
+}
+
+static uint8_t *put(uint8_t *at, uint64_t value, int bytes) {
+    while (bytes-- > 0)
+        *at++ = (uint8_t)(value >> (8 * bytes));
+    return at;
+}
+
+/* A ping of the peer, by rules 2, that says a Suspect of the member. */
+static size_t suspicion(uint8_t *out, uint64_t number) {
+    uint8_t *at = out;
+    memcpy(at, "SWIM", 4);
+    at = put(at + 4, 0x02010100, 4); /* version, ping, one update, 0 */
+    at = put(at, 7, 8);
+    at = put(at, 1, 4);
+    at = put(put(at, LOOPBACK, 4), peer.port, 2);
+    at = put(put(at, LOOPBACK, 4), ME_PORT, 2);
+    at = put(at, 0x0200, 2);
+    at = put(put(at, LOOPBACK, 4), ME_PORT, 2);
+    at = put(at, number, 8);
+    return (size_t)(at - out);
+}
+
+/* Takes what waits, and gives the greatest own number that it says. */
+static uint64_t take_all(struct swim_member *m) {
+    uint8_t bytes[SWIM_DATAGRAM_MAX], me[6];
+    struct swim_endpoint to;
+    size_t length;
+    uint64_t most = 0;
+    put(put(me, LOOPBACK, 4), ME_PORT, 2);
+    while (swim_next_datagram(m, &to, bytes, sizeof bytes, &length) == SWIM_OK)
+        for (size_t at = 32; at + 16 <= length; at += 16)
+            if (memcmp(bytes + at + 2, me, 6) == 0) {
+                uint64_t number = 0;
+                for (int i = 8; i < 16; i++)
+                    number = number << 8 | bytes[at + i];
+                most = number > most ? number : most;
+            }
+    return most;
+}
+
+#define SETTING(field, value, code)                                                                                    \
+    do {                                                                                                               \
+        struct swim_settings s = sound();                                                                              \
+        s.field = value;                                                                                               \
+        want(#field " = " #value, swim_open_memory(&m, &s, 1), code);                                                  \
+    } while (0)
+
+static void misuse(void) {
+    struct swim_member m = SWIM_CLOSED_MEMBER, other = SWIM_CLOSED_MEMBER;
+    struct swim_settings settings = sound();
+    struct swim_endpoint none = {LOOPBACK, 0}, to = {1, 2}, peers[SWIM_PEERS_MAX];
+    struct swim_row rows[SWIM_MEMBERS_MAX];
+    struct swim_status status;
+    uint8_t bytes[SWIM_DATAGRAM_MAX], notes[SWIM_NOTES_MAX], noise[600];
+    size_t n = 77;
+    char path[] = "misuse.state";
+
+    memset(noise, 0xa5, sizeof noise);
+    holds(swim_version() == SWIM_VERSION, "the version");
+    want("open null", swim_open(NULL, path, &settings, 1), SWIM_NULL);
+    want("open no path", swim_open(&m, NULL, &settings, 1), SWIM_NULL);
+    want("open no settings", swim_open(&m, path, NULL, 1), SWIM_NULL);
+    want("open descriptor null", swim_open_descriptor(NULL, 0, &settings, 1), SWIM_NULL);
+    want("open memory null", swim_open_memory(NULL, &settings, 1), SWIM_NULL);
+    want("make null", swim_make(NULL, &settings), SWIM_NULL);
+    want("make no settings", swim_make(path, NULL), SWIM_NULL);
+    want("make state no settings", swim_make_state(0, NULL), SWIM_NULL);
+    want("tick null", swim_tick(NULL, 1), SWIM_NULL);
+    want("receive null", swim_receive(NULL, peer, bytes, 1), SWIM_NULL);
+    want("receive_failed null", swim_receive_failed(NULL), SWIM_NULL);
+    want("send_failed null", swim_send_failed(NULL, 1), SWIM_NULL);
+    want("join null", swim_join(NULL, peer), SWIM_NULL);
+    want("leave null", swim_leave(NULL), SWIM_NULL);
+    want("next null", swim_next_datagram(NULL, &to, bytes, sizeof bytes, &n), SWIM_NULL);
+    want("members null", swim_members(NULL, rows, 1, &n), SWIM_NULL);
+    want("status null", swim_get_status(NULL, &status), SWIM_NULL);
+    want("notes null", swim_notes(NULL, notes, &n), SWIM_NULL);
+    want("stored peers null", swim_stored_peers(NULL, peers, &n), SWIM_NULL);
+    want("keep peers null", swim_keep_peers(NULL), SWIM_NULL);
+    want("close null", swim_close(NULL), SWIM_NULL);
+
+    want("tick closed", swim_tick(&m, 1), SWIM_CLOSED);
+    want("receive closed", swim_receive(&m, peer, noise, 3), SWIM_CLOSED);
+    want("receive_failed closed", swim_receive_failed(&m), SWIM_CLOSED);
+    want("send_failed closed", swim_send_failed(&m, 1), SWIM_CLOSED);
+    want("join closed", swim_join(&m, peer), SWIM_CLOSED);
+    want("leave closed", swim_leave(&m), SWIM_CLOSED);
+    want("next closed", swim_next_datagram(&m, &to, bytes, sizeof bytes, &n), SWIM_CLOSED);
+    want("members closed", swim_members(&m, rows, SWIM_MEMBERS_MAX, &n), SWIM_CLOSED);
+    want("status closed", swim_get_status(&m, &status), SWIM_CLOSED);
+    want("notes closed", swim_notes(&m, notes, &n), SWIM_CLOSED);
+    want("stored peers closed", swim_stored_peers(&m, peers, &n), SWIM_CLOSED);
+    want("keep peers closed", swim_keep_peers(&m), SWIM_CLOSED);
+    want("close closed", swim_close(&m), SWIM_CLOSED);
+    holds(n == 77 && to.address == 1 && to.port == 2, "a closed handle writes nothing");
+
+    SETTING(port, 0, SWIM_NO_ENDPOINT);
+    SETTING(lambda, 0, SWIM_BAD_LAMBDA);
+    SETTING(lambda, 17, SWIM_BAD_LAMBDA);
+    SETTING(period, 1, SWIM_BAD_PERIOD);
+    SETTING(period, 1001, SWIM_BAD_PERIOD);
+    SETTING(direct, 10, SWIM_BAD_DIRECT);
+    SETTING(suspect, 0, SWIM_BAD_SUSPECT);
+    SETTING(forget, 1000001, SWIM_BAD_FORGET);
+    SETTING(helpers, 9, SWIM_BAD_HELPERS);
+    SETTING(helpers, 4294967295u, SWIM_BAD_HELPERS);
+    SETTING(block, 0, SWIM_BAD_BLOCK);
+    SETTING(rules, 3, SWIM_BAD_RULES);
+    want("limit 0", swim_open_memory(&m, &settings, 0), SWIM_OPEN_LIMIT);
+    want("limit great", swim_open_memory(&m, &settings, SWIM_LIMIT_MAX + 1), SWIM_OPEN_LIMIT);
+    want("bad descriptor", swim_open_descriptor(&m, -1, &settings, 1), SWIM_FILE);
+    want("make bad descriptor", swim_make_state(-1, &settings), SWIM_FILE);
+    want("no file", swim_open(&m, path, &settings, 1), SWIM_FILE);
+    holds(errno == ENOENT, "errno says that there is no file");
+    want("no folder", swim_make("no/folder/misuse.state", &settings), SWIM_FILE);
+    want("make", swim_make(path, &settings), SWIM_OK);
+    want("make again", swim_make(path, &settings), SWIM_FILE);
+    holds(errno == EEXIST, "errno says that something is there");
+    settings.group = 8;
+    want("other group", swim_open(&m, path, &settings, 1), SWIM_OPEN_WRONG_OWNER);
+    settings.group = 7;
+    want("no state file", swim_open(&m, "/dev/null", &settings, 1), SWIM_FILE);
+
+    want("open", swim_open(&m, path, &settings, 1), SWIM_OK);
+    want("open again", swim_open(&m, path, &settings, 1), SWIM_LOCKED);
+    want("open memory over it", swim_open_memory(&m, &settings, 1), SWIM_IS_OPEN);
+    want("open by another", swim_open(&other, path, &settings, 1), SWIM_LOCKED);
+    want("next of none", swim_next_datagram(&m, &to, bytes, sizeof bytes, &n), SWIM_NOTHING);
+    holds(n == 77 && to.port == 2, "NOTHING writes nothing");
+    want("join no endpoint", swim_join(&m, none), SWIM_NO_ENDPOINT);
+    want("receive no endpoint", swim_receive(&m, none, bytes, 1), SWIM_NO_ENDPOINT);
+    want("receive null bytes", swim_receive(&m, peer, NULL, 1), SWIM_NULL);
+    want("receive nothing", swim_receive(&m, peer, NULL, 0), SWIM_OK);
+    want("receive noise", swim_receive(&m, peer, noise, sizeof noise), SWIM_OK);
+    want("notes", swim_notes(&m, notes, &n), SWIM_OK);
+    holds(n == 1 && notes[0] == 1, "one note, BadDatagram");
+    want("join", swim_join(&m, peer), SWIM_OK);
+    want("tick while waiting", swim_tick(&m, 1), SWIM_WAITING);
+    want("join while waiting", swim_join(&m, peer), SWIM_WAITING);
+    want("leave while waiting", swim_leave(&m), SWIM_WAITING);
+    want("receive while waiting", swim_receive(&m, peer, noise, 3), SWIM_WAITING);
+    want("members while waiting", swim_members(&m, rows, SWIM_MEMBERS_MAX, &n), SWIM_OK);
+    want("keep peers while waiting", swim_keep_peers(&m), SWIM_OK);
+    want("next null to", swim_next_datagram(&m, NULL, bytes, sizeof bytes, &n), SWIM_NULL);
+    want("next null bytes", swim_next_datagram(&m, &to, NULL, 0, &n), SWIM_NULL);
+    want("next null length", swim_next_datagram(&m, &to, bytes, sizeof bytes, NULL), SWIM_NULL);
+    want("next short", swim_next_datagram(&m, &to, bytes, 31, &n), SWIM_SHORT);
+    want("next", swim_next_datagram(&m, &to, bytes, sizeof bytes, &n), SWIM_OK);
+    holds(to.address == LOOPBACK && to.port == peer.port && n >= 32, "it goes to the peer");
+    want("no next", swim_next_datagram(&m, &to, bytes, sizeof bytes, &n), SWIM_NOTHING);
+    want("members null count", swim_members(&m, rows, 1, NULL), SWIM_NULL);
+    want("members null rows", swim_members(&m, NULL, 1, &n), SWIM_NULL);
+    want("members no room", swim_members(&m, NULL, 0, &n), SWIM_OK);
+    holds(n == 1, "one member, itself");
+    want("status null out", swim_get_status(&m, NULL), SWIM_NULL);
+    want("status", swim_get_status(&m, &status), SWIM_OK);
+    holds(status.phase == SWIM_RUNNING && status.number == 1 && status.first == 1, "running, with number 1");
+    long before = allocations;
+    for (uint64_t i = 0; i < 1000; i++)
+        if (swim_tick(&m, i) != SWIM_OK || swim_receive(&m, peer, noise, i % 600) != SWIM_OK)
+            holds(0, "ticks and noise are taken");
+    holds(allocations == before, "no event that saves nothing allocates");
+    size_t length = suspicion(bytes, 1);
+    want("suspicion", swim_receive(&m, peer, bytes, length), SWIM_OK);
+    holds(take_all(&m) == 2, "it says 2 of itself");
+    want("leave", swim_leave(&m), SWIM_OK);
+    take_all(&m);
+    want("status after", swim_get_status(&m, &status), SWIM_OK);
+    holds(status.phase == SWIM_LEFT, "it has left");
+    want("tick after leave", swim_tick(&m, 1), SWIM_OK);
+    want("close", swim_close(&m), SWIM_OK);
+    want("close again", swim_close(&m), SWIM_CLOSED);
+    want("tick after close", swim_tick(&m, 1), SWIM_CLOSED);
+
+    uint64_t last = status.number;
+    want("a next life", swim_open(&m, path, &settings, 3), SWIM_OK);
+    want("its status", swim_get_status(&m, &status), SWIM_OK);
+    holds(status.first > last && status.number == status.first, "it begins above");
+    want("its peers", swim_stored_peers(&m, peers, &n), SWIM_OK);
+    want("close it", swim_close(&m), SWIM_OK);
+    holds(live == 0, "all memory is given back");
+    for (int code = -1; code < 64; code++)
+        holds(strlen(swim_name(code)) > 0 && strlen(swim_text(code)) > 0, "each code has a name and a text");
+    unlink(path);
+}
+
+/* Each allocation of an opening is refused once. */
+static void refuse(void) {
+    struct swim_settings settings = sound();
+    long tried;
+    for (tried = 1; tried < 1000; tried++) {
+        struct swim_member m = SWIM_CLOSED_MEMBER;
+        allocations = 0;
+        refused_at = tried;
+        int code = swim_open_memory(&m, &settings, 1);
+        int was_refused = allocations >= tried;
+        refused_at = 0;
+        if (!was_refused) {
+            want("an opening with all memory", code, SWIM_OK);
+            want("its end", swim_close(&m), SWIM_OK);
+            break;
+        }
+        holds(code == SWIM_OK || code == SWIM_NO_MEMORY || code == SWIM_OPEN_NO_MEMORY || code == SWIM_MAKE_DEVICE
+                  || code == SWIM_OPEN_DEVICE, swim_name(code));
+        want("the handle is as the code says", swim_tick(&m, 1), code == SWIM_OK ? SWIM_OK : SWIM_CLOSED);
+        swim_close(&m);
+        holds(live == 0, "a refused opening leaves no memory");
+        want("it can be tried again", swim_open_memory(&m, &settings, 1), SWIM_OK);
+        want("and ended", swim_close(&m), SWIM_OK);
+    }
+    holds(tried > 3 && tried < 1000, "allocations were refused");
+    printf("%ld allocations were refused\n", tried - 1);
+}
+
+/* A life with three suspicions. It gives the greatest own number that was said, by this life or before. */
+static uint64_t live_once(const char *path, uint64_t said) {
+    struct swim_settings settings = sound();
+    struct swim_member m = SWIM_CLOSED_MEMBER;
+    struct swim_status status;
+    int code = swim_open(&m, path, &settings, 1);
+    if (code != SWIM_OK) {
+        holds(code == SWIM_OPEN_DEVICE || code == SWIM_FILE, swim_name(code));
+        return said;
+    }
+    want("status", swim_get_status(&m, &status), SWIM_OK);
+    holds(status.first > said, "a life begins above all that was said");
+    for (int i = 0; i < 3; i++) {
+        uint8_t bytes[SWIM_DATAGRAM_MAX];
+        uint64_t now;
+        want("status", swim_get_status(&m, &status), SWIM_OK);
+        want("suspicion", swim_receive(&m, peer, bytes, suspicion(bytes, status.number)), SWIM_OK);
+        now = take_all(&m);
+        said = now > said ? now : said;
+        code = swim_keep_peers(&m);
+        holds(code == SWIM_OK || code == SWIM_KEEP_DEVICE || code == SWIM_KEEP_CHANGED, swim_name(code));
+    }
+    want("close", swim_close(&m), SWIM_OK);
+    return said;
+}
+
+/* Each write and sync of some lives is failed once. */
+static void fail(void) {
+    struct swim_settings settings = sound();
+    const char *path = "fail.state";
+    long tried;
+    for (tried = 1; tried < 1000; tried++) {
+        uint64_t said = 0;
+        unlink(path);
+        failed_at = 0;
+        want("make", swim_make(path, &settings), SWIM_OK);
+        disk_calls = 0;
+        failed_at = tried;
+        said = live_once(path, said);
+        long calls = disk_calls;
+        said = live_once(path, said);
+        failed_at = 0;
+        said = live_once(path, said);
+        holds(said > 0, "something was said");
+        if (calls < tried)
+            break;
+    }
+    unlink(path);
+    holds(live == 0, "all memory is given back");
+    holds(tried > 10 && tried < 1000, "calls were failed");
+    printf("%ld writes and syncs were failed\n", tried - 1);
+}
+
+/* Random calls. */
+
+static uint64_t state;
+
+static uint64_t draw(void) {
+    uint64_t z = state += 0x9e3779b97f4a7c15u;
+    z = (z ^ (z >> 30)) * 0xbf58476d1ce4e5b9u;
+    z = (z ^ (z >> 27)) * 0x94d049bb133111ebu;
+    return z ^ (z >> 31);
+}
+
+static uint64_t below(uint64_t n) { return draw() % n; }
+
+static uint8_t kept[SWIM_DATAGRAM_MAX];
+static size_t kept_length;
+
+/* Some bytes: noise, or a datagram that was sent, or a suspicion, with some bytes changed. */
+static size_t some_bytes(uint8_t *bytes, size_t room, uint64_t number) {
+    size_t length = below(room + 1);
+    uint64_t kind = below(3);
+    if (kind == 0) {
+        for (size_t i = 0; i < length; i++)
+            bytes[i] = (uint8_t)draw();
+        return length;
+    }
+    if (kind == 1) {
+        memcpy(bytes, kept, kept_length);
+        length = kept_length;
+    } else {
+        length = suspicion(bytes, number + below(3));
+    }
+    for (uint64_t i = below(4); i > 0 && length > 0; i--)
+        bytes[below(length)] = (uint8_t)draw();
+    return length;
+}
+
+static struct swim_endpoint some_endpoint(void) {
+    struct swim_endpoint at = {LOOPBACK, (uint16_t)(7795 + below(300))};
+    if (below(50) == 0)
+        at.port = 0;
+    return at;
+}
+
+static int one_call(struct swim_member *m) {
+    uint8_t bytes[700], notes[SWIM_NOTES_MAX];
+    struct swim_endpoint to, peers[SWIM_PEERS_MAX];
+    struct swim_row rows[SWIM_MEMBERS_MAX];
+    struct swim_status status = {0, 0, 0, 0, 0, 0};
+    struct swim_settings settings = sound();
+    size_t n = 0;
+    int code;
+    switch (below(64)) {
+    case 0: return below(256) == 0 ? swim_leave(m) : SWIM_OK;
+    case 1: return swim_keep_peers(m);
+    case 2: return swim_members(m, rows, below(SWIM_MEMBERS_MAX + 1), &n);
+    case 3: return swim_notes(m, notes, &n);
+    case 4: return swim_stored_peers(m, peers, &n);
+    case 5: return swim_get_status(m, &status);
+    case 6: return swim_join(m, some_endpoint());
+    case 7: return swim_send_failed(m, (uint32_t)draw());
+    case 8: return swim_receive_failed(m);
+    case 9: return below(32) == 0 ? swim_close(m) : SWIM_OK;
+    case 10: return swim_open_memory(m, &settings, 1 + (uint32_t)below(4));
+    default: break;
+    }
+    if (below(3) == 0)
+        return swim_tick(m, draw());
+    if (below(2) == 0) {
+        code = swim_next_datagram(m, &to, bytes, below(4) == 0 ? below(600) : SWIM_DATAGRAM_MAX, &n);
+        if (code == SWIM_OK)
+            memcpy(kept, bytes, kept_length = n);
+        return code;
+    }
+    if (below(8) == 0)
+        swim_get_status(m, &status);
+    n = some_bytes(bytes, sizeof bytes, status.number);
+    return swim_receive(m, some_endpoint(), bytes, n);
+}
+
+static void random_calls(uint64_t seed, long count) {
+    struct swim_member m = SWIM_CLOSED_MEMBER;
+    long by_code[64] = {0};
+    state = seed;
+    for (long i = 0; i < count; i++) {
+        int code = one_call(&m);
+        holds(code >= 0 && code < 64 && strcmp(swim_name(code), "unknown code") != 0, "a code that swim.h has");
+        by_code[code & 63]++;
+    }
+    swim_close(&m);
+    holds(live == 0, "all memory is given back");
+    for (int code = 0; code < 64; code++)
+        if (by_code[code] > 0)
+            printf("%s %ld\n", swim_name(code), by_code[code]);
+}
+
+int main(int argc, char **argv) {
+    if (argc >= 2 && strcmp(argv[1], "misuse") == 0)
+        misuse();
+    else if (argc >= 2 && strcmp(argv[1], "refuse") == 0)
+        refuse();
+    else if (argc >= 2 && strcmp(argv[1], "fail") == 0)
+        fail();
+    else if (argc == 4 && strcmp(argv[1], "random") == 0)
+        random_calls(strtoull(argv[2], NULL, 10), atol(argv[3]));
+    else
+        return 2;
+    printf("%d looks, %d wrong\n", made, wrong);
+    return wrong != 0;
+}
