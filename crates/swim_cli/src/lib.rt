@@ -5,16 +5,12 @@ mod asking;
 mod command_line;
 mod descriptors;
 mod ending;
-mod locked_file;
 mod log_stream;
 mod making;
-mod own_file;
 mod paging;
 mod running;
 mod sockets;
 mod stamped;
-mod starting;
-mod watched_disk;
 mod watched_doors;
 mod watching;
 

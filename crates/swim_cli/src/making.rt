@@ -1,9 +1,11 @@
 //! `swim init`.
 
 use crate::ending::Ending;
-use crate::locked_file::{load, open_locked, sync_folder};
 use std::fs::File;
+use std::io;
 use std::rt::Files;
+use swim_disk::FileDisk;
+use swim_start::{open_locked, sync_folder};
 use swim_state::{InitFault, Owner, init};
 use swim_wire::NUMBER_MAX;
 use swim_words::read_endpoint;
@@ -21,8 +23,10 @@ pub fn make<R: Files<File = File> + AllocGlobal>(
     if ceiling > NUMBER_MAX {
         return Err(Ending::Init(InitFault::Range));
     }
-    let opened = open_locked(rt, file, true)?;
-    let mut disk = load(rt.alloc(), opened, Ending::Init(InitFault::Device))?;
+    let refused = |error: io::Error| Ending::of(&error, Ending::File);
+    let opened = open_locked(rt, file, true).map_err(refused)?;
+    let loaded = FileDisk::load(rt.alloc(), opened);
+    let mut disk = loaded.map_err(|error| Ending::of(&error, Ending::Init(InitFault::Device)))?;
     init(&mut disk, Owner { group, me }, ceiling).map_err(Ending::Init)?;
-    sync_folder(rt, file).map_err(|error| Ending::of(&error, Ending::File))
+    sync_folder(rt, file).map_err(refused)
 }

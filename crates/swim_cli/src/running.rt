@@ -1,21 +1,13 @@
 //! `swim run`.
 
-ghost use Rattle.std.specs.Prelude.{◌≡◌, ◌↔◌, [], IfOk, IsOk, Ok, Err};
-ghost use Rattle.swim_disk.specs.File.{FileView, file_state};
-ghost use Rattle.swim_cli.specs.WatchedDisk.{watched_state};
-ghost use Rattle.swim_cli.specs.declared.watched_disk.WatchedDisk.{WatchedDisk};
+ghost use Rattle.std.specs.Prelude.{◌≡◌, ◌≢◌, ◌↔◌, [], IfOk, IsOk, Ok, Err};
 ghost use Rattle.swim_member.specs.Checks.{AreSound};
-ghost use Rattle.swim_node.specs.Lives.{BeginsAbove, IsLiving, life_of};
 ghost use Rattle.swim_serve.specs.declared.serving.MemberEnd.TheVariants as member_ends;
 ghost use Rattle.swim_settings.specs.Ranges.{AreInRange};
 ghost use Rattle.swim_cli.specs.declared.ending.Ending.TheVariants as endings;
 
 use crate::ending::Ending;
-use crate::locked_file::{load, open_locked};
-use crate::own_file::OwnFile;
 use crate::sockets::{bind_doors, own_address, wait_of};
-use crate::starting::{ending_of, generators, key_of, paces_of, peers_of};
-use crate::watched_disk::{Watch, WatchedDisk};
 use crate::watched_doors::WatchedDoors;
 use log::{Log, info};
 use std::alloc::Global;
@@ -28,10 +20,13 @@ use std::time::{Clock, Duration};
 use swim_disk::FileDisk;
 use swim_member::Settings;
 use swim_net::{Waits, bind_datagrams};
-use swim_node::{Node, OpenFault};
+use swim_node::OpenFault;
 use swim_serve::{Beat, Desk, Fault, Logs, MemberEnd, Outside, run_member};
 use swim_settings::{Refusal, RunSettings, read_settings};
 use swim_shell::{Joiner, Receiver, Ticker};
+use swim_start::{
+    FileNode, OwnFile, Watch, generators, key_of, open, open_locked, paces_of, peers_of,
+};
 use swim_state::RecoverFault;
 
 /// The settings that a file says.
@@ -55,11 +50,8 @@ const PEERS_PERIODS: u64 = 2;
 /// What the opening of a state file answers where a call of the disk failed.
 const DEVICE: OpenFault = OpenFault::Refused(RecoverFault::Device);
 
-/// A member on a state file that this watches.
-type FileNode<W> = Node<WatchedDisk<FileDisk, W>>;
-
-/// Opens the member on its state file, which is locked. It is written only while the watch says that it may be.
-fn open<W: Watch + Drop>(
+/// Opens the member on its state file, which is written only while the watch says that it may be.
+fn open_node<W: Watch + Drop>(
     alloc: Global,
     file: File,
     watch: W,
@@ -67,19 +59,25 @@ fn open<W: Watch + Drop>(
     limit: u32,
 ) -> Result<FileNode<W>, Ending>
     requires { AreSound settings }
-    ensures entries { IfOk result (λ node. node.entries ≡ []) }
-
-    // A life has begun on what the file had when it was opened. Its first number is above all that the life before said,
-    // if the file kept what it had synced: if a crash may have left that of it.
-    ensures begins { IfOk result (λ node. (opened : WatchedDisk FileView W)
-        × BeginsAbove (watched_state file_state) node.owner opened node.first
-        × IsLiving (watched_state file_state) node.owner
-        (life_of settings limit opened [] node)) }
+    ensures { IfOk result (λ node. node.entries ≡ []) }
 {
-    let disk = load(alloc, file, Ending::Open(DEVICE))?;
-    match Node::open(alloc, WatchedDisk::new(disk, watch), settings, limit) {
+    let loaded = FileDisk::load(alloc, file);
+    let disk = loaded.map_err(|error| Ending::of(&error, Ending::Open(DEVICE)))?;
+    match open(alloc, disk, watch, settings, limit) {
         Ok(node) => Ok(node),
-        Err((_, fault)) => Err(Ending::Open(fault)),
+        Err(fault) => Err(Ending::Open(fault)),
+    }
+}
+
+/// The ending of a member that a fault ended.
+fn ending_of(fault: Fault) -> Ending
+    ensures memory { fault ≡ Fault.Memory → result ≡ Ending.Memory }
+    ensures worker { (end : _) → fault ≡ Fault.Worker end → result ≡ Ending.Worker end }
+    ensures unexpelled { result ≢ Ending.Expelled }
+{
+    match fault {
+        Fault::Memory => Ending::Memory,
+        Fault::Worker(end) => Ending::Worker(end),
     }
 }
 
@@ -114,9 +112,9 @@ pub fn run<T: Threads + Wait + Log + Clock + Send + Sync + Copy + Drop>(
         rejoin,
         ends_expelled,
     } = settings_at(rt, config)?;
-    let opened = open_locked(rt, file.as_str(), false)?;
-    let own = OwnFile::new(*rt, rt.alloc(), file.as_str(), &opened);
-    let own = own.map_err(|error| Ending::of(&error, Ending::File))?;
+    let unopened = |error: io::Error| Ending::of(&error, Ending::File);
+    let opened = open_locked(rt, file.as_str(), false).map_err(unopened)?;
+    let own = OwnFile::new(*rt, rt.alloc(), file.as_str(), &opened).map_err(unopened)?;
     let watched = own.try_clone().map_err(|_| Ending::Memory)?;
     let wait = wait_of(tick_ms);
     let at = own_address(settings.me)?;
@@ -125,10 +123,10 @@ pub fn run<T: Threads + Wait + Log + Clock + Send + Sync + Copy + Drop>(
     let (inbound, link, datagrams) = bound.map_err(refused)?;
     let (waits, connections) = Waits::new(rt, rt.alloc()).map_err(refused)?;
     let doors = bind_doors(rt, logged, &waits, control, wait)?;
-    let node = open(rt.alloc(), opened, watched, settings, limit)?;
+    let node = open_node(rt.alloc(), opened, watched, settings, limit)?;
     let number = node.first();
     info!(logged; "up with number {number}, at {}, control at {control}", settings.me);
-    let (rng, draws) = generators(key_of(rt, random_key)?);
+    let (rng, draws) = generators(key_of(rt, random_key).map_err(unopened)?);
     let peers = peers_of(settings.me, join.as_slice(), node.peers().as_slice());
     let paces = paces_of(&settings, rejoin, tick_ms);
     let joiner = Joiner::new(settings.me, settings.rules_of(), peers, paces, draws);

@@ -1,11 +1,10 @@
 //! Doors whose thread watches a file meanwhile.
 
-use crate::own_file::OwnFile;
-use crate::watched_disk::Watch;
 use log::{Log, error};
 use std::fs::File;
 use std::rt::Files;
 use swim_shell::Doors;
+use swim_start::{OwnFile, Watch};
 
 /// Doors that look after each of their waits whether the state file is still the member's own, and say in the log once where it
 /// is not.

@@ -2,7 +2,7 @@
 use Rattle.std.proofs.Common.{◌≡◌, ℕ, ◌+◌, ◌==◌, ◌&&◌, ◌||◌, leb, Bool, true, false, true≢false, List, [], ◌∷◌, ◌++◌, length, refl, ap, sym, subst, ◌∙◌, arith, inl, inr, ⊎_elim, length-append}
 use Rattle.std.proofs.lemmas.List.{append-nil}
 use Rattle.std.proofs.lemmas.Bool.Decides.{nat_tests}
-use Rattle.std.specs.Prelude.{Option, Some, IfSome}
+use Rattle.std.specs.Prelude.{Option, Some, None, IfSome, IsSomeAnd, Result, Ok, Err, IfOk}
 use mathlib.Core.List.{IsPrefix}
 use Rattle.swim_member.specs.declared.event.Event.{Event}
 use Rattle.swim_node.specs.declared.entry.Entry.{Entry}
@@ -21,6 +21,23 @@ use Rattle.swim_serve.proofs.Fitting.{Fits}
 
 pub of_some : {A : Type 0} (P : A → Type 0) (o : Option A) (x : A) → o ≡ Some x → IfSome o P → P x
 of_some P o x is h = subst (λ w. IfSome w P) is h
+
+pub there : {A : Type 0} (P : A → Type 0) (o : Option A) (x : A) → o ≡ Some x → P x → IsSomeAnd o P
+there P o x is h = subst (λ w. IsSomeAnd w P) (sym is) h
+
+-- what is there has both
+pub record Both {A : Type 0} (P Q : A → Type 0) : Type 0 where
+  pub left : A
+  pub took : P left
+  pub did : Q left
+
+pub found : {A : Type 0} (P Q : A → Type 0) (o : Option A) → IsSomeAnd o P → IfSome o Q → Both P Q
+found P Q (Some x) p q = record { left = x; took = p; did = q }
+found P Q None p q = absurd p
+
+pub if_ok : {A E : Type 0} (P Q : A → Type 0) (r : Result A E) → ((x : A) → P x → Q x) → IfOk r P → IfOk r Q
+if_ok P Q (Ok x) step h = step x h
+if_ok P Q (Err e) step h = tt
 
 both : (a b : Bool) → (a && b) ≡ true → b ≡ true
 both true b h = h

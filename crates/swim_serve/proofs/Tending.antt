@@ -1,39 +1,15 @@
 -- Turns of a desk, put together.
 use Rattle.std.proofs.Common.{◌≡◌, ◌⊎◌, ℕ, ◌+◌, List, [], ◌∷◌, ◌++◌, refl, ap, sym, subst, ◌∙◌, inl, inr, true≢false}
 use Rattle.std.specs.Prelude.{Option, Some, None, IfSome, IsSome}
-use Rattle.swim_wire.specs.declared.update.Update.{Update}
-use Rattle.swim_member.specs.declared.event.Event.{Event}
-use Rattle.swim_member.specs.declared.event.Event.TheVariants as event
-use Rattle.swim_node.specs.declared.entry.Entry.{Entry}
 use Rattle.swim_shell.specs.declared.caller.Refusal.{Refusal}
 use Rattle.swim_shell.specs.declared.conversation.Conversation.{Conversation}
 use Rattle.swim_shell.specs.declared.conversation.ControlEnd.{ControlEnd}
 use Rattle.swim_shell.specs.declared.conversation.ControlEnd.TheVariants as ends
 use Rattle.swim_shell.specs.Calls.{CallerView}
-use Rattle.swim_shell.specs.Joins.{JoinerView, IsPeer, IsDrawnFrom, IsAsked, AreAsked, Asks, AsksInVain, pages_of}
+use Rattle.swim_shell.specs.Joins.{JoinerView, Asks, AsksInVain}
 use Rattle.swim_shell.specs.Work.{Goes}
+use Rattle.swim_shell.proofs.Asking.{asks_of, in_vain_of}
 use Rattle.swim_serve.specs.Desks.{DeskView, desk_of, Step, Asking, Opening, Resuming, Pausing, Ending, OfConnection, OfMember, IsTurnIn, Steps, IsOpen, Tending, TendedBy, Opened, IsNewTalk, TalkGoes, Opens}
-
--- what a joiner may ask depends on whose it is and its list alone
-is_asked_same : (j k : JoinerView) (rows : List Update) (e : Event) → k.me ≡ j.me → k.peers.list ≡ j.peers.list → IsAsked k rows e → IsAsked j rows e
-is_asked_same j k rows (event.Members after) m l h = h
-is_asked_same j k rows (event.Join x) m l h = subst (λ w. IsPeer w x ⊎ IsDrawnFrom j.me rows x) l (subst (λ w. IsPeer k.peers.list x ⊎ IsDrawnFrom w rows x) m h)
-is_asked_same j k rows (event.Tick d) m l h = absurd h
-is_asked_same j k rows (event.Datagram f b) m l h = absurd h
-is_asked_same j k rows event.ReceiveFailed m l h = absurd h
-is_asked_same j k rows (event.SendFailed c) m l h = absurd h
-is_asked_same j k rows event.Leave m l h = absurd h
-
-are_asked_same : (j k : JoinerView) (rows : List Update) (es : List Entry) → k.me ≡ j.me → k.peers.list ≡ j.peers.list → AreAsked k rows es → AreAsked j rows es
-are_asked_same j k rows [] m l h = tt
-are_asked_same j k rows (e ∷ es) m l (h, rest) = (is_asked_same j k rows e.event m l h, are_asked_same j k (rows ++ e.reply.page.items) es m l rest)
-
-asks_same : (j k : JoinerView) (p q : CallerView) → k.me ≡ j.me → k.peers.list ≡ j.peers.list → Asks k p q → Asks j p q
-asks_same j k p q m l a = record { entries = a.entries; gains = a.gains; asked = a.asked; are_asked = are_asked_same j k [] a.entries m l a.are_asked }
-
-asks_in_vain_same : (limit : ℕ) (why : Refusal) (j k : JoinerView) (p q : CallerView) → k.me ≡ j.me → k.peers.list ≡ j.peers.list → AsksInVain limit why k p q → AsksInVain limit why j p q
-unfolding asks_same
-asks_in_vain_same limit why j k p q m l a = record { between = a.between; asks = asks_same j k p a.between m l a.asks; last = a.last; is_asked = is_asked_same j k (pages_of a.asks.entries) a.last m l a.is_asked; refused = a.refused }
 
 module _ {S : Type 0} (fresh : S → Type 0) (worked : S → CallerView → S → CallerView → ℕ → Type 0) (ended : ControlEnd → S → CallerView → S → CallerView → ℕ → Type 0) (limit : ℕ) where
   steps_more : (j : JoinerView) (x m y : Option S) (us vs ws : List S) (p q r : CallerView) (ss ts : List (Step S)) → Steps fresh worked ended limit j x us p ss m vs q → Steps fresh worked ended limit j m vs q ts y ws r → Steps fresh worked ended limit j x us p (ss ++ ts) y ws r
@@ -52,9 +28,9 @@ module _ {S : Type 0} (fresh : S → Type 0) (worked : S → CallerView → S �
   tending_begun j x us c d p e start = record { steps = []; since = Some c; then = p; done = (sym e, refl, refl); goes_on = (d, 0, refl, start p); me = refl; list = refl }
 
   asked_from : (s : DeskView S) (j k : JoinerView) (x y since : Option S) (us vs : List S) (p q r then : CallerView) (n : ℕ) (ss : List (Step S)) → x ≡ None → Asks j p q → Opened fresh worked ended limit q us y vs → k.me ≡ j.me → k.peers.list ≡ j.peers.list → j.me ≡ s.joiner.me → j.peers.list ≡ s.joiner.peers.list → Steps fresh worked ended limit s.joiner s.conversation s.others r ss since us then → IsOpen fresh worked ended limit since then x p → Tending fresh worked ended limit s r (desk_of k y vs) q (n + 1)
-  asked_from s j k x None None us vs p q r then n ss e asks o m l ms ls done (f, g) = record { steps = ss ++ Asking ∷ []; since = None; then = q; done = steps_more s.joiner s.conversation None None s.others us vs r then q ss (Asking ∷ []) done (refl, q, asks_same s.joiner j then q ms ls (subst (λ w. Asks j w q) g asks), (refl, o, refl)); goes_on = (refl, refl); me = m ∙ ms; list = l ∙ ls }
-  asked_from s j k x (Some c) None us vs p q r then n ss e asks (first, inl (new, same), w) m l ms ls done (f, g) = record { steps = ss ++ Asking ∷ Opening first ∷ []; since = Some first; then = q; done = steps_more s.joiner s.conversation None (Some first) s.others us vs r then q ss (Asking ∷ Opening first ∷ []) done (refl, q, asks_same s.joiner j then q ms ls (subst (λ w. Asks j w q) g asks), (refl, new, (refl, same, refl))); goes_on = (c, 0, refl, w); me = m ∙ ms; list = l ∙ ls }
-  asked_from s j k x (Some c) None us vs p q r then n ss e asks (first, inr is, w) m l ms ls done (f, g) = record { steps = ss ++ Asking ∷ Resuming first ∷ []; since = Some first; then = q; done = steps_more s.joiner s.conversation None (Some first) s.others us vs r then q ss (Asking ∷ Resuming first ∷ []) done (refl, q, asks_same s.joiner j then q ms ls (subst (λ w. Asks j w q) g asks), (refl, vs, is, (refl, refl, refl))); goes_on = (c, 0, refl, w); me = m ∙ ms; list = l ∙ ls }
+  asked_from s j k x None None us vs p q r then n ss e asks o m l ms ls done (f, g) = record { steps = ss ++ Asking ∷ []; since = None; then = q; done = steps_more s.joiner s.conversation None None s.others us vs r then q ss (Asking ∷ []) done (refl, q, asks_of s.joiner j then q ms ls (subst (λ w. Asks j w q) g asks), (refl, o, refl)); goes_on = (refl, refl); me = m ∙ ms; list = l ∙ ls }
+  asked_from s j k x (Some c) None us vs p q r then n ss e asks (first, inl (new, same), w) m l ms ls done (f, g) = record { steps = ss ++ Asking ∷ Opening first ∷ []; since = Some first; then = q; done = steps_more s.joiner s.conversation None (Some first) s.others us vs r then q ss (Asking ∷ Opening first ∷ []) done (refl, q, asks_of s.joiner j then q ms ls (subst (λ w. Asks j w q) g asks), (refl, new, (refl, same, refl))); goes_on = (c, 0, refl, w); me = m ∙ ms; list = l ∙ ls }
+  asked_from s j k x (Some c) None us vs p q r then n ss e asks (first, inr is, w) m l ms ls done (f, g) = record { steps = ss ++ Asking ∷ Resuming first ∷ []; since = Some first; then = q; done = steps_more s.joiner s.conversation None (Some first) s.others us vs r then q ss (Asking ∷ Resuming first ∷ []) done (refl, q, asks_of s.joiner j then q ms ls (subst (λ w. Asks j w q) g asks), (refl, vs, is, (refl, refl, refl))); goes_on = (c, 0, refl, w); me = m ∙ ms; list = l ∙ ls }
   asked_from s j k x y (Some d) us vs p q r then n ss e asks o m l ms ls done (b, i, f, g) = absurd (cc (sym e ∙ f))
 
   -- the joiner asked, and the next conversation got the turns if there was one
@@ -62,7 +38,7 @@ module _ {S : Type 0} (fresh : S → Type 0) (worked : S → CallerView → S �
   tending_asked s j k x y us vs p q r n e asks o m l t = asked_from s j k x y t.since us vs p q r t.then n t.steps e asks o m l t.me t.list t.done t.goes_on
 
   refused_from : (s : DeskView S) (j k : JoinerView) (x y since : Option S) (us vs : List S) (p q r then : CallerView) (n : ℕ) (ss : List (Step S)) (why : Refusal) → x ≡ None → y ≡ None → vs ≡ us → AsksInVain limit why j p q → k.me ≡ j.me → k.peers.list ≡ j.peers.list → j.me ≡ s.joiner.me → j.peers.list ≡ s.joiner.peers.list → Steps fresh worked ended limit s.joiner s.conversation s.others r ss since us then → IsOpen fresh worked ended limit since then x p → TendedBy fresh worked ended limit (ends.Refused why) s r (desk_of k y vs) q (n + 1)
-  refused_from s j k x y None us vs p q r then n ss why e f same asks m l ms ls done (g, h) = record { steps = ss; since = None; then = then; done = subst (λ w. Steps fresh worked ended limit s.joiner s.conversation s.others r ss None w then) (sym same) done; ends_by = (why, f, refl, asks_in_vain_same limit why s.joiner j then q ms ls (subst (λ w. AsksInVain limit why j w q) h asks)); me = m ∙ ms; list = l ∙ ls }
+  refused_from s j k x y None us vs p q r then n ss why e f same asks m l ms ls done (g, h) = record { steps = ss; since = None; then = then; done = subst (λ w. Steps fresh worked ended limit s.joiner s.conversation s.others r ss None w then) (sym same) done; ends_by = (why, f, refl, in_vain_of limit why s.joiner j then q ms ls (subst (λ w. AsksInVain limit why j w q) h asks)); me = m ∙ ms; list = l ∙ ls }
   refused_from s j k x y (Some d) us vs p q r then n ss why e f same asks m l ms ls done (b, i, g, h) = absurd (cc (sym e ∙ g))
 
   -- a call of the joiner was refused

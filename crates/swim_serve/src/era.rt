@@ -1,6 +1,6 @@
 //! One era of a running member: its workers over one shared node, from its beginning to its end.
 
-ghost use Rattle.std.specs.Prelude.{◌≡◌, ◌∷◌, [], IfOk, IfSome, length};
+ghost use Rattle.std.specs.Prelude.{◌≡◌, ◌∷◌, [], IfOk, IfSome, IsSomeAnd, length};
 ghost use Rattle.swim_node.specs.History.{IsLegal};
 ghost use Rattle.swim_shared.specs.Passes.{IsPass, new_passes};
 ghost use Rattle.swim_shell.specs.Calls.{NewCalls};
@@ -46,6 +46,13 @@ type Share<'x, N, D, R> = Handle<'x, N, D, Outbox, R, R>;
 /// One that is shown the status.
 type Shown<'x, N, D, R> = Observing<'x, N, D, Outbox, R, R>;
 
+/// What the workers of a shared member call by, and the list in which their passes were.
+type Begun<'x, N, D, R> = (
+    Callers<'x, Share<'x, N, D, R>, R>,
+    Shown<'x, N, D, R>,
+    Vec<Pass<N>>,
+);
+
 /// What comes back of the workers of a shared member, and of control.
 type SharedEnds<'x, N, D, R, I, M, E> = Attended<'x, Share<'x, N, D, R>, R, I, RingLink<N, M>, E>;
 
@@ -90,6 +97,31 @@ fn tell<C: Caller>(caller: &mut C, count: u32) -> Result<(), Refusal>
         caller.call(Event::SendFailed { count })?;
     }
     Ok(())
+}
+
+/// Gives each worker what it calls by, and has the sender's tell what is owed; with it comes the list in which the passes were.
+/// An error is that there are too few passes, or that the call was refused so.
+fn begin<'x, N: Name, D: Disk, R: Wait + Log + Clock + Drop>(
+    rt: &'x R,
+    shared: &'x Shared<N, D, Outbox, R>,
+    held: (Vec<Pass<N>>, Vec<Watch<N>>),
+    logs: &Logs,
+    owed: u32,
+    pace: &'x Pace,
+) -> Result<Begun<'x, N, D, R>, Refusal>
+    requires { held.0.items ≡ new_passes CALLERS }
+    ensures receiver { IfOk result (λ c. known_of c.0.receiver.caller ≡ new_caller 0) }
+    ensures ticker { IfOk result (λ c. known_of c.0.ticker ≡ new_caller 1) }
+    ensures sender { IfOk result (λ c. NewCalls (new_caller 2) (known_of c.0.sender)
+        (owed_first owed)) }
+    ensures control { IfOk result (λ c. known_of c.1.handle ≡ new_caller 3) }
+    ensures room { IfOk result (λ c. c.2.items ≡ []) }
+{
+    let (mut passes, mut watches) = held;
+    let made = callers_of(rt, shared, &mut passes, &mut watches, logs, pace);
+    let (mut callers, shown) = made.ok_or(Refusal::Memory)?;
+    tell(&mut callers.sender, owed)?;
+    Ok((callers, shown, passes))
 }
 
 /// What a member works with from one era to the next.
@@ -253,6 +285,42 @@ fn take_apart<
     }
 }
 
+/// Takes apart what came back of all workers. An error is Memory where the system had no thread for one of them.
+fn together<
+    'x,
+    N: Name,
+    D: Disk,
+    R: Wait + Log + Clock + Drop,
+    I: Inbound + Drop,
+    M: Link + Drop,
+    O: Doors + Drop,
+>(
+    ends: SharedEnds<'x, N, D, R, I, M, DeskLeft<'x, N, D, R, O>>,
+    beat: Beat,
+    room: Vec<Pass<N>>,
+) -> Result<Back<N, I, M, R, O>, Refusal>
+    ensures receiver { IfOk result (λ back. IsSomeAnd ends.entry.receiver (λ left.
+        (back.outside.receiver ≡ left.worker)
+        × (back.passes.receiver ≡ left.caller.caller.pass)
+        × (back.ends.receiver ≡ left.end) × IsPass N.base back.passes.receiver)) }
+    ensures ticker { IfOk result (λ back. IsSomeAnd ends.entry.ticker (λ left.
+        (back.outside.ticker ≡ left.worker) × (back.passes.ticker ≡ left.caller.pass)
+        × (back.ends.ticker ≡ left.end) × IsPass N.base back.passes.ticker)) }
+    ensures sender { IfOk result (λ back. IsSomeAnd ends.entry.sender (λ left.
+        (back.ring ≡ left.worker.outgoing.ring) × (back.outside.link ≡ left.worker.outgoing.link)
+        × (back.passes.sender ≡ left.caller.pass)
+        × (back.ends.sender ≡ left.end) × IsPass N.base back.passes.sender)) }
+    ensures control { IfOk result (λ back. (back.outside.desk ≡ ends.entry.control.worker)
+        × (back.passes.control ≡ ends.entry.control.caller.handle.pass)
+        × (back.ends.control ≡ ends.entry.control.end) × IsPass N.base back.passes.control) }
+    ensures room { IfOk result (λ back. back.room ≡ room) }
+{
+    let receiver = ends.receiver.ok_or(Refusal::Memory)?;
+    let ticker = ends.ticker.ok_or(Refusal::Memory)?;
+    let sender = ends.sender.ok_or(Refusal::Memory)?;
+    Ok(take_apart(receiver, ticker, sender, ends.control, beat, room))
+}
+
 /// Runs the workers of a shared member, and control beside them.
 fn attend_shared<
     'x,
@@ -325,7 +393,6 @@ fn work<
         back.outside.desk.others) back.passes.control back.ends.control) }
     ensures room { IfOk result (λ back. back.room.items ≡ []) }
 {
-    let (mut passes, mut watches) = held;
     let Outside {
         receiver,
         ticker,
@@ -336,9 +403,7 @@ fn work<
         mut beat,
     } = outside;
     let pace = ending.pace();
-    let made = callers_of(rt, shared, &mut passes, &mut watches, &logs, pace);
-    let (mut callers, shown) = made.ok_or(Refusal::Memory)?;
-    tell(&mut callers.sender, owed)?;
+    let (callers, shown, room) = begin(rt, shared, held, &logs, owed, pace)?;
     let workers = Workers {
         receiver,
         ticker,
@@ -354,10 +419,7 @@ fn work<
         ending,
     };
     let ends = attend_shared(rt, ending, &mut beat, callers, workers, control);
-    let receiver = ends.receiver.ok_or(Refusal::Memory)?;
-    let ticker = ends.ticker.ok_or(Refusal::Memory)?;
-    let sender = ends.sender.ok_or(Refusal::Memory)?;
-    Ok(take_apart(receiver, ticker, sender, ends.control, beat, passes))
+    together(ends, beat, room)
 }
 
 /// What is left of an era.

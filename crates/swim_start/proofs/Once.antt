@@ -7,7 +7,7 @@ use Rattle.std.proofs.lemmas.Bool.Decides.{nat_tests}
 use Rattle.std.proofs.lemmas.List.{append-nil}
 use Rattle.std.proofs.lemmas.List.Elements.{filter-append}
 use Rattle.std.proofs.lemmas.Map.Views.{any-filter_same}
-use Rattle.swim_cli.specs.Starting.{once, others}
+use Rattle.swim_start.specs.Starting.{once, others}
 
 -- whether the peer is one of these
 abbrev pub has : ℕ → List ℕ → Bool

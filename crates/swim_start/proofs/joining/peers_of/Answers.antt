@@ -1,5 +1,5 @@
 use Rattle.std.proofs.Common.{[]}
-use Rattle.swim_cli.proofs.starting.peers_of.Goals as goal
+use Rattle.swim_start.proofs.joining.peers_of.Goals as goal
 
 pub returns : goal.returns
 returns c =

@@ -1,6 +1,6 @@
 use Rattle.std.proofs.Common.{◌≡◌, ◌+◌, ◌≤◌, ◌++◌, List, ℕ, length, take}
-use Rattle.swim_cli.specs.Starting.{once, others}
-use Rattle.swim_cli.proofs.starting.add_peers.Given as goal
+use Rattle.swim_start.specs.Starting.{once, others}
+use Rattle.swim_start.proofs.joining.add_peers.Given as goal
 
 -- what was added of the first so many peers
 pub record Kept (me : ℕ) (begun peers more : List ℕ) (count : ℕ) : Type 0 where

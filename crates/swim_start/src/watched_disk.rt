@@ -6,7 +6,7 @@ use swim_disk::{Disk, DiskFault};
 use swim_trace::Trace;
 
 /// What tells whether a disk may be written.
-pub(crate) trait Watch {
+pub trait Watch {
     /// What it has said, in order.
     ghost asked: { Self → List Bool };
 
@@ -18,7 +18,7 @@ pub(crate) trait Watch {
 /// A disk over another one, that asks its watch before each write and sync. Where the watch says no, the call fails, and so
 /// does each later write and sync: the disk below gets none of them. A read is passed on.
 #[derive(Drop)]
-pub(crate) struct WatchedDisk<D: Disk, W: Watch> {
+pub struct WatchedDisk<D: Disk, W: Watch> {
     inner: D,
     watch: W,
     is_lost: bool,
@@ -26,10 +26,10 @@ pub(crate) struct WatchedDisk<D: Disk, W: Watch> {
 }
 
 impl<D: Disk, W: Watch> WatchedDisk<D, W> {
-    ghost use Rattle.swim_cli.specs.WatchedDisk.{IsAdmitted, IsRefused, disk_below, is_lost_in, refusals_of};
+    ghost use Rattle.swim_start.specs.WatchedDisk.{IsAdmitted, IsRefused, disk_below, is_lost_in, refusals_of};
 
     /// A disk over this one, which was not lost yet.
-    pub(crate) fn new(inner: D, watch: W) -> WatchedDisk<D, W>
+    pub fn new(inner: D, watch: W) -> WatchedDisk<D, W>
         ensures inner { disk_below result ≡ inner }
         ensures own { is_lost_in result ≡ false }
         ensures none { refusals_of result ≡ 0 }
@@ -62,7 +62,7 @@ impl<D: Disk, W: Watch> WatchedDisk<D, W> {
 impl<D: Disk, W: Watch> Disk for WatchedDisk<D, W> {
     ghost use Rattle.std.specs.Prelude.{◌≤◌, length, take, drop, IfOk};
     ghost use Rattle.swim_disk.specs.Disk.{Counts, Rests, Syncs, Writes};
-    ghost use Rattle.swim_cli.specs.WatchedDisk.{IsPassedOn, PassesIfOwn, watched_state};
+    ghost use Rattle.swim_start.specs.WatchedDisk.{IsPassedOn, PassesIfOwn, watched_state};
 
     ghost state = { λ w. watched_state D.state w };
 

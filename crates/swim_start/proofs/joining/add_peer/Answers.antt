@@ -1,8 +1,8 @@
 use Rattle.std.proofs.Common.{◌≡◌, Bool, true, false, not, refl, sym, ◌∙◌}
 use Rattle.std.specs.Prelude.{◌==◌}
-use Rattle.swim_cli.proofs.Once.{has, once_more, once_there, once_without}
-use Rattle.swim_cli.proofs.starting.add_peer.Goals.{else-ne-via-then-ne+else-not-contains, else-ne-via-else-ne}
-use Rattle.swim_cli.proofs.starting.add_peer.Goals as goal
+use Rattle.swim_start.proofs.Once.{has, once_more, once_there, once_without}
+use Rattle.swim_start.proofs.joining.add_peer.Goals.{else-ne-via-then-ne+else-not-contains, else-ne-via-else-ne}
+use Rattle.swim_start.proofs.joining.add_peer.Goals as goal
 
 is_false : (b : Bool) → not b ≡ true → b ≡ false
 is_false true is = cc

@@ -36,7 +36,7 @@ impl Known {
 /// A file that was opened at a path, as it stands there. It is lost where the path names no file, another one, or this one cut
 /// short. Once lost it stays so, for all who watch it: what was written meanwhile may be in another file.
 #[derive(Drop)]
-pub(crate) struct OwnFile<R> {
+pub struct OwnFile<R> {
     files: R,
     known: Arc<Known, Global>,
     asked: Trace<bool>,
@@ -44,7 +44,7 @@ pub(crate) struct OwnFile<R> {
 
 impl<R: Files<File = File> + Copy> OwnFile<R> {
     /// This open file at this path. An error is the system's, or there was no memory.
-    pub(crate) fn new(files: R, alloc: Global, path: &str, file: &File) -> io::Result<OwnFile<R>> {
+    pub fn new(files: R, alloc: Global, path: &str, file: &File) -> io::Result<OwnFile<R>> {
         let found = file.metadata()?;
         let known = Known {
             path: String::from_str(alloc, path)?,
@@ -61,7 +61,7 @@ impl<R: Files<File = File> + Copy> OwnFile<R> {
     }
 
     /// One more who watches the file.
-    pub(crate) fn try_clone(&self) -> Result<OwnFile<R>, AllocError> {
+    pub fn try_clone(&self) -> Result<OwnFile<R>, AllocError> {
         Ok(OwnFile {
             files: self.files,
             known: Arc::try_clone(&self.known)?,
@@ -70,7 +70,7 @@ impl<R: Files<File = File> + Copy> OwnFile<R> {
     }
 
     /// Its path.
-    pub(crate) fn path(&self) -> &str {
+    pub fn path(&self) -> &str {
         self.known.path.as_str()
     }
 

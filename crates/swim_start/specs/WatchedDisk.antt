@@ -5,7 +5,7 @@ use Rattle.swim_disk.specs.Disk.{DiskState, Counts}
 use Rattle.swim_disk.specs.Fault.{fault_state}
 use Rattle.swim_disk.specs.declared.disk.DiskFault.{DiskFault}
 use Rattle.swim_disk.specs.declared.disk.DiskFault.TheVariants.{System}
-use Rattle.swim_cli.specs.declared.watched_disk.WatchedDisk.{WatchedDisk}
+use Rattle.swim_start.specs.declared.watched_disk.WatchedDisk.{WatchedDisk}
 
 -- the disk below
 abbrev pub disk_below : {D W : Type 0} → WatchedDisk D W → D

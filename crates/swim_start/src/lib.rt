@@ -1,0 +1,18 @@
+//! What a running member starts with: a state file that is its own, its generators, whom it joins, and its paces.
+#![tactic(auto)]
+
+mod drawing;
+mod joining;
+mod locked_file;
+mod opening;
+mod own_file;
+mod paces;
+mod watched_disk;
+
+pub use drawing::{generators, key_of};
+pub use joining::peers_of;
+pub use locked_file::{open_locked, sync_folder};
+pub use opening::{FileNode, open};
+pub use own_file::OwnFile;
+pub use paces::paces_of;
+pub use watched_disk::{Watch, WatchedDisk};

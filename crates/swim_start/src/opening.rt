@@ -1,0 +1,44 @@
+//! The opening of a member on its state file.
+
+ghost use Rattle.std.specs.Prelude.{◌≡◌, [], IfOk};
+ghost use Rattle.swim_disk.specs.Disk.{IsSettled};
+ghost use Rattle.swim_disk.specs.File.{FileView, file_state};
+ghost use Rattle.swim_start.specs.WatchedDisk.{disk_below, watched_state};
+ghost use Rattle.swim_start.specs.declared.watched_disk.WatchedDisk.{WatchedDisk};
+ghost use Rattle.swim_member.specs.Checks.{AreSound};
+ghost use Rattle.swim_node.specs.Lives.{BeginsAbove, IsLiving, life_of};
+
+use crate::watched_disk::{Watch, WatchedDisk};
+use std::alloc::Global;
+use swim_disk::FileDisk;
+use swim_member::Settings;
+use swim_node::{Node, OpenFault};
+
+/// A member on a state file that this watches.
+pub type FileNode<W> = Node<WatchedDisk<FileDisk, W>>;
+
+/// Opens the member on its state file, which was just loaded. It is written only while the watch says that it may be.
+pub fn open<W: Watch + Drop>(
+    alloc: Global,
+    disk: FileDisk,
+    watch: W,
+    settings: Settings,
+    limit: u32,
+) -> Result<FileNode<W>, OpenFault>
+    requires settled { IsSettled (file_state disk) }
+    requires sound { AreSound settings }
+    ensures entries { IfOk result (λ node. node.entries ≡ []) }
+
+    // A life has begun on what the file had when it was loaded. Its first number is above all that the life before said,
+    // if the file kept what it had synced: if a crash may have left that of it.
+    ensures begins { IfOk result (λ node. (opened : WatchedDisk FileView W)
+        × (disk_below opened ≡ disk)
+        × BeginsAbove (watched_state file_state) node.owner opened node.first
+        × IsLiving (watched_state file_state) node.owner
+        (life_of settings limit opened [] node)) }
+{
+    match Node::open(alloc, WatchedDisk::new(disk, watch), settings, limit) {
+        Ok(node) => Ok(node),
+        Err((_, fault)) => Err(fault),
+    }
+}
