@@ -3,6 +3,7 @@
 ghost use Rattle.std.specs.Prelude.{◌≡◌};
 ghost use Rattle.swim_settings.specs.Keys.{key_text};
 
+use crate::table::Keys;
 use std::fmt;
 
 /// A key of a settings file.
@@ -93,6 +94,12 @@ impl Key {
             Key::Rejoin => "rejoin",
             Key::Expelled => "expelled",
         }
+    }
+}
+
+impl Keys for Key {
+    fn have(text: &str) -> bool {
+        Key::ALL.iter().any(|key| key.text() == text)
     }
 }
 

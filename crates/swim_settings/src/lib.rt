@@ -5,8 +5,10 @@
 mod key;
 mod refusal;
 mod settings;
+mod table;
 mod value;
 
 pub use key::Key;
 pub use refusal::Refusal;
 pub use settings::{JOIN_MAX, RunSettings, read_settings};
+pub use table::{Keys, as_number, read_table, refuse_unknown};

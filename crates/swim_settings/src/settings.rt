@@ -6,11 +6,12 @@ ghost use Rattle.toml.specs.Parse.{parse_document};
 ghost use Rattle.toml.specs.View.{table_view};
 ghost use Rattle.swim_member.specs.Checks.{AreSound};
 ghost use Rattle.swim_settings.specs.Ranges.{AreInRange};
-ghost use Rattle.swim_settings.specs.Says.{AreTakenBefore, IsNumber, IsOfKey, IsOfText, IsOfUnknown, IsReason, Says, SaysMember};
+ghost use Rattle.swim_settings.specs.Says.{AreTakenBefore, IsNumber, IsOfKey, IsReason, Says, SaysMember};
 ghost use Rattle.swim_settings.specs.declared.key.Key.TheVariants as keys;
 
 use crate::key::Key;
 use crate::refusal::Refusal;
+use crate::table::{read_table, refuse_unknown};
 use crate::value::{
     read_bytes, read_choice, read_endpoint_at, read_endpoints, read_number, read_text, read_within,
 };
@@ -44,30 +45,6 @@ pub struct RunSettings {
     pub rejoin: u64,
     /// `expelled`: whether the member ends once it is expelled.
     pub ends_expelled: bool,
-}
-
-/// The bytes as a TOML table.
-fn read_table(alloc: Global, bytes: &[u8]) -> Result<Table, Refusal>
-    ensures table { IfOk result (λ table. parse_document bytes.now ≡ Some (table_view table)) }
-    ensures refused { IfErr result (IsOfText bytes.now) }
-{
-    match toml::table_from_slice(alloc, bytes) {
-        Ok(table) => Ok(table),
-        Err(error) if error.is_memory() => Err(Refusal::Memory),
-        Err(_) => Err(Refusal::Toml),
-    }
-}
-
-/// Refuses a key that is none of the known ones; of several the least, by its bytes.
-fn refuse_unknown(alloc: Global, table: &Table) -> Result<(), Refusal>
-    ensures { IfErr result IsOfUnknown }
-{
-    for key in table.keys() {
-        if !Key::ALL.iter().any(|known| known.text() == key.as_str()) {
-            return Err(Refusal::Unknown(String::from_str(alloc, key.as_str())?));
-        }
-    }
-    Ok(())
 }
 
 /// What the member is told, with this group and endpoint, and a block of 1 and rules 1: their keys come
@@ -161,6 +138,6 @@ pub fn read_settings(alloc: Global, bytes: &[u8]) -> Result<RunSettings, Refusal
 {
     let table = read_table(alloc, bytes)?;
     let settings = read_keys(alloc, &table)?;
-    refuse_unknown(alloc, &table)?;
+    refuse_unknown::<Key>(alloc, &table)?;
     Ok(settings)
 }

@@ -3,31 +3,21 @@
 ghost use Rattle.std.specs.Prelude.{◌≡◌, ◌≢◌, ◌^◌, ◌<◌, ◌≤◌, List, ℕ, IfSome, IfNone, IfOk, IfErr};
 ghost use Rattle.std.specs.Prelude.{Ok, Some, None, option_and_then, option_map};
 ghost use Rattle.hex.specs.Hex.{decode_of};
-ghost use Rattle.toml.specs.Data.{as_integer, as_str};
+ghost use Rattle.toml.specs.Data.{as_str};
 ghost use Rattle.toml.specs.View.{view, items_view, table_view};
 ghost use Rattle.swim_wire.specs.Numbers.{IsEndpoint};
 ghost use Rattle.swim_words.specs.Words.{endpoint_text, No};
-ghost use Rattle.swim_settings.specs.Says.{value_at, text_at, natural_of, number_at, IsNumber, IsWithin, IsEndpointAt, IsChoice, AreBytes, AreTexts, AreEndpoints};
+ghost use Rattle.swim_settings.specs.Says.{value_at, text_at, number_at, IsNumber, IsWithin, IsEndpointAt, IsChoice, AreBytes, AreTexts, AreEndpoints};
 ghost use Rattle.swim_settings.specs.declared.refusal.Refusal.TheVariants as refusals;
 
 use crate::key::Key;
 use crate::refusal::Refusal;
+use crate::table::as_number;
 use arrayvec::ArrayVec;
 use hex::FromHex;
 use swim_wire::Endpoint;
 use swim_words::read_endpoint;
 use toml::{Table, Value};
-
-/// The number that a value is, unless it is none or below 0.
-fn as_number(value: &Value) -> Option<u64>
-    ensures number { result ≡ option_and_then natural_of (as_integer (view value.now)) }
-    ensures high { IfSome result (λ number. number < 2 ^ 63) }
-{
-    match value.as_integer() {
-        Some(number) => u64::try_from(number).ok(),
-        None => None,
-    }
-}
 
 /// The endpoint whose text a value is.
 fn as_endpoint(value: &Value) -> Option<Endpoint>

@@ -1,11 +1,10 @@
 -- Plans, and what the table of a plan says.
 use Rattle.std.specs.Prelude.{◌≡◌, ◌⊎◌, ◌+◌, ◌*◌, ◌/◌, ◌<◌, ◌≤◌, ◌||◌, ℕ, List}
 use Rattle.std.specs.Prelude.{slice_index, slice_set}
-use Rattle.std.specs.Prelude.{nat_lt, cond, IsUtf8, IsSome, Option, Some, None, option_and_then}
+use Rattle.std.specs.Prelude.{nat_lt, cond, IsSome, Option, Some, None, option_and_then}
 use Rattle.toml.specs.Parse.{parse_document}
 use Rattle.toml.specs.Data.{Data, Members, get_member, as_integer}
-use Rattle.swim_settings.specs.Says.{natural_of}
-use Rattle.swim_settings.specs.declared.refusal.Refusal.TheVariants as texts
+use Rattle.swim_settings.specs.Says.{natural_of, IsOfText, IsOfUnknown}
 use Rattle.swim_simulate.specs.declared.key.Key.{Key}
 use Rattle.swim_simulate.specs.declared.key.Key.TheVariants.{Minutes, TickMs, Kills}
 use Rattle.swim_simulate.specs.declared.key.Key.TheVariants.{Direct, Period, Pauses}
@@ -84,12 +83,6 @@ pub record IsTooLate (key : Key) (table : Members) : Type 0 where
   pub is : key ≡ Direct
   pub late : number_at Period plan ≤ number_at Direct plan
 
--- the refusal is of a key that is unknown, or memory ran out
-abbrev pub IsUnknownKey : PlanRefusal → Type 0
-IsUnknownKey (refusals.Text texts.Memory) = Unit
-IsUnknownKey (refusals.Text (texts.Unknown key)) = Unit
-IsUnknownKey _ = ⊥
-
 -- the text is refused with reason: it is no TOML, or
 -- its table has a number that its key does not take
 abbrev pub IsPlanReason : List ℕ → PlanRefusal → Type 0
@@ -97,5 +90,4 @@ IsPlanReason text (refusals.Key key) =
     (table : Members)
     × (parse_document text ≡ Some table)
     × (IsFirstKey key table ⊎ IsTooLate key table)
-IsPlanReason text (refusals.Text texts.Toml) = IsUtf8 text → parse_document text ≡ None
-IsPlanReason text _ = Unit
+IsPlanReason text (refusals.Text refusal) = IsOfText text refusal ⊎ IsOfUnknown refusal

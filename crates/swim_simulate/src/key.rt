@@ -4,6 +4,7 @@ ghost use Rattle.std.specs.Prelude.{◌≡◌, ◌<◌};
 ghost use Rattle.swim_simulate.specs.Keys.{plan_key, rank_of, range_of};
 
 use std::fmt;
+use swim_settings::Keys;
 
 /// How many keys there are.
 pub const KEYS: usize = 30;
@@ -243,6 +244,24 @@ impl Key {
             Key::PauseFor => 28,
             Key::FailingSyncs => 29,
         }
+    }
+}
+
+impl Key {
+    /// The key with this text, if there is one.
+    pub fn of(text: &[u8]) -> Option<Key> {
+        for key in Key::ALL {
+            if key.text().as_bytes() == text {
+                return Some(key);
+            }
+        }
+        None
+    }
+}
+
+impl Keys for Key {
+    fn have(text: &str) -> bool {
+        Key::of(text.as_bytes()).is_some()
     }
 }
 

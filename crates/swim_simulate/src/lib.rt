@@ -13,6 +13,7 @@ mod place;
 mod plan;
 mod refusal;
 mod run;
+mod script;
 mod views;
 
 pub use fault::SimulateFault;
@@ -23,5 +24,6 @@ pub use network::{Draw, Fate, fate_by, is_cut};
 pub use place::endpoint_of;
 pub use plan::Plan;
 pub use refusal::PlanRefusal;
-pub use run::{Done, simulate};
+pub use run::{Done, script_of, simulate};
+pub use script::Script;
 pub use views::View;

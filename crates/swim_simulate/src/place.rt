@@ -83,6 +83,11 @@ impl Place {
         }
     }
 
+    /// Whether it hears what comes to it in this tick: it runs, and is not paused.
+    pub(crate) fn is_awake(&self, now: u64) -> bool {
+        self.is_up && self.sleeps_until <= now
+    }
+
     /// Whether it holds nobody for alive or suspected.
     pub(crate) fn is_alone(&self) -> bool {
         self.rows[0] == 0 && self.rows[1] == 0

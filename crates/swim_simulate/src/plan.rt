@@ -7,13 +7,13 @@ ghost use Rattle.toml.specs.View.{table_view, view};
 ghost use Rattle.swim_settings.specs.Says.{natural_of};
 ghost use Rattle.swim_simulate.specs.declared.key.Key.TheVariants as keys;
 ghost use Rattle.swim_simulate.specs.Keys.{range_of};
-ghost use Rattle.swim_simulate.specs.Plan.{AreDefaults, IsFirstKey, IsUnknownKey, IsPlanReason, Says, kill_tick, pause_tick, number_at, with_number, taken_at, taken_from, tick_count, data_at};
+ghost use Rattle.swim_simulate.specs.Plan.{AreDefaults, IsFirstKey, IsPlanReason, Says, kill_tick, pause_tick, number_at, with_number, taken_at, taken_from, tick_count, data_at};
 
 use crate::key::{KEYS, Key, Range};
 use crate::refusal::PlanRefusal;
 use std::alloc::Global;
 use std::marker::Model;
-use swim_settings::Refusal;
+use swim_settings::{as_number, read_table, refuse_unknown};
 use toml::{Table, Value};
 
 /// What is simulated: a number for each key, which is in the range of the key.
@@ -33,16 +33,6 @@ impl Model for Plan {
     ghost invariant = { λ p. AreInRanges p.numbers };
 
     ghost inverse = { λ numbers. record { numbers = numbers } };
-}
-
-/// The number that a value is, unless it is none or below 0.
-fn as_number(value: &Value) -> Option<u64>
-    ensures { result ≡ option_and_then natural_of (as_integer (view value.now)) }
-{
-    match value.as_integer() {
-        Some(number) => u64::try_from(number).ok(),
-        None => None,
-    }
 }
 
 /// What stands at a key.
@@ -87,19 +77,6 @@ fn read_keys(table: &Table) -> Result<Plan, Key>
         }
     }
     Ok(Plan { numbers })
-}
-
-/// Refuses a key that is none of the known ones; of several the least, by its bytes.
-fn refuse_unknown(alloc: Global, table: &Table) -> Result<(), PlanRefusal>
-    ensures { IfErr result IsUnknownKey }
-{
-    for key in table.keys() {
-        if !Key::ALL.iter().any(|known| known.text() == key.as_str()) {
-            let unknown = String::from_str(alloc, key.as_str())?;
-            return Err(PlanRefusal::Text(Refusal::Unknown(unknown)));
-        }
-    }
-    Ok(())
 }
 
 impl Plan {
@@ -169,16 +146,12 @@ impl Plan {
             < number_at keys.Period plan) }
         ensures refused { IfErr result (IsPlanReason bytes.now) }
     {
-        let table = match toml::table_from_slice(alloc, bytes) {
-            Ok(table) => table,
-            Err(error) if error.is_memory() => return Err(PlanRefusal::Text(Refusal::Memory)),
-            Err(_) => return Err(PlanRefusal::Text(Refusal::Toml)),
-        };
+        let table = read_table(alloc, bytes)?;
         let plan = match read_keys(&table) {
             Ok(plan) => plan,
             Err(key) => return Err(PlanRefusal::Key(key)),
         };
-        refuse_unknown(alloc, &table)?;
+        refuse_unknown::<Key>(alloc, &table)?;
         if plan.get(Key::Direct) >= plan.get(Key::Period) {
             return Err(PlanRefusal::Key(Key::Direct));
         }

@@ -17,6 +17,14 @@ pub enum PlanRefusal {
     Text(Refusal),
 }
 
+impl From<Refusal> for PlanRefusal {
+    ghost from_gives = { λ refusal result. result ≡ refusals.Text refusal };
+
+    fn from(refusal: Refusal) -> PlanRefusal {
+        PlanRefusal::Text(refusal)
+    }
+}
+
 impl From<AllocError> for PlanRefusal {
     ghost use Rattle.swim_settings.specs.declared.refusal.Refusal.TheVariants.{Memory};
 

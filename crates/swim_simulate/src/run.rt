@@ -12,6 +12,7 @@ use crate::measures::{Awaited, Measures, count};
 use crate::network::{Fate, fate_by, is_cut, size_of_datagram};
 use crate::place::{Place, endpoint_of, place_of, settings_of};
 use crate::plan::Plan;
+use crate::script::{Given, Script};
 use crate::views::{View, Views};
 use std::alloc::Global;
 use swim_charts::Tally;
@@ -19,7 +20,7 @@ use swim_disk::Choice;
 use swim_group::{Failure, Nodes, NodesFault};
 use swim_member::{Event, Phase};
 use swim_node::{Save, Status};
-use swim_wire::{Cursor, MEMBERS_MAX, UPDATES_MAX};
+use swim_wire::{Cursor, Endpoint, MEMBERS_MAX, UPDATES_MAX};
 
 /// The most datagrams that are on their way at a time.
 const ROOM: usize = 1 << 20;
@@ -49,6 +50,7 @@ pub(crate) struct Run {
     measures: Measures,
     law: Law,
     history: Vec<Tally>,
+    script: Script,
     kills: u64,
     pauses: u64,
     now: u64,
@@ -78,6 +80,7 @@ impl Run {
             measures: Measures::new(alloc),
             law: Law::new(alloc),
             history: Vec::new(alloc),
+            script: Script::none(alloc),
             kills: 0,
             pauses: 0,
             now: 0,
@@ -106,18 +109,7 @@ impl Run {
 
     /// Whether a member runs.
     fn is_up(&self, who: usize) -> bool {
-        match self.places.get(who) {
-            Some(place) => place.is_up,
-            None => false,
-        }
-    }
-
-    /// Whether a member hears what comes to it: it runs, and is not paused.
-    fn is_awake(&self, who: usize) -> bool {
-        match self.places.get(who) {
-            Some(place) => place.is_up && place.sleeps_until <= self.now,
-            None => false,
-        }
+        matches!(self.places.get(who), Some(place) if place.is_up)
     }
 
     /// Which second it is.
@@ -150,8 +142,9 @@ impl Run {
 
     /// Looks whether the datagram that is kept in this place, the last that was sent, keeps the law. Where no more are kept,
     /// later ones are not seen.
-    fn judge(&mut self, index: usize) -> Result<(), SimulateFault> {
+    fn judge(&mut self, from: usize, index: usize) -> Result<(), SimulateFault> {
         if let Some(out) = self.nodes.kept().get(index) {
+            self.script.send(from, out)?;
             self.law.look(self.now, &out.datagram)?;
         }
         if index >= ROOM - 1 {
@@ -164,7 +157,7 @@ impl Run {
     fn send(&mut self, from: usize) -> Result<(), SimulateFault> {
         for index in self.flights.len()..self.nodes.kept().len() {
             if let Some((to, size)) = self.kept(index) {
-                self.judge(index)?;
+                self.judge(from, index)?;
                 let flight = self.flight(from, to);
                 self.measures.counts.send(size, flight.is_lost);
                 self.flights.push(flight)?;
@@ -189,6 +182,7 @@ impl Run {
         let failing = self.plan.get(Key::FailingSyncs);
         if failing > 0 && u64::from(self.dice.word() % 100) < failing {
             self.nodes.plan_failure(who, Failure::Sync(1))?;
+            self.script.note(who, Given::FailingSync)?;
         }
         Ok(())
     }
@@ -210,6 +204,7 @@ impl Run {
         self.send(who)?;
         if status.length as u64 >= self.plan.get(Key::Limit) {
             self.nodes.end_era(who)?;
+            self.script.note(who, Given::Era)?;
         }
         Ok(())
     }
@@ -333,6 +328,7 @@ impl Run {
 
     /// An event comes to a member.
     fn happen(&mut self, who: usize, event: Event) -> Result<(), SimulateFault> {
+        self.script.note(who, Given::Event(&event))?;
         let reply = self.nodes.step(who, event)?;
         self.settle(who, &reply.status)?;
         self.look(who, &reply.status, false)
@@ -354,10 +350,13 @@ impl Run {
 
     /// The datagram that is kept in this place comes to a member.
     fn receive(&mut self, index: usize, to: usize) -> Result<(), SimulateFault> {
-        if !self.is_awake(to) {
+        if !matches!(self.places.get(to), Some(place) if place.is_awake(self.now)) {
             return Ok(());
         }
         count(&mut self.measures.counts.came);
+        if let Some(out) = self.nodes.kept().get(index) {
+            self.script.note(to, Given::Datagram(&out.datagram))?;
+        }
         let is_hidden = self.may_hide(index, to);
         let reply = self.nodes.deliver(to, index)?;
         self.settle(to, &reply.status)?;
@@ -485,7 +484,7 @@ impl Run {
             100
         };
         match self.places.get_mut(who) {
-            Some(place) if place.is_up && place.sleeps_until <= self.now => {
+            Some(place) if place.is_awake(self.now) => {
                 let clock = place.clock.saturating_add(rate);
                 place.clock = clock % 100;
                 clock / 100
@@ -510,6 +509,7 @@ impl Run {
     /// A member that was killed is opened again. It knows nobody.
     fn restart(&mut self, who: usize) -> Result<(), SimulateFault> {
         let choice = self.choice();
+        self.script.note(who, Given::Crash(choice))?;
         match self.nodes.crash(who, choice) {
             Ok(()) => self.measures.restart(who, self.now),
             Err(NodesFault::NotOpened(_)) => {
@@ -665,4 +665,21 @@ pub fn simulate(alloc: Global, plan: &Plan, seed: u64, moments: u64) -> Result<D
         }
     }
     Ok(run.done())
+}
+
+/// What a member was given in the run by a plan and a seed, to the end of a tick, as a script of `swim play`, and what it
+/// sent.
+pub fn script_of(
+    alloc: Global,
+    plan: &Plan,
+    seed: u64,
+    member: Endpoint,
+    tick: u64,
+) -> Result<Script, SimulateFault> {
+    let mut run = Run::new(alloc, plan, seed)?;
+    run.script = Script::begin(alloc, plan, place_of(member))?;
+    for _ in 0..plan.ticks().min(tick.saturating_add(1)) {
+        run.turn()?;
+    }
+    Ok(run.script)
 }

@@ -40,7 +40,7 @@ fn plan_at<R: Files<File = File> + AllocGlobal>(
     let bytes = fs::read(rt, path)?;
     match Plan::read(rt.alloc(), bytes.as_slice()) {
         Ok(plan) => Ok(plan),
-        Err(refusal) => Err(AskedFault::of_plan(refusal)),
+        Err(refusal) => Err(AskedFault::of_plan(bytes.as_slice(), refusal)),
     }
 }
 

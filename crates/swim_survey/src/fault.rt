@@ -1,5 +1,6 @@
 //! Why nothing more is printed.
 
+use crate::placed::{PlacedRefusal, placed};
 use std::alloc::AllocError;
 use std::io::{self, ErrorKind};
 use swim_settings::Refusal;
@@ -17,7 +18,7 @@ pub enum AskedFault {
     File,
     /// The plan is refused.
     #[error("plan refused {0}")]
-    Plan(PlanRefusal),
+    Plan(PlacedRefusal),
     /// The sweep is refused, at this word or key.
     #[error("sweep refused {0}")]
     Sweep(PlanRefusal),
@@ -55,11 +56,11 @@ impl From<SimulateFault> for AskedFault {
 }
 
 impl AskedFault {
-    /// A refused plan.
-    pub(crate) fn of_plan(refusal: PlanRefusal) -> AskedFault {
+    /// A plan with this text is refused.
+    pub(crate) fn of_plan(text: &[u8], refusal: PlanRefusal) -> AskedFault {
         match refusal {
             PlanRefusal::Text(Refusal::Memory) => AskedFault::Memory,
-            _ => AskedFault::Plan(refusal),
+            _ => AskedFault::Plan(placed(text, refusal)),
         }
     }
 

@@ -104,4 +104,12 @@ impl Figure {
             Figure::Saves => Some(rate(of.counts.saves, 3_600_000, time)),
         })
     }
+    /// The numbers of all, in their order.
+    pub(crate) fn all_of(alloc: Global, of: &Gathered) -> Result<Vec<Option<u64>>, AllocError> {
+        let mut figures = Vec::new(alloc);
+        for figure in Figure::ALL {
+            figures.push(figure.of(alloc, of)?)?;
+        }
+        Ok(figures)
+    }
 }

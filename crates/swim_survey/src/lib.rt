@@ -1,13 +1,16 @@
 //! What `swim simulate` does: runs of a plan by seeds, what was measured in them as a table, as lines of files and as
-//! pictures, sweeps over plans, and the smallest plan by which the law of a group is broken.
+//! pictures, sweeps over plans, and what shows most shortly how the law of a group is
+//! broken.
 #![tactic(auto)]
 
 mod asking;
+mod broken;
 mod fault;
 mod figures;
 mod files;
 mod gathered;
 mod pictures;
+mod placed;
 mod rows;
 mod runs;
 mod shrink;
@@ -20,5 +23,6 @@ mod tests;
 
 pub use asking::{Asked, answer};
 pub use fault::AskedFault;
+pub use placed::PlacedRefusal;
 pub use shrink::{Trial, shrunk};
 pub use sweep::{Axis, Sweep};

@@ -1,11 +1,11 @@
 //! Runs of one plan, each by the next seed.
 
+use crate::broken::broken;
 use crate::fault::AskedFault;
 use crate::figures::{FIGURES, Figure};
 use crate::files::Made;
 use crate::gathered::Gathered;
 use crate::rows::write_rows;
-use crate::shrink::broken;
 use std::alloc::{AllocError, Global};
 use swim_charts::Tally;
 use swim_simulate::{Done, Key, Plan, simulate};
@@ -40,9 +40,8 @@ impl Runs {
     /// Adds a run.
     fn add(&mut self, alloc: Global, plan: &Plan, done: Done) -> Result<(), AllocError> {
         let gathered = Gathered::of(alloc, &done.measures, plan.get(Key::TickMs))?;
-        for figure in Figure::ALL {
-            self.figures.push(figure.of(alloc, &gathered)?)?;
-        }
+        let figures = Figure::all_of(alloc, &gathered)?;
+        self.figures.extend_from_slice(figures.as_slice())?;
         if self.count == 0 {
             self.history = done.history;
         }

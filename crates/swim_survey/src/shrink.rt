@@ -1,9 +1,8 @@
 //! The smallest plan by which something fails.
 
-use crate::fault::AskedFault;
-use std::alloc::{AllocError, Global};
+use std::alloc::AllocError;
 use std::fmt::Write;
-use swim_simulate::{Done, Key, Kill, Plan, SimulateFault, simulate};
+use swim_simulate::{Key, Plan, SimulateFault};
 
 /// How often all keys are tried.
 const ROUNDS: u64 = 3;
@@ -72,31 +71,6 @@ pub fn shrunk<T: Trial>(trial: &mut T, plan: &Plan) -> Result<Plan, SimulateFaul
     Ok(best)
 }
 
-/// A run by a seed, which fails where it breaks the law of a group.
-#[derive(Drop)]
-struct Lawful {
-    alloc: Global,
-    seed: u64,
-}
-
-impl Trial for Lawful {
-    fn fails(&mut self, plan: &Plan) -> Result<bool, SimulateFault> {
-        let done = simulate(self.alloc, plan, self.seed, 0)?;
-        Ok(done.stop.is_some())
-    }
-}
-
-/// What was done to a member, as comments.
-fn write_kill(text: &mut String, kill: &Kill) -> Result<(), AllocError> {
-    let member = kill.who.saturating_add(1);
-    let tick = kill.tick;
-    writeln!(text, "# tick {tick}: member {member} is killed")?;
-    match kill.back {
-        Some(tick) => writeln!(text, "# tick {tick}: member {member} is opened again"),
-        None => Ok(()),
-    }
-}
-
 /// A plan as its text, with the keys that have another number than their default.
 pub(crate) fn write_plan(text: &mut String, plan: &Plan) -> Result<(), AllocError> {
     for key in Key::ALL {
@@ -106,32 +80,4 @@ pub(crate) fn write_plan(text: &mut String, plan: &Plan) -> Result<(), AllocErro
         }
     }
     Ok(())
-}
-
-/// A plan, with the seed and the events of its run as comments before it.
-pub(crate) fn told(
-    alloc: Global,
-    plan: &Plan,
-    seed: u64,
-    done: &Done,
-) -> Result<String, AllocError> {
-    let mut text = String::new(alloc);
-    writeln!(text, "# seed {seed}")?;
-    for kill in done.measures.kills.as_slice() {
-        write_kill(&mut text, kill)?;
-    }
-    if let Some(stop) = &done.stop {
-        writeln!(text, "# {stop}")?;
-    }
-    write_plan(&mut text, plan)?;
-    Ok(text)
-}
-
-/// What is said of a plan that breaks the law by this seed: the smallest such plan, and what happened in its run.
-pub(crate) fn broken(alloc: Global, plan: &Plan, seed: u64) -> Result<AskedFault, AskedFault> {
-    let mut lawful = Lawful { alloc, seed };
-    let smaller = shrunk(&mut lawful, plan)?;
-    let done = simulate(alloc, &smaller, seed, 0)?;
-    let text = told(alloc, &smaller, seed, &done)?;
-    Ok(AskedFault::Broken(text))
 }

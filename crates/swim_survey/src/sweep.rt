@@ -85,16 +85,6 @@ pub(crate) fn numbers_of(alloc: Global, span: Span) -> Result<Vec<u64>, AllocErr
     }
 }
 
-/// The key with this text.
-fn key_of(text: &[u8]) -> Option<Key> {
-    for key in Key::ALL {
-        if key.text().as_bytes() == text {
-            return Some(key);
-        }
-    }
-    None
-}
-
 /// A word that says no key.
 fn unknown(alloc: Global, word: &[u8]) -> Result<PlanRefusal, AllocError> {
     let text = match str::from_utf8(word) {
@@ -120,7 +110,7 @@ impl Sweep {
     /// Reads one word of it.
     fn read_word(&mut self, alloc: Global, word: &[u8]) -> Result<(), PlanRefusal> {
         let said = match split_at_byte(word, b'=') {
-            Some((name, span)) => key_of(name).map(|key| (key, span)),
+            Some((name, span)) => Key::of(name).map(|key| (key, span)),
             None => None,
         };
         let Some((key, span)) = said else {

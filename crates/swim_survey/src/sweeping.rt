@@ -3,7 +3,6 @@
 use crate::fault::AskedFault;
 use crate::figures::Figure;
 use crate::files::Made;
-use crate::gathered::Gathered;
 use crate::pictures::draw_sweep;
 use crate::runs::run_all;
 use crate::sweep::Sweep;
@@ -58,15 +57,6 @@ pub(crate) fn check_plans(alloc: Global, plan: &Plan, sweep: &Sweep) -> Result<(
     Ok(())
 }
 
-/// The figures of some runs.
-fn figures_of(alloc: Global, all: &Gathered) -> Result<Vec<Option<u64>>, AllocError> {
-    let mut figures = Vec::new(alloc);
-    for figure in Figure::ALL {
-        figures.push(figure.of(alloc, all)?)?;
-    }
-    Ok(figures)
-}
-
 /// The figures of so many runs of a plan of the sweep.
 fn run_choice(
     alloc: Global,
@@ -81,7 +71,7 @@ fn run_choice(
         Err(refusal) => return Err(AskedFault::of_sweep(refusal)),
     };
     let done = run_all(alloc, &plan, seed, runs, &mut Made::none())?;
-    Ok(figures_of(alloc, &done.all)?)
+    Ok(Figure::all_of(alloc, &done.all)?)
 }
 
 /// So many runs of each plan of a sweep, and their table, a line a plan. A line goes into the file as soon as it is known.

@@ -1,10 +1,12 @@
 //! What is printed of small runs, sweeps, and plans that are made smaller.
 
+use crate::broken::told;
 use crate::files::Made;
 use crate::gathered::Gathered;
 use crate::pictures::{draw_runs, draw_sweep};
+use crate::placed::placed;
 use crate::runs::run_all;
-use crate::shrink::{Trial, shrunk, told, write_plan};
+use crate::shrink::{Trial, shrunk, write_plan};
 use crate::stage::Stage;
 use crate::sweep::{Span, Sweep, numbers_of, read_span};
 use crate::sweeping::run_sweep;
@@ -120,6 +122,32 @@ fn sweeps_are_refused_by_name(rt: HostRuntime) -> Result<(), Fail> {
     Ok(())
 }
 
+/// What a plan is refused for and where, and nothing where it is not.
+fn placed_refusal_of(alloc: Global, text: &str) -> Result<String, AllocError> {
+    match Plan::read(alloc, text.as_bytes()) {
+        Ok(_) => Ok(String::new(alloc)),
+        Err(refusal) => format!(in alloc; "{}", placed(text.as_bytes(), refusal)),
+    }
+}
+
+#[test]
+fn plans_are_refused_with_their_line(rt: HostRuntime) -> Result<(), Fail> {
+    let rows = [
+        ("members = 258\n", "members on line 1"),
+        ("# loss\nlossy = 1\n", "lossy on line 2"),
+        ("kills = 1\n\n  loss=101", "loss on line 3"),
+        // no line gives it
+        ("period = 2\n", "direct"),
+        ("\"a b\" = 1\n", "\"a b\""),
+        ("loss", "toml"),
+    ];
+    for (text, refusal) in rows {
+        let found = placed_refusal_of(rt.alloc(), text)?;
+        assert_eq!(rt; found.as_str(), refusal, "{text}");
+    }
+    Ok(())
+}
+
 #[test]
 fn a_sweep_has_a_line_for_each_choice(rt: HostRuntime) -> Result<(), Fail> {
     let alloc = rt.alloc();
@@ -218,31 +246,64 @@ fn what_is_gathered_adds_up(rt: HostRuntime) -> Result<(), Fail> {
     Ok(())
 }
 
-#[test]
-fn a_broken_run_tells_where(rt: HostRuntime) -> Result<(), Fail> {
-    let alloc = rt.alloc();
-    let plan = Plan::read(alloc, b"members = 3\nminutes = 1\nkills = 0\n")?;
-    let mut done = simulate(alloc, &plan, 1, 0)?;
+/// A law that no member knows: a datagram of this tick breaks it.
+fn planted_stop(tick: u64) -> Stop {
     let who = Endpoint::new(0x0a00_0002, 7000).unwrap_or_default();
     let update = Update {
         kind: UpdateKind::Alive,
         who,
         number: 9,
     };
-    done.stop = Some(Stop {
-        tick: 17,
+    Stop {
+        tick,
         sender: who,
         update,
         breach: Breach::WentBack,
-    });
+    }
+}
+
+#[test]
+fn a_broken_run_is_told_as_a_script(rt: HostRuntime) -> Result<(), Fail> {
+    let alloc = rt.alloc();
+    // of three members one is killed and opened again, saves fail, and eras are short
+    let text =
+        "members = 3\nminutes = 1\nrules = 2\nloss = 30\nrepeats = 20\njitter = 3\nkills = 4\nrestart_after = 20\ndropped = 50\nfilled = 25\nfailing_syncs = 50\nlimit = 7\n";
+    let plan = Plan::read(alloc, text.as_bytes())?;
+    let mut done = simulate(alloc, &plan, 1, 0)?;
+    done.stop = Some(planted_stop(590));
     let found = told(alloc, &plan, 1, &done)?;
     let line =
-        "# tick 17: 10.0.0.2:7000 told number 9 of 10.0.0.2:7000: it told a greater number of itself before\n";
+        "# tick 590: 10.0.0.2:7000 told number 9 of 10.0.0.2:7000: it told a greater number of itself before\n# in swim play this member does it alone\ngroup 1\nme 10.0.0.2:7000\n";
     assert!(rt; found.as_str().contains(line), "{found}");
+    // it has each kind of line
+    for begin in [
+        "tick ",
+        "recv 10.0.0.3:7000 ",
+        "join ",
+        "rebase",
+        "fail sync 1",
+        "crash ",
+        "open",
+    ] {
+        let is_there = found.as_str().lines().any(|line| line.starts_with(begin));
+        assert!(rt; is_there, "{begin}");
+    }
+    Ok(())
+}
+
+#[test]
+fn a_run_that_no_script_plays_is_told_as_a_plan(rt: HostRuntime) -> Result<(), Fail> {
+    let alloc = rt.alloc();
+    // a script does not know each order of so many
+    let text = "members = 9\nminutes = 1\nkills = 0\n";
+    let plan = Plan::read(alloc, text.as_bytes())?;
+    let mut done = simulate(alloc, &plan, 1, 0)?;
+    done.stop = Some(planted_stop(590));
+    let found = told(alloc, &plan, 1, &done)?;
     assert!(rt;
         found
             .as_str()
-            .ends_with("members = 3\nminutes = 1\nkills = 0\n"),
+            .ends_with("before\nmembers = 9\nminutes = 1\nkills = 0\n"),
         "{found}"
     );
     Ok(())

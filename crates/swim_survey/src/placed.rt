@@ -1,0 +1,52 @@
+//! Where in the text of a plan the key stands for which it is refused.
+
+use std::fmt;
+use swim_settings::Refusal;
+use swim_simulate::PlanRefusal;
+
+/// Why a plan is refused, and on which line. It prints both, on one line.
+#[derive(Debug, PartialEq, Eq, Drop)]
+pub struct PlacedRefusal {
+    /// Why.
+    pub refusal: PlanRefusal,
+    /// The line of the key, counted from 1; none where no line begins with it, as where the key has its default.
+    pub line: Option<usize>,
+}
+
+impl fmt::Display for PlacedRefusal {
+    fn fmt<W: fmt::Write>(&self, f: &mut fmt::Formatter<W>) -> fmt::Result {
+        let refusal = &self.refusal;
+        match self.line {
+            Some(line) => write!(f, "{refusal} on line {line}"),
+            None => write!(f, "{refusal}"),
+        }
+    }
+}
+
+/// Whether a line gives a key its value.
+fn is_of(line: &[u8], key: &str) -> bool {
+    match line.trim_ascii_start().strip_prefix(key.as_bytes()) {
+        Some(rest) => rest.trim_ascii_start().starts_with(b"="),
+        None => false,
+    }
+}
+
+/// The first line of a text that gives this key its value, counted from 1.
+fn line_of(text: &[u8], key: &str) -> Option<usize> {
+    for (place, line) in text.split(|byte| *byte == b'\n').enumerate() {
+        if is_of(line, key) {
+            return Some(place.saturating_add(1));
+        }
+    }
+    None
+}
+
+/// A refusal of this text, with its line.
+pub(crate) fn placed(text: &[u8], refusal: PlanRefusal) -> PlacedRefusal {
+    let line = match &refusal {
+        PlanRefusal::Key(key) => line_of(text, key.text()),
+        PlanRefusal::Text(Refusal::Unknown(key)) => line_of(text, key.as_str()),
+        PlanRefusal::Text(_) => None,
+    };
+    PlacedRefusal { refusal, line }
+}
