@@ -141,11 +141,28 @@ impl Buffer {
         requires { most ≤ BUCKETS_MAX }
         ensures { result ≡ record { queue = []; most = most } }
     {
+        Buffer::with_queue(ArrayVec::new(), most)
+    }
+
+    /// A buffer with the buckets 0 to `most` in which these updates wait, as they did in another one.
+    pub fn with_queue(queue: ArrayVec<Waiting, WAITING_MAX>, most: u32) -> Buffer
+        requires apart { AreApart queue.items }
+        requires within { AreWithin most queue.items }
+        requires most { most ≤ BUCKETS_MAX }
+        ensures { result ≡ record { queue = queue.items; most = most } }
+    {
         Buffer {
-            queue: ArrayVec::new(),
+            queue,
             most,
             links: [0; WAITING_MAX],
         }
+    }
+
+    /// The updates that wait, in the order in which they began.
+    pub fn queue(&self) -> &[Waiting]
+        ensures { result.now ≡ self.now.queue }
+    {
+        &self.queue
     }
 
     /// How many updates stand in the buffer.

@@ -5,7 +5,7 @@ ghost use Rattle.swim_wire.specs.Filler.{filler};
 ghost use Rattle.std.specs.List.{find, filter, insert, remove, position_or_len};
 ghost use Rattle.std.specs.Option.{option_map, option_copied};
 ghost use Rattle.swim_rules.specs.Rules.{Told, row, rows};
-ghost use Rattle.swim_rules.specs.Rows.{AreInOrder, row_of, answer_to, hear_rows, told_with, is_due, is_eligible, is_of_kind, due_confirm, hear_option, due_to_forget, remove_option, remove_row, confirm_of, is_after, told_option, untold_option, IsTable};
+ghost use Rattle.swim_rules.specs.Rows.{AreInOrder, row_of, answer_to, hear_rows, told_with, is_due, is_eligible, is_of_kind, due_confirm, hear_option, due_to_forget, remove_option, remove_row, confirm_of, is_after, told_option, untold_option, IsTable, LacksRow};
 ghost use Rattle.swim_rules.specs.Machinery.Places.{IsRowAt, IsGapAt, row_place, is_there};
 
 use crate::overriding::overrides;
@@ -300,6 +300,13 @@ fn nth_eligible(rows: &[Row], number: usize) -> Option<Row>
     None
 }
 
+/// How many of these rows are Alive or Suspect.
+fn count_eligible(rows: &[Row]) -> usize
+    ensures { result ≡ length (filter is_eligible rows.now) }
+{
+    rows.iter().filter(|row| row.is_eligible()).count()
+}
+
 impl Table {
     /// A table with no rows. It is that of the member `me`, which never gets a row. A Suspect becomes
     /// Confirm after `suspect` ticks, and a Confirm is forgotten after `forget` ticks. By `rules` an
@@ -313,13 +320,35 @@ impl Table {
           rows = [];
         } }
     {
+        Table::with_rows(me, suspect, forget, rules, ArrayVec::new())
+    }
+
+    /// A table with these rows, as another one had them. All else is as with `new`.
+    pub fn with_rows(
+        me: Endpoint,
+        suspect: u64,
+        forget: u64,
+        rules: Rules,
+        rows: ArrayVec<Row, ROWS_MAX>,
+    ) -> Table
+        requires order { AreInOrder rows.items }
+        requires others { LacksRow me rows.items }
+        ensures { result ≡ record {
+          me = me;
+          suspect = suspect;
+          forget = forget;
+          rules = rules;
+          rows = rows.items;
+        } }
+    {
+        let eligible = count_eligible(&rows);
         Table {
             me,
             suspect,
             forget,
             rules,
-            rows: ArrayVec::new(),
-            eligible: 0,
+            rows,
+            eligible,
         }
     }
 

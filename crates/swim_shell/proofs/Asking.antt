@@ -3,7 +3,7 @@ use Rattle.std.proofs.Common.{◌≡◌, ◌≢◌, ◌⊎◌, inl, inr, ℕ, �
 use Rattle.std.proofs.lemmas.List.{append-nil}
 use Rattle.swim_wire.specs.declared.update.Update.{Update}
 use Rattle.swim_wire.specs.declared.update.UpdateKind.TheVariants.{Confirm}
-use Rattle.std.specs.Prelude.{Result, Ok, Err, IfOk, IfErr}
+use Rattle.std.specs.Prelude.{Option, Some, None, Result, Ok, Err, IfSome, IfOk, IfErr}
 use Rattle.swim_member.specs.declared.event.Event.{Event}
 use Rattle.swim_member.specs.declared.event.Event.TheVariants.{Join, Members}
 use Rattle.std.proofs.lemmas.Bool.Decides.{nat_tests}
@@ -16,6 +16,7 @@ use Rattle.swim_node.specs.declared.entry.Reply.{Reply}
 use Rattle.swim_shell.specs.declared.caller.Refusal.{Refusal}
 use Rattle.swim_shell.specs.Calls.{CallerView, events_of, NewCall, Refuses}
 use Rattle.swim_shell.specs.Joins.{JoinerView, IsNext, IsPeer, IsEligibleIn, IsDrawnFrom, IsAsked, AreAsked, Asks, AsksInVain, pages_of, AreWhole, AreFull, AreConsecutive, AreAllPages, AreLooks, Looks, LooksAll, LooksInVain, ReadsPage, place_after}
+use Rattle.swim_shell.specs.Turns.{JoinsIf}
 use Rattle.swim_shell.proofs.News.{assoc, events_of-append, no_gain, more_gains}
 
 -- Rows.
@@ -84,7 +85,7 @@ shown j p q rows x l (inl a) = inl (j.peers.next, a)
 shown j p q rows x l (inr b) = inr (l.read x b.0, b.1)
 
 -- a look, and a join that was answered or refused
-pub asks_drawn : (j : JoinerView) (p q r : CallerView) (rows : List Update) (x : ℕ) (reply : Reply) → Looks p q rows → IsNext j.peers x ⊎ IsDrawnFrom j.me rows x → NewCall q r (Join x) reply → Asks j p r
+asks_drawn : (j : JoinerView) (p q r : CallerView) (rows : List Update) (x : ℕ) (reply : Reply) → Looks p q rows → IsNext j.peers x ⊎ IsDrawnFrom j.me rows x → NewCall q r (Join x) reply → Asks j p r
 asks_drawn j p q r rows x reply l known n = record {
   entries = l.entries ++ n.entry ∷ [];
   gains = more_gains p q r l.entries (n.entry ∷ []) l.gains n.gains;
@@ -92,32 +93,45 @@ asks_drawn j p q r rows x reply l known n = record {
   are_asked = asked_append j [] l.entries (n.entry ∷ []) (looks_asked j [] l.entries l.looks) (subst (λ w. IsAsked j (pages_of l.entries) w) (sym n.event_is) (shown j p q rows x l known), tt);
 }
 
-pub drawn_in_vain : (limit : ℕ) (why : Refusal) (j : JoinerView) (p q r : CallerView) (rows : List Update) (x : ℕ) → Looks p q rows → IsNext j.peers x ⊎ IsDrawnFrom j.me rows x → Refuses limit why q r (Join x) → AsksInVain limit why j p r
+pub asks_drawn_if : (j : JoinerView) (p q r : CallerView) (rows : List Update) (peer : Option ℕ) → Looks p q rows → IfSome peer (λ x. IsNext j.peers x ⊎ IsDrawnFrom j.me rows x) → JoinsIf q r peer → Asks j p r
+asks_drawn_if j p q r rows None l known same = subst (λ w. Asks j p w) (sym same) (asks_looks j p q rows l)
+asks_drawn_if j p q r rows (Some x) l known joins = asks_drawn j p q r rows x joins.0 l known joins.1
+
+drawn_in_vain : (limit : ℕ) (why : Refusal) (j : JoinerView) (p q r : CallerView) (rows : List Update) (x : ℕ) → Looks p q rows → IsNext j.peers x ⊎ IsDrawnFrom j.me rows x → Refuses limit why q r (Join x) → AsksInVain limit why j p r
 unfolding asks_looks
 drawn_in_vain limit why j p q r rows x l known refused = record { between = q; asks = asks_looks j p q rows l; last = Join x; is_asked = shown j p q rows x l known; refused = refused }
 
+pub drawn_if_in_vain : (limit : ℕ) (why : Refusal) (j : JoinerView) (p q r : CallerView) (rows : List Update) (peer : Option ℕ) → Looks p q rows → IfSome peer (λ x. IsNext j.peers x ⊎ IsDrawnFrom j.me rows x) → (last : ℕ) × (peer ≡ Some last) × Refuses limit why q r (Join last) → AsksInVain limit why j p r
+drawn_if_in_vain limit why j p q r rows None l known (last, is, refused) = absurd (cc)
+drawn_if_in_vain limit why j p q r rows (Some x) l known (last, is, refused) =
+    let same : last ≡ x = cc in
+    drawn_in_vain limit why j p q r rows x l known (subst (λ y. Refuses limit why q r (Join y)) same refused)
+
 -- Of another joiner that has the same peers and is of the same member.
 
-is_asked_same : (j k : JoinerView) (rows : List Update) (e : Event) → k.me ≡ j.me → k.peers.list ≡ j.peers.list → IsAsked k rows e → IsAsked j rows e
+pub is_asked_same : (j k : JoinerView) (rows : List Update) (e : Event) → k.me ≡ j.me → k.peers.list ≡ j.peers.list → IsAsked k rows e → IsAsked j rows e
 is_asked_same j k rows (Members after) m l is = tt
 is_asked_same j k rows (Join x) m l (inl is) = inl (subst (λ peers. IsPeer peers x) l is)
 is_asked_same j k rows (Join x) m l (inr is) = inr (subst (λ me. IsDrawnFrom me rows x) m is)
 is_asked_same j k rows _ m l is = absurd is
 
-are_asked_same : (j k : JoinerView) (rows : List Update) (es : List Entry) → k.me ≡ j.me → k.peers.list ≡ j.peers.list → AreAsked k rows es → AreAsked j rows es
+pub are_asked_same : (j k : JoinerView) (rows : List Update) (es : List Entry) → k.me ≡ j.me → k.peers.list ≡ j.peers.list → AreAsked k rows es → AreAsked j rows es
 are_asked_same j k rows [] m l a = tt
 are_asked_same j k rows (e ∷ es) m l a = (is_asked_same j k rows e.event m l a.0, are_asked_same j k (rows ++ e.reply.page.items) es m l a.1)
 
-abbrev asks_of : (j k : JoinerView) (p q : CallerView) → k.me ≡ j.me → k.peers.list ≡ j.peers.list → Asks k p q → Asks j p q
+abbrev pub asks_of : (j k : JoinerView) (p q : CallerView) → k.me ≡ j.me → k.peers.list ≡ j.peers.list → Asks k p q → Asks j p q
 asks_of j k p q m l a = record { entries = a.entries; gains = a.gains; asked = a.asked; are_asked = are_asked_same j k [] a.entries m l a.are_asked }
 
 pub asks_same : (result : Result (Unit {0}) Refusal) (j k : JoinerView) (p q : CallerView) → k.me ≡ j.me → k.peers.list ≡ j.peers.list → IfOk result (λ _. Asks k p q) → IfOk result (λ _. Asks j p q)
 asks_same (Ok u) j k p q m l a = asks_of j k p q m l a
 asks_same (Err why) j k p q m l a = tt
 
+abbrev pub in_vain_of : (limit : ℕ) (why : Refusal) (j k : JoinerView) (p q : CallerView) → k.me ≡ j.me → k.peers.list ≡ j.peers.list → AsksInVain limit why k p q → AsksInVain limit why j p q
+in_vain_of limit why j k p q m l a = record { between = a.between; asks = asks_of j k p a.between m l a.asks; last = a.last; is_asked = is_asked_same j k (pages_of a.asks.entries) a.last m l a.is_asked; refused = a.refused }
+
 pub in_vain_same : (result : Result (Unit {0}) Refusal) (limit : ℕ) (j k : JoinerView) (p q : CallerView) → k.me ≡ j.me → k.peers.list ≡ j.peers.list → IfErr result (λ why. AsksInVain limit why k p q) → IfErr result (λ why. AsksInVain limit why j p q)
 in_vain_same (Ok u) limit j k p q m l a = tt
-in_vain_same (Err why) limit j k p q m l a = record { between = a.between; asks = asks_of j k p a.between m l a.asks; last = a.last; is_asked = is_asked_same j k (pages_of a.asks.entries) a.last m l a.is_asked; refused = a.refused }
+in_vain_same (Err why) limit j k p q m l a = in_vain_of limit why j k p q m l a
 
 -- Pages.
 

@@ -1,11 +1,11 @@
 //! The worker that joins, and logs the news of members.
 
-ghost use Rattle.std.specs.Prelude.{◌≡◌, ◌⊎◌, ◌↔◌, [], Some, None, true, false};
+ghost use Rattle.std.specs.Prelude.{◌≡◌, ◌⊎◌, ◌↔◌, ℕ, [], Some, None, true, false};
 ghost use Rattle.std.specs.Prelude.{IsTrue, IfSome, IfOk, IfErr, OnOk, OnErr};
 ghost use Rattle.swim_member.specs.declared.event.Event.TheVariants.{Join};
 ghost use Rattle.swim_shell.specs.Calls.{Refuses};
 ghost use Rattle.swim_shell.specs.Joins.{Asks, AsksInVain, IsDrawnFrom, IsNext, chosen, has_row};
-ghost use Rattle.swim_shell.specs.Turns.{DoesTurn, DoesTurnInVain, JoinsPeer, LooksRound, LooksRoundInVain, TellsDue, Turned, TurnedInVain, after_draw, are_news_due, with_start, drawn_for, due_member, due_peer, is_alone, is_draw_due, joined_listed, list_turn, next_draw, told_missing, with_draw, with_draw_over, with_turn};
+ghost use Rattle.swim_shell.specs.Turns.{DoesTurn, DoesTurnInVain, JoinsIf, JoinsPeer, LooksRound, LooksRoundInVain, TellsDue, Turned, TurnedInVain, after_draw, are_news_due, with_start, drawn_for, due_member, due_peer, is_alone, is_draw_due, joined_listed, list_turn, next_draw, told_missing, with_draw, with_draw_over, with_turn};
 
 use crate::caller::{Caller, Observer, Refusal};
 use crate::draw::draw;
@@ -114,6 +114,19 @@ fn is_list_turn(rules: Rules, rng: &mut ChaCha20Rng) -> bool
         Rules::One => false,
         Rules::Two => next_draw(rng) % 2 == 1,
     }
+}
+
+/// Joins this member, if there is one.
+fn join_if<C: Caller>(caller: &mut C, peer: Option<Endpoint>) -> Result<(), Refusal>
+    ensures joins { OnOk result (JoinsIf (C.known caller.old) (C.known caller.new) peer) }
+    ensures refused { IfErr result (λ why. (last : ℕ) × (peer ≡ Some last)
+        × Refuses C.limit why (C.known caller.old) (C.known caller.new) (Join last)) }
+{
+    let Some(peer) = peer else {
+        return Ok(());
+    };
+    caller.call(Event::Join { peer })?;
+    Ok(())
 }
 
 impl Joiner {
@@ -317,11 +330,7 @@ impl Joiner {
         let is_due = self.is_draw_due(at.now);
         let peer = self.draw_due(rt, at, &rows);
         self.tell_due(rt, at, rows);
-        if let Some(peer) = peer {
-            caller.call(Event::Join { peer })?;
-            self.end_draw(is_due, at.now);
-            return Ok(());
-        }
+        join_if(caller, peer)?;
         self.end_draw(is_due, at.now);
         Ok(())
     }
