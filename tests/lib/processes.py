@@ -47,12 +47,12 @@ def as_word(word):
     return word if isinstance(word, bytes) else str(word)
 
 
-def run_to_its_end(command, input=None, **more):
-    """What a command prints, and its status."""
+def run_to_its_end(command, input=None, seconds=LONGEST, **more):
+    """What a command prints, and its status. It may take so many seconds."""
     streams = {"stdin": subprocess.DEVNULL if input is None else subprocess.PIPE, "stdout": subprocess.PIPE}
     with start(command, **{**streams, "stderr": subprocess.PIPE, **more}) as process:
         try:
-            out, err = process.communicate(input, LONGEST)
+            out, err = process.communicate(input, seconds)
         except BaseException:
             process.kill()
             raise
