@@ -1,6 +1,6 @@
 //! A member of a group, as a program: `swim init` makes its state file, `swim run` runs it, `swim ctl`,
-//! `swim members` and `swim watch` ask it, `swim play` plays a script over a member in memory, `swim check` looks at
-//! what the members of a group sent, and `swim simulate` plays whole groups.
+//! `swim members` and `swim watch` ask it, `swim show` says what a state file holds, `swim play` plays a script over a
+//! member in memory, `swim check` looks at what the members of a group sent, and `swim simulate` plays whole groups.
 #![tactic(auto)]
 
 use clap::Error;
@@ -19,6 +19,7 @@ use swim_cli::{
 };
 use swim_play::play;
 use swim_script::ScriptFault;
+use swim_show::ShowFault;
 use swim_survey::{Asked, AskedFault};
 
 /// The exit status where the words are refused.
@@ -78,6 +79,20 @@ fn ask_member(rt: &HostRuntime, to: &str, line: &str) -> Result<ExitCode, Ending
     })
 }
 
+/// Prints what a state file says. The status says whether an opening would begin a life.
+fn show_file(rt: &HostRuntime, path: &str, as_json: bool) -> Result<ExitCode, Ending> {
+    let shown = swim_show::answer(rt, path, as_json).map_err(|fault| match fault {
+        ShowFault::Memory => Ending::Memory,
+        ShowFault::File => Ending::File,
+    })?;
+    print_bytes(rt, shown.text.as_bytes())?;
+    Ok(if shown.is_sound {
+        ExitCode::SUCCESS
+    } else {
+        ExitCode::FAILURE
+    })
+}
+
 /// Simulates a group, and prints what was measured. A refused plan or sweep is named on standard error.
 fn simulate_group(rt: &HostRuntime, asked: &Asked<'_>) -> Result<ExitCode, Ending> {
     let fault = match swim_survey::answer(rt, asked) {
@@ -123,6 +138,7 @@ fn answer<T: Threads + Wait + Log + Clock + Send + Sync + Copy + Drop>(
             watch_members(rt, logged, to, as_json, every)?;
             Ok(ExitCode::SUCCESS)
         }
+        Subcommand::Show { file, as_json } => show_file(rt, file, as_json),
         Subcommand::Play => play_input(rt),
         Subcommand::Check => check_input(rt),
         Subcommand::Simulate {

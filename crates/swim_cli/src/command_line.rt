@@ -55,6 +55,13 @@ pub enum Subcommand<'a> {
         /// Milliseconds from one comparison to the next.
         every: u64,
     },
+    /// What a state file says.
+    Show {
+        /// Its path.
+        file: &'a str,
+        /// Whether as JSON.
+        as_json: bool,
+    },
     /// A script from standard input.
     Play,
     /// A capture from standard input.
@@ -124,6 +131,17 @@ fn json<'a>(alloc: Global) -> Arg<'a> {
         .long("json")
         .action(ArgAction::SetTrue)
         .help("Prints JSON, an object a line")
+}
+
+/// `swim show FILE [--json]`.
+fn show_command<'a>(alloc: Global) -> Result<Command<'a>, Error> {
+    let about =
+        "Prints what a state file says, and what `swim run` would do with it; it writes nothing";
+    let command = Command::new(alloc, "show")
+        .about(about)
+        .arg(word(alloc, "file", "FILE", "The state file"))?
+        .arg(json(alloc))?;
+    Ok(command)
 }
 
 /// `swim members ADDR [--json]`.
@@ -212,6 +230,7 @@ fn command<'a>(alloc: Global) -> Result<Command<'a>, Error> {
         .subcommand(ctl_command(alloc)?)?
         .subcommand(members_command(alloc)?)?
         .subcommand(watch_command(alloc)?)?
+        .subcommand(show_command(alloc)?)?
         .subcommand(play)?
         .subcommand(check)?
         .subcommand(simulate_command(alloc)?)?;
@@ -247,6 +266,10 @@ fn chosen<'a>(matches: &ArgMatches<'a>) -> Option<Subcommand<'a>> {
             to: text(words, "addr"),
             as_json: words.get_flag("json"),
             every: words.get_one::<u64>("every")?,
+        }),
+        ("show", words) => Some(Subcommand::Show {
+            file: text(words, "file"),
+            as_json: words.get_flag("json"),
         }),
         ("play", _) => Some(Subcommand::Play),
         ("check", _) => Some(Subcommand::Check),

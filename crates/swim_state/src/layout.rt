@@ -56,15 +56,15 @@ impl Version {
         }
     }
 
-    /// The least length of a file: its last byte is gate B.
-    pub(crate) fn size(self) -> u64
+    /// The least length of a file, in bytes: its last byte is gate B.
+    pub fn size(self) -> u64
         ensures { result ≡ (layout_of self).file_size }
     {
         self.start() + 3 * BLOCK + 1
     }
 
     /// How many bytes a body has.
-    pub(crate) fn body_size(self) -> usize
+    pub fn body_size(self) -> usize
         ensures { result ≡ (layout_of self).body_size }
     {
         match self {
@@ -106,8 +106,8 @@ impl Slot {
     ghost use Rattle.std.specs.Prelude.{◌≡◌};
     ghost use Rattle.swim_state.specs.File.{layout_of};
 
-    /// The offset of the slot's body.
-    pub(crate) fn body(self, version: Version) -> u64
+    /// The offset of the slot's body in a file of this version.
+    pub fn body(self, version: Version) -> u64
         ensures { result ≡ (layout_of version).body_at self }
     {
         match self {
@@ -117,7 +117,7 @@ impl Slot {
     }
 
     /// The offset of the slot's gate, which is one byte.
-    pub(crate) fn gate(self, version: Version) -> u64
+    pub fn gate(self, version: Version) -> u64
         ensures { result ≡ (layout_of version).gate_at self }
     {
         match self {

@@ -24,5 +24,5 @@ pub use layout::{Reading, Saved, Slot, Version};
 pub use owner::Owner;
 pub use peers::{PEERS_MAX, Peers};
 pub use recovery::recover;
-pub use slots::{Slots, slots_in};
+pub use slots::{Slots, slots_in, version_of};
 pub use store::{SPARE_MAX, Store};

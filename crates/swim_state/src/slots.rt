@@ -146,13 +146,19 @@ impl Slots {
     }
 }
 
+/// The version of a file with these bytes: what its mark says, and without one version 1.
+pub fn version_of(image: &[u8]) -> Version
+    ensures { result ≡ version_in image.now }
+{
+    Version::by(image.get(MARK_AT as usize).copied().unwrap_or(0))
+}
+
 /// What the slots of a file with these bytes say, whatever else the bytes are. They are those of the
 /// version that its mark names. A gate past their end is shut.
 pub fn slots_in(image: &[u8]) -> Slots
     ensures { AreOf (layout_of (version_in image.now)) image.now result }
 {
-    let mark = image.get(MARK_AT as usize).copied().unwrap_or(0);
-    let version = Version::by(mark);
+    let version = version_of(image);
     Slots {
         a: slot_in(image, version, Slot::A),
         b: slot_in(image, version, Slot::B),
