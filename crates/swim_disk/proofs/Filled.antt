@@ -1,17 +1,18 @@
 -- What a crash leaves that fills all that was written since the last sync with one byte.
-use Rattle.std.proofs.Common.{◌≡◌, ⊎_elim, ℕ, ◌+◌, ◌-◌, ◌<◌, ◌≤◌, List, [], ◌∷◌, ◌++◌, All, Option, Some, set, length, take, drop, get_or, replicate, slice_index, Vec, refl, sym, ◌∙◌, ap, subst, arith, length-append}
-use Rattle.std.specs.declared.alloc.Global.{Global}
-use Rattle.std.proofs.lemmas.Bool.{cases_lt}
-use Rattle.std.proofs.lemmas.List.Elements.{All-cons}
-use Rattle.std.proofs.lemmas.Bool.{cases_eq}
-use Rattle.std.proofs.lemmas.List.{take_at, take_more, length-set, get_or-set_same, get_or-set_other, ext_get_or, get_or-replicate, length-replicate, get_or_append_left, get_or-append_right}
+use Rattle.std.proofs.Common.{suc, ◌⊎◌, Bool, true, false, inl, inr, ◌≡◌, ⊎_elim, ℕ, ◌+◌, ◌-◌, ◌<◌, ◌≤◌, List, [], ◌∷◌, ◌++◌, length, take, drop, get_or, replicate, slice_index, refl, sym, ◌∙◌, ap, subst, arith, length-append, length-drop}
+use Rattle.std.proofs.lemmas.Bool.{cases_lt, false≢true}
+use Rattle.std.proofs.lemmas.List.{length-take, get_or-take, get_or-drop, take-append-drop, ext_get_or, get_or-replicate, length-replicate, get_or_append_left, get_or-append_right}
 use Rattle.swim_disk.specs.Disk.{Torn, padded, overlaid}
 use Rattle.swim_disk.specs.Machinery.Torn.{overlaid_torn, length-front}
-use Rattle.swim_disk.specs.Replay.{Disk, fresh, step, replay, Leaves, Reaches, end_of, fill_all}
-use Rattle.swim_disk.proofs.Recorded.{replay_more}
-use Rattle.swim_disk.specs.Past.{start_of, calls_of}
+use Rattle.swim_disk.specs.Replay.{Disk, fresh, step, written, replay, Leaves, Reaches, fill_all}
+use Rattle.swim_disk.specs.Choice.{left_by}
+use Rattle.swim_disk.specs.Machinery.Made.{AreFilled, AreWrites, IsFilled, made, kept_by}
+use Rattle.swim_disk.specs.Machinery.Reached.{content_reached, synced_reached}
+use Rattle.swim_disk.specs.declared.mem.Choice.{Choice}
+use Rattle.swim_disk.specs.declared.mem.Choice.TheVariants.{Keep, Drop, Fill}
+use Rattle.swim_disk.proofs.Patched.{length-overlaid, inside, outside, IsOver, same-over, is-over}
+use Rattle.swim_disk.proofs.Making.{beside_over, beside_once, made_append, content_kept, synced_same, writes_drop}
 use Rattle.swim_disk.specs.declared.past.Call.{Call}
-use Rattle.swim_disk.specs.declared.past.Past.{Past}
 use Rattle.swim_disk.specs.declared.past.Call.TheVariants.{Write, Sync}
 
 pub torn_filled : (b at n : ℕ) (c : List ℕ) → Torn at n c (overlaid c at (replicate n b))
@@ -52,11 +53,11 @@ torn_fill b at n p k c x within torn =
         (cases_lt i p)
 
 -- each range ends within so many bytes
-abbrev EndsBy : ℕ → List (ℕ × ℕ) → Type 0
+abbrev pub EndsBy : ℕ → List (ℕ × ℕ) → Type 0
 EndsBy n [] = Unit {0}
 EndsBy n (write ∷ earlier) = (write.0 + write.1 ≤ n) × EndsBy n earlier
 
-ends_later : (m n : ℕ) (writes : List (ℕ × ℕ)) → m ≤ n → EndsBy m writes → EndsBy n writes
+pub ends_later : (m n : ℕ) (writes : List (ℕ × ℕ)) → m ≤ n → EndsBy m writes → EndsBy n writes
 ends_later m n [] le ends = tt
 ends_later m n (write ∷ earlier) le ends = (omega (arith, le, ends.0), ends_later m n earlier le ends.1)
 
@@ -66,7 +67,7 @@ torn_fill_all b at n (write ∷ earlier) c x ends torn =
     torn_fill_all b at n earlier _ _ (ends_later (length c) _ earlier (omega (arith, length_filled b write.0 write.1 c ends.0)) ends.1) (torn_fill b at n write.0 write.1 c x ends.0 torn)
 
 -- a written range lies within what it makes
-length_reaches : (c : List ℕ) (at : ℕ) (bytes : List ℕ) → at + length bytes ≤ length (overlaid c at bytes)
+pub length_reaches : (c : List ℕ) (at : ℕ) (bytes : List ℕ) → at + length bytes ≤ length (overlaid c at bytes)
 length_reaches c at bytes = omega (arith, length-append (take at (padded c at) ++ bytes) (drop (at + length bytes) c), length-append (take at (padded c at)) bytes, length-front c at)
 
 torn_again : (at n : ℕ) (c x y : List ℕ) → Torn at n c x → Torn at n x y → Torn at n c y
@@ -77,7 +78,7 @@ torn_again at n c x y first second = record {
   after = λ i less high. second.after i (omega (arith, less, first.no_shorter)) high ∙ first.after i less high;
 }
 
-record IsReady (b : ℕ) (d : Disk) : Type 0 where
+pub record IsReady (b : ℕ) (d : Disk) : Type 0 where
   pub ends : EndsBy (length d.content) d.writes
   pub filled : Reaches d.synced d.writes (fill_all b d.writes d.content)
 
@@ -90,28 +91,9 @@ step_ready b (Write at bytes) d ready =
     }
 step_ready b Sync d ready = record { ends = tt; filled = refl }
 
-all_ready : (b : ℕ) (d : Disk) (calls : List Call) → IsReady b d → IsReady b (replay d calls)
+pub all_ready : (b : ℕ) (d : Disk) (calls : List Call) → IsReady b d → IsReady b (replay d calls)
 all_ready b d [] ready = ready
 all_ready b d (call ∷ calls) ready = all_ready b (step call d) calls (step_ready b call d ready)
-
-pub fill_reached : (b : ℕ) (start : List ℕ) (calls : List Call) → Leaves (replay (fresh start) calls) (fill_all b (replay (fresh start) calls).writes (replay (fresh start) calls).content)
-fill_reached b start calls = (all_ready b (fresh start) calls (record { ends = tt; filled = refl })).filled
-
-grows : (d : Disk) (calls : List Call) → length d.content ≤ length (replay d calls).content
-grows d [] = omega arith
-grows d (Write at bytes ∷ calls) = omega (arith, (overlaid_torn d.content at bytes.items).no_shorter, grows (step (Write at bytes) d) calls)
-grows d (Sync ∷ calls) = grows (step Sync d) calls
-
--- a disk never becomes shorter than it was at first
-pub start_shorter : (past : Option Past) (made : Past) (now : List ℕ) → past ≡ Some made → now ≡ (replay (fresh (start_of past now)) (calls_of past)).content → length made.start.items ≤ length now
-start_shorter past made now is same =
-    omega (arith, ap (λ (o : Option Past). length (start_of o now)) is, grows (fresh (start_of past now)) (calls_of past), ap (λ (l : List ℕ). length l) same)
-
--- what was written lies within the content
-pub ends_within : (d : Disk) (calls : List Call) → All (λ call. end_of call ≤ length (replay d calls).content) calls
-ends_within d [] = λ k e less. absurd (omega arith)
-ends_within d (Write at bytes ∷ calls) = All-cons (λ call. end_of call ≤ length (replay (step (Write at bytes) d) calls).content) (Write at bytes) calls (omega (arith, length_reaches d.content at bytes.items, grows (step (Write at bytes) d) calls)) (ends_within (step (Write at bytes) d) calls)
-ends_within d (Sync ∷ calls) = All-cons (λ call. end_of call ≤ length (replay (step Sync d) calls).content) Sync calls (omega arith) (ends_within (step Sync d) calls)
 
 -- a reached content is no shorter than what was synced
 reached_longer : (synced : List ℕ) (writes : List (ℕ × ℕ)) (c : List ℕ) → Reaches synced writes c → length synced ≤ length c
@@ -121,55 +103,136 @@ reached_longer synced (write ∷ earlier) c reached = omega (arith, reached_long
 pub synced_shorter : (d : Disk) → Leaves d d.content → length d.synced ≤ length d.content
 synced_shorter d reached = reached_longer d.synced d.writes d.content reached
 
--- one byte more
-pub filled_next : (b at n : ℕ) (c : List ℕ) → at + n < length c → set (overlaid c at (replicate n b)) (at + n) b ≡ overlaid c at (replicate (n + 1) b)
-filled_next b at n c less =
-    let old = overlaid c at (replicate n b) in
-    let new = overlaid c at (replicate (n + 1) b) in
-    let size_old : length old ≡ length c = length_filled b at n c (omega (arith, less)) in
-    let size_new : length new ≡ length c = length_filled b at (n + 1) c (omega (arith, less)) in
-    let size_set : length (set old (at + n) b) ≡ length old = length-set old (at + n) b in
-    ext_get_or 0 _ _ (size_set ∙ size_old ∙ sym size_new) (λ i within.
-    let inside : i < length c = omega (arith, within, size_set, size_old) in
-    ⊎_elim
-    (λ (is : i ≡ at + n). ap (λ j. get_or (set old (at + n) b) j 0) is ∙ get_or-set_same old (at + n) b 0 (omega (arith, less, size_old))
-    ∙ sym (filled_inside b at (n + 1) c i (omega (arith, is)) (omega (arith, is))))
-    (λ (differs : i ≡ at + n → ⊥). get_or-set_other old (at + n) i b 0 differs ∙ ⊎_elim
-    (λ (low : i < at). (torn_filled b at n c).before i inside low ∙ sym ((torn_filled b at (n + 1) c).before i inside low))
-    (λ (low : at ≤ i). ⊎_elim
-    (λ (high : i < at + n). filled_inside b at n c i low high ∙ sym (filled_inside b at (n + 1) c i low (omega (arith, high))))
-    (λ (high : at + n ≤ i).
-    let past : at + (n + 1) ≤ i = omega (arith, beyond (at + n) i high differs) in
-    (torn_filled b at n c).after i inside high ∙ sym ((torn_filled b at (n + 1) c).after i inside past))
-    (cases_lt i (at + n)))
-    (cases_lt i at))
-    (cases_eq i (at + n)))
+-- a disk is no longer after what was written is filled
+length_fill_all : (b : ℕ) (writes : List (ℕ × ℕ)) (c : List ℕ) → EndsBy (length c) writes → length (fill_all b writes c) ≡ length c
+length_fill_all b [] c ends = refl
+length_fill_all b (write ∷ earlier) c ends =
+    let same = length_filled b write.0 write.1 c ends.0 in
+    length_fill_all b earlier (overlaid c write.0 (replicate write.1 b)) (ends_later (length c) _ earlier (omega (arith, same)) ends.1) ∙ same
+
+fresh_ready : (b : ℕ) (start : List ℕ) (calls : List Call) → IsReady b (replay (fresh start) calls)
+fresh_ready b start calls = all_ready b (fresh start) calls (record { ends = tt; filled = refl })
+
+-- ---- what is chosen
+
+pub left_reached : (choice : Choice) (start : List ℕ) (calls : List Call) → Leaves (replay (fresh start) calls) (left_by choice (replay (fresh start) calls))
+left_reached Keep start calls = content_reached start calls
+left_reached Drop start calls = synced_reached (replay (fresh start) calls)
+left_reached (Fill b) start calls = (fresh_ready b start calls).filled
+
+pub left_shorter : (choice : Choice) (start : List ℕ) (calls : List Call) → length (left_by choice (replay (fresh start) calls)) ≤ length (replay (fresh start) calls).content
+left_shorter Keep start calls = omega arith
+left_shorter Drop start calls = synced_shorter (replay (fresh start) calls) (content_reached start calls)
+left_shorter (Fill b) start calls =
+    let d = replay (fresh start) calls in
+    omega (arith, length_fill_all b d.writes d.content (fresh_ready b start calls).ends)
+
+-- ---- writes of one byte
+
+same_byte : (b n i : ℕ) → i < n → get_or (replicate n b) i 0 ≡ b
+same_byte b n i less = get_or-replicate n i b 0 less
+
+-- two of them, in either order
+same_swap : (b at n p k : ℕ) (c : List ℕ) → p + k ≤ length c → overlaid (overlaid c at (replicate n b)) p (replicate k b) ≡ overlaid (overlaid c p (replicate k b)) at (replicate n b)
+same_swap b at n p k c within = same-over c p (replicate k b) at (replicate n b) _ _ over (is-over c p (replicate k b) at (replicate n b))
   where
-    beyond : (m i : ℕ) → m ≤ i → (i ≡ m → ⊥) → m + 1 ≤ i
-    beyond m i le differs = ⊎_elim (λ (less : m < i). omega (arith, less)) (λ (other : i ≤ m). absurd (differs (omega (arith, le, other)))) (cases_lt m i)
+    x : List ℕ
+    x = overlaid c at (replicate n b)
 
--- the last of the first n calls
-last_call : (calls : List Call) (n : ℕ) (call : Call) → 0 < n → n ≤ length calls → call ≡ get_or calls (n - 1) call → take n calls ≡ take (n - 1) calls ++ call ∷ []
-last_call calls n call some le is =
-    ap (λ m. take m calls) (let same : n ≡ n - 1 + 1 = omega (arith, some) in same) ∙ take_more calls (n - 1) call (omega (arith, some, le)) ∙ ap (λ (x : Call). take (n - 1) calls ++ x ∷ []) (sym is)
+    len_n : length (replicate n b) ≡ n
+    len_n = length-replicate {A = ℕ} n b
 
-last_step : (start : List ℕ) (calls : List Call) (n : ℕ) (call made : Call) → 0 < n → n ≤ length calls → call ≡ get_or calls (n - 1) call → call ≡ made → replay (fresh start) (take n calls) ≡ step made (replay (fresh start) (take (n - 1) calls))
-last_step start calls n call made some le is same =
-    ap (λ (l : List Call). replay (fresh start) l) (last_call calls n call some le is) ∙ replay_more (fresh start) (take (n - 1) calls) call ∙ ap (λ (x : Call). step x (replay (fresh start) (take (n - 1) calls))) same
+    len_k : length (replicate k b) ≡ k
+    len_k = length-replicate {A = ℕ} k b
 
--- a write is filled, and what is left to be filled are the earlier ones
-pub fill_write : (b : ℕ) (start : List ℕ) (calls : List Call) (n at : ℕ) (call : Call) (written : Vec ℕ Global) (x new end : List ℕ) → 0 < n → n ≤ length calls → call ≡ get_or calls (n - 1) call → call ≡ Write at written
-    → new ≡ overlaid x at (replicate (length written.items) b) → fill_all b (replay (fresh start) (take n calls)).writes x ≡ end → fill_all b (replay (fresh start) (take (n - 1) calls)).writes new ≡ end
-fill_write b start calls n at call written x new end some le is same filled was =
-    ap (λ (l : List ℕ). fill_all b (replay (fresh start) (take (n - 1) calls)).writes l) filled
-    ∙ sym (ap (λ (d : Disk). fill_all b d.writes x) (last_step start calls n call (Write at written) some le is same)) ∙ was
+    here : (i : ℕ) → at ≤ i → i < at + length (replicate n b) → get_or (overlaid x p (replicate k b)) i 0 ≡ get_or (replicate n b) (i - at) 0
+    here i low high =
+        let own : get_or (replicate n b) (i - at) 0 ≡ b = same_byte b n (i - at) (omega (arith, low, high, len_n)) in
+        ⊎_elim
+        (λ (before : i < p). outside x p (replicate k b) i (inl before) ∙ inside c at (replicate n b) i low high)
+        (λ (past : p ≤ i). ⊎_elim
+        (λ (both : i < p + length (replicate k b)). inside x p (replicate k b) i past both ∙ same_byte b k (i - p) (omega (arith, past, both, len_k)) ∙ sym own)
+        (λ (after : p + length (replicate k b) ≤ i). outside x p (replicate k b) i (inr after) ∙ inside c at (replicate n b) i low high)
+        (cases_lt i (p + length (replicate k b))))
+        (cases_lt i p)
 
--- before a sync there is nothing to be filled
-pub fill_sync : (b : ℕ) (start : List ℕ) (calls : List Call) (n : ℕ) (call : Call) (x end : List ℕ) → 0 < n → n ≤ length calls → call ≡ get_or calls (n - 1) call → call ≡ Sync
-    → fill_all b (replay (fresh start) (take n calls)).writes x ≡ end → x ≡ end
-fill_sync b start calls n call x end some le is same was =
-    sym (ap (λ (d : Disk). fill_all b d.writes x) (last_step start calls n call Sync some le is same)) ∙ was
+    over : IsOver c p (replicate k b) at (replicate n b) (overlaid x p (replicate k b))
+    over = record {
+      size = let one = length-overlaid c at (replicate n b) in let two = length-overlaid x p (replicate k b) in omega (arith, one, two);
+      patch = λ i low high. here i low high;
+      wrote = λ i out low high. inside x p (replicate k b) i low high;
+      rest = λ i out apart. outside x p (replicate k b) i apart ∙ outside c at (replicate n b) i out;
+    }
 
--- what is written back into a vector of the same length
-pub written_back : (new old : List ℕ) (n : ℕ) → length new ≡ n → take n (new ++ drop (length new) old) ≡ new
-written_back new old n same = take_at new (drop (length new) old) n same
+fill_swap : (b at n : ℕ) (writes : List (ℕ × ℕ)) (c : List ℕ) → EndsBy (length c) writes → fill_all b writes (overlaid c at (replicate n b)) ≡ overlaid (fill_all b writes c) at (replicate n b)
+fill_swap b at n [] c ends = refl
+fill_swap b at n (write ∷ earlier) c ends =
+    let next = overlaid c write.0 (replicate write.1 b) in
+    ap (λ (l : List ℕ). fill_all b earlier l) (same_swap b at n write.0 write.1 c ends.0)
+    ∙ fill_swap b at n earlier next (ends_later (length c) (length next) earlier (omega (arith, length_filled b write.0 write.1 c ends.0)) ends.1)
+
+-- a range that is written again
+written_again : (at : ℕ) (v r c : List ℕ) → length r ≡ length v → overlaid (overlaid c at v) at r ≡ overlaid c at r
+written_again at v r c same = beside_over at (at + length v) at r (overlaid c at v) c (beside_once at v c) (omega arith) (omega (arith, same))
+
+-- what is left where all writes are filled is what the filled writes make
+fill_made : (b : ℕ) (d : Disk) (old new : List Call) → AreWrites old → length new ≡ length old → ((i : ℕ) → IsFilled b (get_or old i Sync) (get_or new i Sync)) → EndsBy (length d.content) d.writes
+    → made (fill_all b d.writes d.content) new ≡ fill_all b (replay d old).writes (replay d old).content
+fill_made b d [] [] are size each ends = refl
+fill_made b d [] (n ∷ new) are size each ends = absurd (omega (arith, size))
+fill_made b d (o ∷ old) [] are size each ends = absurd (omega (arith, size))
+fill_made b d (Sync ∷ old) (n ∷ new) are size each ends = absurd (false≢true are)
+fill_made b d (Write at v ∷ old) (Sync ∷ new) are size each ends = absurd (each 0)
+fill_made b d (Write at v ∷ old) (Write from w ∷ new) are size each ends =
+    let here : (from ≡ at) × (w.items ≡ replicate (length v.items) b) = each 0 in
+    let r = replicate (length v.items) b in
+    let torn = overlaid_torn d.content at v.items in
+    ap (λ n. made (overlaid (fill_all b d.writes d.content) n w.items) new) here.0
+    ∙ ap (λ (l : List ℕ). made (overlaid (fill_all b d.writes d.content) at l) new) here.1
+    ∙ ap (λ (l : List ℕ). made l new) (sym (fill_swap b at (length v.items) d.writes d.content ends))
+    ∙ ap (λ (l : List ℕ). made (fill_all b d.writes l) new) (sym (written_again at v.items r d.content (length-replicate {A = ℕ} (length v.items) b)))
+    ∙ fill_made b (written at v.items d) old new are (omega (arith, size)) (λ i. each (suc i)) (length_reaches d.content at v.items, ends_later (length d.content) _ d.writes torn.no_shorter ends)
+
+-- ---- what becomes of the writes
+
+pub kept_keep : (start : List ℕ) (writes : List Call) (n : ℕ) → made start writes ≡ left_by Keep (kept_by start writes n)
+kept_keep start writes n = sym (content_kept start writes n)
+
+pub kept_drop : (start : List ℕ) (writes : List Call) (n : ℕ) → AreWrites writes → made start (take n writes) ≡ left_by Drop (kept_by start writes n)
+kept_drop start writes n are = sym (synced_same (fresh (made start (take n writes))) (drop n writes) (writes_drop n writes are))
+
+pub kept_fill : (b : ℕ) (start : List ℕ) (old new : List Call) (n : ℕ) → AreWrites old → AreFilled b n old new → made start new ≡ left_by (Fill b) (kept_by start old n)
+kept_fill b start old new n are filled =
+    ap (λ (l : List Call). made start l) (sym (take-append-drop n new))
+    ∙ made_append start (take n new) (drop n new)
+    ∙ ap (λ (l : List Call). made (made start l) (drop n new)) same
+    ∙ fill_made b (fresh (made start (take n old))) (drop n old) (drop n new) (writes_drop n old are)
+    (omega (arith, length-drop n old, length-drop n new, filled.size)) each tt
+  where
+    same : take n new ≡ take n old
+    same = ext_get_or Sync (take n new) (take n old) (omega (arith, length-take n new, length-take n old, filled.size)) (λ i less.
+        let low : i < n = omega (arith, less, length-take n new) in
+        get_or-take n new i Sync low ∙ filled.before i (omega (arith, low)) ∙ sym (get_or-take n old i Sync low))
+
+    each : (i : ℕ) → IsFilled b (get_or (drop n old) i Sync) (get_or (drop n new) i Sync)
+    each i = subst (λ (c : Call). IsFilled b c (get_or (drop n new) i Sync)) (sym (get_or-drop n old i Sync))
+        (subst (λ (c : Call). IsFilled b (get_or old (n + i) Sync) c) (sym (get_or-drop n new i Sync)) (filled.filled (n + i) (omega arith)))
+
+abbrev is_write : Call → Bool
+is_write (Write at bytes) = true
+is_write Sync = false
+
+-- filled writes are writes
+writes_each : (b : ℕ) (old new : List Call) → AreWrites old → length new ≡ length old → ((i : ℕ) → (get_or new i Sync ≡ get_or old i Sync) ⊎ IsFilled b (get_or old i Sync) (get_or new i Sync)) → AreWrites new
+writes_each b [] [] are size each = refl
+writes_each b [] (n ∷ new) are size each = absurd (omega (arith, size))
+writes_each b (o ∷ old) [] are size each = absurd (omega (arith, size))
+writes_each b (Sync ∷ old) (n ∷ new) are size each = absurd (false≢true are)
+writes_each b (Write at v ∷ old) (Write from w ∷ new) are size each = writes_each b old new are (omega (arith, size)) (λ i. each (suc i))
+writes_each b (Write at v ∷ old) (Sync ∷ new) are size each = absurd (⊎_elim (λ (same : Sync ≡ Write at v). false≢true (ap is_write same)) (λ other. other) (each 0))
+
+pub writes_filled : (b : ℕ) (old new : List Call) (n : ℕ) → AreWrites old → AreFilled b n old new → AreWrites new
+writes_filled b old new n are filled = writes_each b old new are filled.size (λ i. ⊎_elim
+    (λ (low : i < n). inl (filled.before i (omega (arith, low))))
+    (λ (high : n ≤ i). inr (filled.filled i high))
+    (cases_lt i n))

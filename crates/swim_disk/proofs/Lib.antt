@@ -4,3 +4,4 @@ mod Filled
 mod Parts
 pub mod Recorded
 mod Patched
+mod Making

@@ -16,7 +16,7 @@ use Rattle.swim_disk.specs.declared.mem.Choice.TheVariants.{Keep, Drop, Fill}
 pub length-overlaid : (c : List ℕ) (at : ℕ) (p : List ℕ) → length (overlaid c at p) ≡ max (length c) (at + length p)
 length-overlaid c at p = omega (arith, length-append (take at (padded c at) ++ p) (drop (at + length p) c), length-append (take at (padded c at)) p, length-front c at, length-drop (at + length p) c)
 
-inside : (c : List ℕ) (at : ℕ) (p : List ℕ) (i : ℕ) → at ≤ i → i < at + length p → get_or (overlaid c at p) i 0 ≡ get_or p (i - at) 0
+pub inside : (c : List ℕ) (at : ℕ) (p : List ℕ) (i : ℕ) → at ≤ i → i < at + length p → get_or (overlaid c at p) i 0 ≡ get_or p (i - at) 0
 inside c at p i low high =
     get_or_append_left (take at (padded c at) ++ p) (drop (at + length p) c) 0 i (omega (arith, length-append (take at (padded c at)) p, length-front c at, high))
     ∙ get_or-append_right (take at (padded c at)) p at i 0 (length-front c at) low
@@ -33,7 +33,7 @@ padding c at i = ⊎_elim
     (λ (past : length c ≤ i). get_or-append_right c (replicate (at - length c) 0) (length c) i 0 refl past ∙ zeros (at - length c) (i - length c) ∙ sym (get_or_past c i 0 past))
     (cases_lt i (length c))
 
-outside : (c : List ℕ) (at : ℕ) (p : List ℕ) (i : ℕ) → (i < at) ⊎ (at + length p ≤ i) → get_or (overlaid c at p) i 0 ≡ get_or c i 0
+pub outside : (c : List ℕ) (at : ℕ) (p : List ℕ) (i : ℕ) → (i < at) ⊎ (at + length p ≤ i) → get_or (overlaid c at p) i 0 ≡ get_or c i 0
 outside c at p i apart = ⊎_elim
     (λ (low : i < at).
     get_or_append_left (take at (padded c at) ++ p) (drop (at + length p) c) 0 i (omega (arith, length-append (take at (padded c at)) p, length-front c at, low))
@@ -49,13 +49,13 @@ outside c at p i apart = ⊎_elim
 -- ---- a write, and a patch over it
 
 -- the content with w written at b, and then p at `at`
-record IsOver (c : List ℕ) (b : ℕ) (w : List ℕ) (at : ℕ) (p x : List ℕ) : Type 0 where
+pub record IsOver (c : List ℕ) (b : ℕ) (w : List ℕ) (at : ℕ) (p x : List ℕ) : Type 0 where
   pub size : length x ≡ max (length c) (max (b + length w) (at + length p))
   pub patch : (i : ℕ) → at ≤ i → i < at + length p → get_or x i 0 ≡ get_or p (i - at) 0
   pub wrote : (i : ℕ) → (i < at) ⊎ (at + length p ≤ i) → b ≤ i → i < b + length w → get_or x i 0 ≡ get_or w (i - b) 0
   pub rest : (i : ℕ) → (i < at) ⊎ (at + length p ≤ i) → (i < b) ⊎ (b + length w ≤ i) → get_or x i 0 ≡ get_or c i 0
 
-same-over : (c : List ℕ) (b : ℕ) (w : List ℕ) (at : ℕ) (p x y : List ℕ) → IsOver c b w at p x → IsOver c b w at p y → x ≡ y
+pub same-over : (c : List ℕ) (b : ℕ) (w : List ℕ) (at : ℕ) (p x y : List ℕ) → IsOver c b w at p x → IsOver c b w at p y → x ≡ y
 same-over c b w at p x y one two = ext_get_or 0 x y (one.size ∙ sym two.size) (λ i less. each i)
   where
     apart : (i : ℕ) → (i < at) ⊎ (at + length p ≤ i) → get_or x i 0 ≡ get_or y i 0
@@ -76,7 +76,7 @@ same-over c b w at p x y one two = ext_get_or 0 x y (one.size ∙ sym two.size) 
         (cases_lt i (at + length p)))
         (cases_lt i at)
 
-is-over : (c : List ℕ) (b : ℕ) (w : List ℕ) (at : ℕ) (p : List ℕ) → IsOver c b w at p (overlaid (overlaid c b w) at p)
+pub is-over : (c : List ℕ) (b : ℕ) (w : List ℕ) (at : ℕ) (p : List ℕ) → IsOver c b w at p (overlaid (overlaid c b w) at p)
 is-over c b w at p = record {
   size = let one = length-overlaid c b w in let two = length-overlaid (overlaid c b w) at p in omega (arith, one, two);
   patch = λ i low high. inside (overlaid c b w) at p i low high;

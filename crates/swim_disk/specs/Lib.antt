@@ -7,6 +7,5 @@ pub mod File
 pub mod MemDisk
 pub mod Memory
 pub mod Part
-pub mod Past
 pub mod Replay
 pub mod Machinery

@@ -2,3 +2,4 @@
 pub mod Patch
 pub mod Torn
 pub mod Reached
+pub mod Made

@@ -9,6 +9,7 @@ mod count;
 mod disk;
 mod fault;
 mod file;
+mod made;
 mod mem;
 mod open_file;
 mod past;

@@ -1,19 +1,22 @@
 //! A disk in memory, which a crash cuts as the caller chooses.
 
-ghost use Rattle.std.specs.Prelude.{◌≡◌, ◌⊎◌, ◌++◌, ◌∷◌, [], ◌+◌, ◌≤◌, ℕ, List, All, length, replicate, IfOk, IsSome, OnErr, OnOk};
+ghost use Rattle.std.specs.Prelude.{◌≡◌, ◌++◌, ◌∷◌, [], ◌+◌, ◌≤◌, ℕ, List, length, drop, take, IfOk, OnErr, OnOk};
 ghost use Rattle.swim_disk.specs.declared.mem.TheConstants.{MOST_BYTES};
 ghost use Rattle.swim_disk.specs.Disk.{overlaid};
-ghost use Rattle.swim_disk.specs.Past.{start_of, calls_of};
-ghost use Rattle.swim_disk.specs.Replay.{replay, fresh, Leaves, end_of, fill_all};
+ghost use Rattle.swim_disk.specs.Replay.{replay, fresh};
 ghost use Rattle.swim_disk.specs.Choice.{left_by};
+ghost use Rattle.swim_disk.specs.Machinery.Made.{AreWrites, kept_by, made};
 ghost use Rattle.swim_disk.specs.declared.mem.Choice.{Choice as Choices};
-ghost use Rattle.swim_disk.specs.declared.past.Call.TheVariants.{Write, Sync};
+ghost use Rattle.swim_disk.specs.declared.past.Call.{Call as Calls};
+ghost use Rattle.swim_disk.specs.declared.past.Call.TheVariants.{Sync, Write};
 
 use crate::beside::repeat_beside;
 use crate::count::Count;
-use crate::past::{Call, Past};
+use crate::made::{bytes_made, count_made, drop_covered, fill_from, read_made};
+use crate::past::Call;
 use crate::{Disk, DiskFault};
 use std::alloc::{AllocError, Global};
+use swim_trace::Trace;
 
 /// The most bytes that a disk in memory holds.
 pub const MOST_BYTES: u64 = 65_536;
@@ -29,18 +32,23 @@ pub enum Choice {
     Fill(u8),
 }
 
-/// A disk in memory, which keeps a record of its calls. It holds at most [`MOST_BYTES`] bytes.
+/// A disk in memory. It holds at most [`MOST_BYTES`] bytes, and takes memory for those that it was made with and those that
+/// were written, and none for the zero bytes between them: it keeps the writes themselves. Of what was synced it keeps no
+/// write of which a later one wrote every byte.
 #[derive(Drop)]
 pub struct MemDisk {
     alloc: Global,
     number: u64,
-    bytes: Vec<u8>,
-    past: Option<Past>,
+    start: Vec<u8>,
+    writes: Vec<Call>,
+    synced: usize,
+    history: Trace<Call>,
     failures: Count,
     asked: Count,
-    ghost size: { length bytes.items ≤ MOST_BYTES },
-    ghost content: { bytes.items
-        ≡ (replay (fresh (start_of past bytes.items)) (calls_of past)).content },
+    ghost size: { length (made start.items writes.items) ≤ MOST_BYTES },
+    ghost unsynced: { AreWrites writes.items },
+    ghost within: { synced ≤ length writes.items },
+    ghost kept: { replay (fresh start.items) history ≡ kept_by start.items writes.items synced },
 }
 
 impl MemDisk {
@@ -60,18 +68,32 @@ impl MemDisk {
         MemDisk {
             alloc,
             number,
-            bytes,
-            past: None,
+            start: bytes,
+            writes: Vec::new(alloc),
+            synced: 0,
+            history: Trace::new(),
             failures: Count::new(),
             asked: Count::new(),
         }
     }
 
-    /// What a read gives, from byte 0 on.
-    pub fn bytes(&self) -> &[u8]
-        ensures { result.now ≡ (state_of self.now).content }
+    /// What a read gives, from byte 0 on. Err: there was no memory for it.
+    pub fn bytes(&self) -> Result<Vec<u8>, AllocError>
+        ensures { IfOk result (λ v. v.items ≡ (state_of self.now).content) }
     {
-        &self.bytes
+        bytes_made(self.alloc, &self.start, &self.writes)
+    }
+
+    /// The bytes that were synced, with these at this offset.
+    fn synced_with(&self, at: u64, bytes: &[u8]) -> Result<Vec<u8>, AllocError>
+        requires { at + length bytes.now ≤ MOST_BYTES }
+        ensures bytes { IfOk result (λ v. v.items
+            ≡ overlaid (made self.now.start.items (take self.now.synced self.now.writes.items))
+            at bytes.now) }
+        ensures size { IfOk result (λ v. length v.items ≤ MOST_BYTES) }
+    {
+        let synced = bytes_made(self.alloc, &self.start, &self.writes[..self.synced])?;
+        overlay(self.alloc, &synced, at, bytes)
     }
 
     /// The disk that this one would be if these bytes had stood at this offset from the beginning, and
@@ -88,33 +110,36 @@ impl MemDisk {
             → left_by choice (disk_of d)
             ≡ overlaid (left_by choice (disk_of self.now)) at bytes.now) }
     {
-        let Ok(first) = overlay(self.alloc, self.first(), at, bytes) else {
+        let Ok(first) = self.synced_with(at, bytes) else {
             return Err(DiskFault::NoMemory);
         };
         let mut disk = MemDisk::new(self.alloc, self.number, first);
-        repeat_beside(&mut disk, self.calls(), at, bytes.len() as u64)?;
+        repeat_beside(
+            &mut disk,
+            &self.writes[self.synced..],
+            at,
+            bytes.len() as u64,
+        )?;
         Ok(disk)
     }
 
-    /// The bytes that it was made with.
-    fn first(&self) -> &[u8]
-        ensures size { length result.now ≤ MOST_BYTES }
-        ensures bytes { result.now ≡ start_of self.now.past self.now.bytes.items }
+    /// Keeps a write. Err: there was no memory, and nothing was done.
+    fn add_write(&mut self, at: u64, bytes: &[u8]) -> Result<(), AllocError>
+        requires { at + length bytes.now ≤ MOST_BYTES }
+        ensures done { OnOk result ((kept : _) × (kept.items ≡ bytes.now)
+            × (self.new.history ≡ self.old.history ++ Write at kept ∷ [])) }
+        ensures failed { OnErr result (self.new.history ≡ self.old.history) }
+        ensures start { self.new.start ≡ self.old.start }
+        ensures number { self.new.number ≡ self.old.number }
+        ensures failures { self.new.failures ≡ self.old.failures }
+        ensures asked { self.new.asked ≡ self.old.asked }
     {
-        match &self.past {
-            None => &self.bytes,
-            Some(past) => &past.start,
-        }
-    }
-
-    /// The calls in its record, the oldest first.
-    fn calls(&self) -> &[Call]
-        ensures { result.now ≡ calls_of self.now.past }
-    {
-        match &self.past {
-            None => &[],
-            Some(past) => &past.calls,
-        }
+        let bytes = bytes.to_vec(self.alloc)?;
+        self.writes.reserve(1)?;
+        let call = Call::Write { at, bytes };
+        self.history = self.history.and(&call);
+        self.writes.push_reserved(call);
+        Ok(())
     }
 
     /// The disk that a crash leaves: one of the images now, and this one alone. It takes no memory.
@@ -128,23 +153,49 @@ impl MemDisk {
         let MemDisk {
             alloc,
             number,
-            bytes,
-            past,
+            start,
+            mut writes,
+            synced,
+            history: _,
             failures,
             asked,
         } = self;
-        let bytes = match past {
-            None => bytes,
-            Some(past) => left(bytes, past, choice),
-        };
+        leave(&mut writes, synced, choice);
         MemDisk {
             alloc,
             number,
-            bytes,
-            past: None,
+            start,
+            synced: writes.len(),
+            history: all_synced(&writes),
+            writes,
             failures,
             asked,
         }
+    }
+}
+
+/// These writes, and then a sync, for contracts alone.
+fn all_synced(writes: &[Call]) -> Trace<Call>
+    ensures { result ≡ writes.now ++ Sync ∷ [] }
+{
+    let mut history = Trace::new();
+    for call in writes {
+        history = history.and(call);
+    }
+    history.and(&Call::Sync)
+}
+
+/// Makes of these writes, of which the first ones are synced, what a crash leaves.
+fn leave(writes: &mut Vec<Call>, synced: usize, choice: Choice)
+    requires { AreWrites writes.old.items }
+    ensures writes { AreWrites writes.new.items }
+    ensures chosen { (start : List ℕ) → made start writes.new.items
+        ≡ left_by choice (kept_by start writes.old.items synced) }
+{
+    match choice {
+        Choice::Keep => {}
+        Choice::Drop => writes.truncate(synced),
+        Choice::Fill(byte) => fill_from(writes, synced, byte),
     }
 }
 
@@ -175,99 +226,6 @@ pub(crate) fn overlay(
     Ok(next)
 }
 
-/// Makes a past where there is none yet.
-fn begin(alloc: Global, past: &mut Option<Past>, bytes: &[u8]) -> Result<(), AllocError>
-    ensures made { OnOk result (IsSome past.new) }
-    ensures start { start_of past.new bytes.now ≡ start_of past.old bytes.now }
-    ensures calls { calls_of past.new ≡ calls_of past.old }
-{
-    if past.is_none() {
-        *past = Some(Past::of(alloc, bytes)?);
-    }
-    Ok(())
-}
-
-/// The bytes after a write, which is put into the record.
-fn written(
-    alloc: Global,
-    old: &[u8],
-    past: &mut Option<Past>,
-    at: u64,
-    bytes: &[u8],
-) -> Result<Vec<u8>, AllocError>
-    requires room { at + length bytes.now ≤ MOST_BYTES }
-    requires size { length old.now ≤ MOST_BYTES }
-    ensures bytes { IfOk result (λ v. v.items ≡ overlaid old.now at bytes.now) }
-    ensures size { IfOk result (λ v. length v.items ≤ MOST_BYTES) }
-    ensures start { OnOk result ((c : List ℕ) → start_of past.new c ≡ start_of past.old old.now) }
-    ensures calls { OnOk result
-        ((kept : _) × (kept.items ≡ bytes.now)
-        × (calls_of past.new ≡ calls_of past.old ++ Write at kept ∷ [])) }
-    ensures same_start { OnErr result (start_of past.new old.now ≡ start_of past.old old.now) }
-    ensures same_calls { OnErr result (calls_of past.new ≡ calls_of past.old) }
-{
-    let next = overlay(alloc, old, at, bytes)?;
-    let kept = bytes.to_vec(alloc)?;
-    begin(alloc, past, old)?;
-    match past {
-        Some(past) => past.add_write(at, kept)?,
-        None => unreachable!(),
-    }
-    Ok(next)
-}
-
-/// Writes this byte over `count` bytes from `at` on.
-fn fill(bytes: &mut [u8], at: usize, count: usize, byte: u8)
-    requires { at + count ≤ length bytes.old }
-    ensures { bytes.new ≡ overlaid bytes.old at (replicate count byte) }
-{
-    for place in at..at + count {
-        bytes[place] = byte;
-    }
-}
-
-/// Writes this byte over all that was written since the last sync.
-fn fill_unsynced(bytes: &mut [u8], calls: &[Call], byte: u8)
-    requires within { All (λ call. end_of call ≤ length bytes.old) calls.now }
-    ensures { (start : List ℕ)
-        → bytes.new ≡ fill_all byte (replay (fresh start) calls.now).writes bytes.old }
-{
-    let mut left = calls.len();
-    while left > 0 {
-        left -= 1;
-        match &calls[left] {
-            Call::Sync => return,
-            Call::Write { at, bytes: written } => fill(bytes, *at as usize, written.len(), byte),
-        }
-    }
-}
-
-/// What a crash leaves of these bytes.
-fn left(mut bytes: Vec<u8>, past: Past, choice: Choice) -> Vec<u8>
-    requires now { bytes.items ≡ (replay (fresh past.start.items) past.calls.items).content }
-    requires size { length bytes.items ≤ MOST_BYTES }
-    ensures image { Leaves (replay (fresh past.start.items) past.calls.items) result.items }
-    ensures chosen { result.items ≡ left_by choice
-        (replay (fresh past.start.items) past.calls.items) }
-    ensures size { length result.items ≤ MOST_BYTES }
-{
-    match choice {
-        Choice::Keep => bytes,
-        Choice::Drop => {
-            let Past {
-                start: _,
-                synced,
-                calls: _,
-            } = past;
-            synced
-        }
-        Choice::Fill(byte) => {
-            fill_unsynced(&mut bytes, &past.calls, byte);
-            bytes
-        }
-    }
-}
-
 impl Disk for MemDisk {
     ghost use Rattle.std.specs.Prelude.{◌<◌, take, drop, Err, IfErr, IsOk};
     ghost use Rattle.swim_disk.specs.Disk.{Counts, Rests, Syncs, Writes};
@@ -288,7 +246,7 @@ impl Disk for MemDisk {
         ensures ok { IsOk result }
     {
         self.asked.add();
-        Ok(self.bytes.len() as u64)
+        Ok(count_made(&self.start, &self.writes) as u64)
     }
 
     fn read_at(&mut self, at: u64, buffer: &mut [u8]) -> Result<(), DiskFault>
@@ -305,12 +263,11 @@ impl Disk for MemDisk {
             × (length (state_of self.old).content < at + length buffer.old)) }
     {
         self.asked.add();
-        let len = self.bytes.len() as u64;
+        let len = count_made(&self.start, &self.writes) as u64;
         if at > len || buffer.len() as u64 > len - at {
             return Err(self.failures.fail(DiskFault::PastEnd));
         }
-        let at = at as usize;
-        buffer.copy_from_slice(&self.bytes[at..at + buffer.len()]);
+        read_made(&self.start, &self.writes, at as usize, buffer);
         Ok(())
     }
 
@@ -333,11 +290,8 @@ impl Disk for MemDisk {
         if at > MOST_BYTES || bytes.len() as u64 > MOST_BYTES - at {
             return Err(self.failures.fail(DiskFault::NoRoom));
         }
-        match written(self.alloc, &self.bytes, &mut self.past, at, bytes) {
-            Ok(next) => {
-                self.bytes = next;
-                Ok(())
-            }
+        match self.add_write(at, bytes) {
+            Ok(()) => Ok(()),
             Err(_) => Err(self.failures.fail(DiskFault::NoMemory)),
         }
     }
@@ -355,30 +309,9 @@ impl Disk for MemDisk {
         ensures failed { OnErr result (disk_of self.new ≡ disk_of self.old) }
     {
         self.asked.add();
-        match synced(self.alloc, &self.bytes, &mut self.past) {
-            Ok(()) => Ok(()),
-            Err(_) => Err(self.failures.fail(DiskFault::NoMemory)),
-        }
-    }
-}
-
-/// Puts a sync into the record. Where nothing was written yet there is nothing to sync.
-fn synced(alloc: Global, bytes: &[u8], past: &mut Option<Past>) -> Result<(), AllocError>
-    requires { bytes.now ≡
-        (replay (fresh (start_of past.old bytes.now)) (calls_of past.old)).content }
-    ensures start { start_of past.new bytes.now ≡ start_of past.old bytes.now }
-    ensures calls { OnOk result
-        ((calls_of past.new ≡ calls_of past.old ++ Sync ∷ [])
-        ⊎ ((calls_of past.old ≡ []) × (calls_of past.new ≡ []))) }
-    ensures same { OnErr result (calls_of past.new ≡ calls_of past.old) }
-    ensures content { bytes.now ≡
-        (replay (fresh (start_of past.new bytes.now)) (calls_of past.new)).content }
-{
-    match past {
-        None => Ok(()),
-        Some(past) => {
-            past.add_sync(bytes.to_vec(alloc)?)?;
-            Ok(())
-        }
+        drop_covered(&mut self.writes);
+        self.synced = self.writes.len();
+        self.history = self.history.and(&Call::Sync);
+        Ok(())
     }
 }

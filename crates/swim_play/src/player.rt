@@ -265,7 +265,7 @@ impl Player {
             Command::Kill => self.kill()?,
             Command::Crash(choice) => self.crash(choice)?,
             Command::Overwrite(patch) => self.overwrite(patch)?,
-            Command::Slots => write_slots(&mut self.text, self.session.image())?,
+            Command::Slots => write_slots(&mut self.text, self.session.image()?)?,
             Command::Rebase => self.rebase()?,
             Command::KeepPeers => self.keep_peers()?,
             Command::Peers => write_peers(&mut self.text, self.session.peers())?,

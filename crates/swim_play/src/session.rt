@@ -202,18 +202,29 @@ impl Session {
         !matches!(self.stage, Stage::Bare)
     }
 
-    /// What the disk reads, if there is one.
-    pub(crate) fn image(&self) -> Option<&[u8]>
-        ensures some { IfSome result (λ image. (disk : PlayDisks)
-            × (self.now.disk ≡ Some disk)
-            × (image.now ≡ (disk_state disk).content)) }
+    /// The disk, if there is one.
+    pub(crate) fn disk(&self) -> Option<&PlayDisk>
+        ensures some { IfSome result (λ disk. self.now.disk ≡ Some disk.now) }
         ensures none { result ≡ None → self.now.disk ≡ None }
     {
         match &self.stage {
             Stage::Bare => None,
-            Stage::Idle(disk) => Some(disk.inner().bytes()),
-            Stage::Open(living) => Some(living.disk().inner().bytes()),
+            Stage::Idle(disk) => Some(disk),
+            Stage::Open(living) => Some(living.disk()),
         }
+    }
+
+    /// What the disk reads, if there is one. Err: there was no memory for it.
+    pub(crate) fn image(&self) -> Result<Option<Vec<u8>>, AllocError>
+        ensures some { IfOk result (λ read. IfSome read (λ image. (disk : PlayDisks)
+            × (self.now.disk ≡ Some disk)
+            × (image.items ≡ (disk_state disk).content))) }
+        ensures none { IfOk result (λ read. read ≡ None → self.now.disk ≡ None) }
+    {
+        let Some(disk) = self.disk() else {
+            return Ok(None);
+        };
+        Ok(Some(disk.inner().bytes()?))
     }
 
     /// The last entry of the open member's era, if it has any.

@@ -132,11 +132,11 @@ fn write_slot(text: &mut String, reading: Reading) -> Result<(), AllocError> {
 }
 
 /// The line of the slots of a state file, or of a disk that is missing.
-pub(crate) fn write_slots(text: &mut String, image: Option<&[u8]>) -> Result<(), AllocError> {
+pub(crate) fn write_slots(text: &mut String, image: Option<Vec<u8>>) -> Result<(), AllocError> {
     let Some(image) = image else {
         return writeln!(text, "no disk");
     };
-    let slots = slots_in(image);
+    let slots = slots_in(&image);
     write!(text, "slots a ")?;
     write_slot(text, slots.a)?;
     write!(text, " b ")?;

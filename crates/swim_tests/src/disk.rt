@@ -23,7 +23,7 @@ fn crash_leaves_what_was_chosen(rt: HostRuntime) -> Result<(), Fail> {
         (Choice::Fill(0xa5), [1, 2, 3, 0xa5, 0xa5].as_slice()),
     ] {
         let left = written(rt.alloc())?.crash(choice);
-        assert_eq!(rt; left.bytes(), want, "{choice:?}");
+        assert_eq!(rt; left.bytes()?.as_slice(), want, "{choice:?}");
     }
     Ok(())
 }
@@ -48,6 +48,23 @@ fn memory_ends(rt: HostRuntime) -> Result<(), Fail> {
     Ok(())
 }
 
+/// A byte at each place of a disk, written one by one and then in one piece, reads as it was written last.
+#[test]
+fn later_writes_hide_earlier_ones(rt: HostRuntime) -> Result<(), Fail> {
+    let mut disk = written(rt.alloc())?;
+    for at in 0..5_u8 {
+        disk.write_at(u64::from(at), &[at])?;
+        disk.sync()?;
+    }
+    assert_eq!(rt; disk.bytes()?.as_slice(), [0, 1, 2, 3, 4].as_slice());
+    disk.write_at(1, &[7, 7, 7])?;
+    disk.sync()?;
+    disk.write_at(8, &[9])?;
+    assert_eq!(rt; disk.bytes()?.as_slice(), [0, 7, 7, 7, 4, 0, 0, 0, 9].as_slice());
+    assert_eq!(rt; disk.crash(Choice::Drop).bytes()?.as_slice(), [0, 7, 7, 7, 4].as_slice());
+    Ok(())
+}
+
 /// Bytes that are put under a disk stand after each crash, and what was written beside them is as it was.
 #[test]
 fn overwritten_bytes_stand(rt: HostRuntime) -> Result<(), Fail> {
@@ -57,7 +74,7 @@ fn overwritten_bytes_stand(rt: HostRuntime) -> Result<(), Fail> {
         (Choice::Fill(0xa5), [1, 2, 3, 7, 0xa5].as_slice()),
     ] {
         let disk = written(rt.alloc())?.overwritten(3, &[7])?;
-        assert_eq!(rt; disk.crash(choice).bytes(), want, "{choice:?}");
+        assert_eq!(rt; disk.crash(choice).bytes()?.as_slice(), want, "{choice:?}");
     }
     Ok(())
 }
@@ -114,7 +131,7 @@ fn tears_in_the_middle(rt: HostRuntime) -> Result<(), Fail> {
         plan.tear_write(1);
         assert!(rt; count <= 16);
         assert!(rt; disk.write_at(0, &[7; 16][..count]).is_err());
-        assert_eq!(rt; disk.inner().bytes(), &[7; 16][..want]);
+        assert_eq!(rt; disk.inner().bytes()?.as_slice(), &[7; 16][..want]);
     }
     Ok(())
 }

@@ -58,7 +58,7 @@ fn crashed(rt: &impl Abort, alloc: Global, disk: Device, choice: Choice) -> Devi
 #[test]
 fn init_file(rt: HostRuntime) {
     let (disk, _) = made(&rt, rt.alloc());
-    let bytes = disk.inner().bytes();
+    let bytes = disk.inner().bytes().expect(&rt, "memory");
     assert_eq!(rt; bytes.len(), 16_385);
     for (at, want) in [
         (
@@ -405,7 +405,8 @@ fn raise_in_trouble(rt: HostRuntime) {
         let raised = store.raise(2, 0, &[]);
         assert_eq!(rt; raised.is_ok(), k == 6);
         let disk = crashed(&rt, rt.alloc(), store.into_disk(), choice);
-        assert_eq!(rt; slots_in(disk.inner().bytes()), left, "{trouble:?}");
+        let bytes = disk.inner().bytes().expect(&rt, "memory");
+        assert_eq!(rt; slots_in(&bytes), left, "{trouble:?}");
         assert_eq!(rt; open(disk, member(&rt, 1)).0, Ok(next), "{trouble:?}");
     }
 }
@@ -432,7 +433,8 @@ fn raise_reserves(rt: HostRuntime) {
     assert_eq!(rt; store.raise(2, 3, &[]), Ok(()));
     assert_eq!(rt; store.ceiling(), 5);
     let disk = crashed(&rt, rt.alloc(), store.into_disk(), Choice::Drop);
-    assert_eq!(rt; slots_in(disk.inner().bytes()), slots(Some(1), Some(5)));
+    let bytes = disk.inner().bytes().expect(&rt, "memory");
+    assert_eq!(rt; slots_in(&bytes), slots(Some(1), Some(5)));
     assert_eq!(rt; open(disk, member(&rt, 1)).0, Ok(6));
 }
 
