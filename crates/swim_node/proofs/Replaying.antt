@@ -1,9 +1,10 @@
 -- An era that begins anew, and one entry for one cause.
-use Rattle.std.proofs.Common.{◌≡◌, ℕ, ◌+◌, ◌≤◌, ◌<◌, ◌==◌, nat_lt, Bool, true, false, List, [], ◌∷◌, ◌++◌, length, drop, refl, ap, sym, ◌∙◌, arith, subst, Option, Some, None, zero, suc, length-append, map}
+use Rattle.std.proofs.Common.{◌≡◌, ℕ, ◌+◌, ◌≤◌, ◌==◌, false, List, [], ◌∷◌, ◌++◌, length, drop, take, refl, ap, sym, ◌∙◌, arith, subst, Option, Some, None, zero, suc, length-append, map}
 use Rattle.std.specs.List.{IsDistinct}
 use Rattle.std.specs.Option.{option_to_list}
 use Rattle.std.proofs.lemmas.Bool.{ltb-false}
 use Rattle.std.proofs.lemmas.List.Elements.{All-nil}
+use Rattle.std.proofs.Math.Seq.{take-append_seam}
 use Rattle.std.proofs.lemmas.Map.Keys.{IsDistinct-tail}
 use Rattle.swim_rules.specs.declared.table.TheConstants.{ROWS_MAX}
 use Rattle.swim_member.specs.declared.answer.Answer.{Answer}
@@ -19,11 +20,11 @@ use Rattle.swim_node.specs.declared.entry.Status.{Status}
 use Rattle.swim_node.specs.declared.entry.Tag.{Tag}
 use Rattle.swim_node.specs.declared.opening.TheConstants.{LIMIT_MAX}
 use Rattle.swim_node.specs.declared.replay.Cause.{Cause}
-use Rattle.swim_node.specs.History.{Base, AreNext, IsLegal, IsNext, Saves, answer_in, granted_of, lost_in, state_after, status_at, status_of, steps, taken_in}
+use Rattle.swim_node.specs.History.{Base, AreNext, IsLegal, IsNext, Saves, answer_in, granted_of, lost_in, state_after, status_at, steps, taken_in}
 use Rattle.swim_node.specs.Node.{IsNode}
 use Rattle.swim_node.specs.Owns.{AreAtLeast, AreAtMost, greatest_of}
 use Rattle.swim_node.specs.Probing.{IsStart}
-use Rattle.swim_node.specs.Replaying.{cause_of, is_above}
+use Rattle.swim_node.specs.Replaying.{IsTold, cause_of, is_above}
 use Rattle.swim_node.specs.Sending.{HasTexts}
 use Rattle.swim_node.proofs.Lists.{steps-append}
 
@@ -135,27 +136,32 @@ module _ (base : Base) (xs : List Entry) where
       let save : e.save ≡ f.save = saves-one (wanted (state_after base xs) e.event) (granted_of base xs) e.granted e.save f.save h.fits.saved (subst (λ (c : Cause). Saves (wanted (state_after base xs) c.event) (granted_of base xs) f.save c.granted) (sym same) k.fits.saved) in
       next-by e h ∙ ap (λ (c : Cause). entry_by c e.save) same ∙ ap (λ (s : Save). entry_by (cause_of f) s) save ∙ sym (next-by f k)
 
-  -- an entry that takes over what it is told of a cause is whatever entry could stand there with that cause
-  pub next-again : (cause : Cause) (f : Entry) → IsNext base xs f → f.tag ≡ cause.tag → f.event ≡ cause.event → ((save : Save) → Saves (wanted (state_after base xs) cause.event) (granted_of base xs) save cause.granted → (f.save ≡ save) × (f.granted ≡ cause.granted)) → (length cause.outcomes.items ≡ length f.outs.items → f.outcomes.items ≡ cause.outcomes.items) → (e : Entry) → IsNext base xs e → cause_of e ≡ cause → f ≡ e
-  next-again cause f k tag event granted outcomes e h is =
-      let saved : Saves (wanted (state_after base xs) cause.event) (granted_of base xs) e.save cause.granted = subst (λ (c : Cause). Saves (wanted (state_after base xs) c.event) (granted_of base xs) e.save c.granted) is h.fits.saved in
-      let stood : f.granted ≡ cause.granted = (granted e.save saved).1 in
-      let same_event : f.event ≡ e.event = event ∙ sym (ap (λ (c : Cause). c.event) is) in
-      let same_granted : f.granted ≡ e.granted = stood ∙ sym (ap (λ (c : Cause). c.granted) is) in
+  -- an entry that takes over what it is told is whatever entry could stand there of which that was told
+  pub next-again : (cause : Cause) (f : Entry) → IsNext base xs f → f.tag ≡ cause.tag → f.event ≡ cause.event → ((save : Save) → Saves (wanted (state_after base xs) cause.event) (granted_of base xs) save cause.granted → (f.save ≡ save) × (f.granted ≡ cause.granted)) → (length f.outs.items ≤ length cause.outcomes.items → f.outcomes.items ≡ take (length f.outs.items) cause.outcomes.items) → (e : Entry) → IsNext base xs e → IsTold cause e → f ≡ e
+  next-again cause f k tag event granted outcomes e h told =
+      let saved : Saves (wanted (state_after base xs) cause.event) (granted_of base xs) e.save cause.granted =
+      subst (λ (v : Event). Saves (wanted (state_after base xs) v) (granted_of base xs) e.save cause.granted) told.event
+      (subst (λ (g : ℕ). Saves (wanted (state_after base xs) e.event) (granted_of base xs) e.save g) told.granted h.fits.saved) in
+      let same_event : f.event ≡ e.event = event ∙ sym told.event in
+      let same_granted : f.granted ≡ e.granted = (granted e.save saved).1 ∙ sym told.granted in
       let said : answer_in f ≡ answer_in e =
       sym k.answered
       ∙ ap (λ (v : Event). answer base.state (steps xs) v f.granted) same_event
       ∙ ap (λ (g : ℕ). answer base.state (steps xs) e.event g) same_granted
       ∙ h.answered in
-      let as_many : length cause.outcomes.items ≡ length f.outs.items =
-      sym (ap (λ (c : Cause). length c.outcomes.items) is) ∙ h.fits.outcomes ∙ ap (λ (a : Answer). length a.outs.items) (sym said) in
-      let became : f.outcomes ≡ cause.outcomes = ap (λ (l : List Outcome). record { items = l }) (outcomes as_many) in
-      let caused : cause_of f ≡ cause =
-      ap (λ (t : Tag). record { tag = t; event = f.event; granted = f.granted; outcomes = f.outcomes }) tag
-      ∙ ap (λ (v : Event). record { tag = cause.tag; event = v; granted = f.granted; outcomes = f.outcomes }) event
-      ∙ ap (λ (g : ℕ). record { tag = cause.tag; event = cause.event; granted = g; outcomes = f.outcomes }) stood
-      ∙ ap (λ o. record { tag = cause.tag; event = cause.event; granted = cause.granted; outcomes = o }) became in
-      same-next f e k h (caused ∙ sym is)
+      let as_many : length f.outs.items ≡ length e.outcomes.items = ap (λ (a : Answer). length a.outs.items) said ∙ sym h.fits.outcomes in
+      let enough : length f.outs.items ≤ length cause.outcomes.items = omega (arith, as_many, ap length told.outcomes, length-append e.outcomes.items told.more) in
+      let front : take (length f.outs.items) cause.outcomes.items ≡ e.outcomes.items =
+      ap (λ (n : ℕ). take n cause.outcomes.items) as_many
+      ∙ ap (λ (l : List Outcome). take (length e.outcomes.items) l) told.outcomes
+      ∙ take-append_seam e.outcomes.items told.more in
+      let became : f.outcomes ≡ e.outcomes = ap (λ (l : List Outcome). record { items = l }) (outcomes enough ∙ front) in
+      let caused : cause_of f ≡ cause_of e =
+      ap (λ (t : Tag). record { tag = t; event = f.event; granted = f.granted; outcomes = f.outcomes }) (tag ∙ sym told.tag)
+      ∙ ap (λ (v : Event). record { tag = e.tag; event = v; granted = f.granted; outcomes = f.outcomes }) same_event
+      ∙ ap (λ (g : ℕ). record { tag = e.tag; event = e.event; granted = g; outcomes = f.outcomes }) same_granted
+      ∙ ap (λ o. record { tag = e.tag; event = e.event; granted = e.granted; outcomes = o }) became in
+      same-next f e k h caused
 
 -- Histories
 

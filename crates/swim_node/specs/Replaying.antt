@@ -1,5 +1,5 @@
 -- What made an entry what it is beside the member, and where an era may begin anew.
-use Rattle.std.specs.Prelude.{ℕ, nat_lt, ◌==◌, ◌||◌, Bool, false, List}
+use Rattle.std.specs.Prelude.{◌≡◌, ℕ, nat_lt, ◌==◌, ◌||◌, Bool, false, List, ◌++◌}
 use Rattle.std.specs.Prelude.{if◌then◌else◌, Option, Some, None, codes}
 use Rattle.std.specs.Option.{option_map}
 use Rattle.swim_wire.specs.Codes.{number_and_name}
@@ -8,6 +8,7 @@ use Rattle.swim_member.specs.Resuming.{resume_fault, resume_number, resume_name}
 use Rattle.swim_node.specs.declared.beginning.BeginFault.{BeginFault}
 use Rattle.swim_node.specs.declared.beginning.BeginFault.TheVariants as fault
 use Rattle.swim_node.specs.declared.entry.Entry.{Entry}
+use Rattle.swim_node.specs.declared.entry.Outcome.{Outcome}
 use Rattle.swim_node.specs.declared.opening.TheConstants.{LIMIT_MAX}
 use Rattle.swim_node.specs.declared.replay.Cause.{Cause}
 use Rattle.swim_node.specs.History.{Base}
@@ -17,6 +18,15 @@ use Rattle.swim_node.specs.History.{Base}
 abbrev pub cause_of : Entry → Cause
 cause_of e =
     record { tag = e.tag; event = e.event; granted = e.granted; outcomes = e.outcomes }
+
+-- this was told of the entry: what made it, where more may be told of
+-- datagrams than there are, since who tells it may not know how many there were
+pub record IsTold (cause : Cause) (e : Entry) : Type 0 where
+  pub tag : e.tag ≡ cause.tag
+  pub event : e.event ≡ cause.event
+  pub granted : e.granted ≡ cause.granted
+  pub more : List Outcome
+  pub outcomes : cause.outcomes.items ≡ e.outcomes.items ++ more
 
 -- there is such a number, and it is above the ceiling
 abbrev pub is_above : ℕ → Option ℕ → Bool

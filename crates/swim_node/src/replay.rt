@@ -1,7 +1,7 @@
 //! An era played again: a member that goes on from where the era began, and is told what happened, what the state file
 //! granted and what became of the datagrams. It has no disk and no link, so nothing that it says goes anywhere.
 
-ghost use Rattle.std.specs.Prelude.{◌≡◌, ◌≢◌, ◌<◌, ◌≤◌, ◌++◌, ◌∷◌, [], length, slice_get, All, Err, IfErr, IfOk, OnOk, OnErr, None, Some};
+ghost use Rattle.std.specs.Prelude.{◌≡◌, ◌≢◌, ◌<◌, ◌≤◌, ◌++◌, ◌∷◌, [], length, take, slice_get, All, Err, IfErr, IfOk, OnOk, OnErr, None, Some};
 ghost use Rattle.swim_wire.specs.Spelling.{HasText};
 ghost use Rattle.swim_member.specs.Checks.{AreSound};
 ghost use Rattle.swim_member.specs.Judge.{wanted, HasDeal};
@@ -9,7 +9,7 @@ ghost use Rattle.swim_member.specs.declared.answer.TheConstants.{OUTS_MAX};
 ghost use Rattle.swim_node.specs.History.{calls_by, IsLegal, IsNext, Saves};
 ghost use Rattle.swim_node.specs.Machinery.Entering.{Steps};
 ghost use Rattle.swim_node.specs.Node.{IsTurn, Refused};
-ghost use Rattle.swim_node.specs.Replaying.{begin_fault, cause_of};
+ghost use Rattle.swim_node.specs.Replaying.{begin_fault, cause_of, IsTold};
 ghost use Rattle.swim_node.specs.Sending.{HasTexts};
 ghost use Rattle.swim_node.specs.declared.beginning.BeginFault.TheVariants.{NoMemory};
 ghost use Rattle.swim_node.specs.declared.entry.Entry.{Entry as Entries};
@@ -117,7 +117,7 @@ fn fate(told: &[Outcome], place: usize) -> Outcome
 fn fates(told: &[Outcome], count: usize) -> ArrayVec<Outcome, OUTS_MAX>
     requires { count ≤ OUTS_MAX }
     ensures each { length result.items ≡ count }
-    ensures again { length told.now ≡ count → result.items ≡ told.now }
+    ensures again { count ≤ length told.now → result.items ≡ take count told.now }
 {
     let mut outcomes = ArrayVec::new();
     for place in 0..count {
@@ -139,8 +139,9 @@ fn enter_again(member: &mut Member, ceiling: u64, cause: &Cause, answer: &mut An
     ensures granted { (save : Saved)
         → Saves (wanted member.old cause.now.event) ceiling save cause.now.granted
         → (result.save ≡ save) × (result.granted ≡ cause.now.granted) }
-    ensures outcomes { length cause.now.outcomes.items ≡ length answer.new.outs.items
-        → result.outcomes.items ≡ cause.now.outcomes.items }
+    ensures outcomes { length answer.new.outs.items ≤ length cause.now.outcomes.items
+        → result.outcomes.items
+        ≡ take (length answer.new.outs.items) cause.now.outcomes.items }
 {
     answer.clear();
     let judged = member.judge(&cause.event);
@@ -228,11 +229,12 @@ impl Replay {
     }
 
     /// Enters one call of a caller below 16 with what was told of it. Of a ceiling counts what is above the one before,
-    /// and only where the event wants more than that one; a datagram of which nothing was told is taken. The refusals
-    /// are those of `Node::apply`, in their order, and change nothing.
+    /// and only where the event wants more than that one; a datagram of which nothing was told is taken, and what was
+    /// told of more datagrams than there are counts for nothing. The refusals are those of `Node::apply`, in their
+    /// order, and change nothing.
     ///
-    /// Whatever entry could stand there with this cause, it is that one: so from where an era began the causes of its
-    /// entries make those entries again.
+    /// Whatever entry could stand there of which this was told, it is that one: so from where an era began the causes of
+    /// its entries make those entries again.
     pub fn enter(&mut self, cause: Cause) -> Result<(), ApplyFault>
         requires caller { cause.tag.caller < 16 }
         ensures base { self.new.base ≡ self.old.base }
@@ -242,7 +244,7 @@ impl Replay {
             × (e.tag ≡ cause.tag)
             × (e.event ≡ cause.event)) }
         ensures again { OnOk result ((e : Entries) → IsNext self.old.base self.old.entries e
-            → cause_of e ≡ cause
+            → IsTold cause e
             → self.new.entries ≡ self.old.entries ++ e ∷ []) }
         ensures err { OnErr result (self.new ≡ self.old) }
         ensures refused { IfErr result (λ fault.

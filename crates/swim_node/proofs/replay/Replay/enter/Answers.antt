@@ -1,9 +1,8 @@
-use Rattle.std.proofs.Common.{arith, ◌≡◌, ℕ, ◌<◌, ◌∷◌, ◌++◌, [], List, length, ap, sym, ◌∙◌, subst, refl}
+use Rattle.std.proofs.Common.{◌≡◌, ℕ, ◌<◌, ◌∷◌, ◌++◌, [], List, length, ap, sym, ◌∙◌, subst, refl}
 use Rattle.swim_member.specs.State.{State}
 use Rattle.swim_member.specs.Judge.{wanted}
 use Rattle.swim_node.specs.declared.entry.Entry.{Entry}
-use Rattle.swim_node.specs.declared.entry.Save.{Save}
-use Rattle.swim_node.specs.History.{Base, Saves, IsNext, granted_of, state_after}
+use Rattle.swim_node.specs.History.{Base, Saves, IsNext, state_after}
 use Rattle.swim_node.specs.Lives.{Era}
 use Rattle.swim_node.specs.Node.{base_of, entry_with}
 use Rattle.swim_node.proofs.Nodes.{Enters, next-entered, node-snoc}
@@ -61,7 +60,7 @@ returns-clause-ok c = (
 )
 
 pub returns-clause-again : goal.returns-clause-again
-returns-clause-again c e stands is =
+returns-clause-again c e stands told_of =
     let event = c.args.cause.event in
     let told = c.args.cause.granted in
     let xs = c.self.inside.journal.entries in
@@ -71,5 +70,5 @@ returns-clause-again c e stands is =
     (λ save k. c.enter_again-done.ensures.granted save
     (subst (λ (s : State). Saves (wanted s event) c.self.inside.granted save told) c.self.invariant.member
     (subst (λ (g : ℕ). Saves (wanted (state_after (base c) xs) event) g save told) c.self.invariant.granted k)))
-    c.enter_again-done.ensures.outcomes e other is in
+    c.enter_again-done.ensures.outcomes e other told_of in
     snoc c ∙ ap (λ (x : Entry). xs ++ x ∷ []) same ∙ ap (λ (v : Era). v.entries ++ e ∷ []) c.self.view_is
