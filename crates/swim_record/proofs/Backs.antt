@@ -3,7 +3,6 @@ use Rattle.std.proofs.Common.{◌≡◌, ℕ, List, [], ◌∷◌, ◌++◌, sym
 use Rattle.std.specs.Prelude.{All, IfSome, IfNone}
 use Rattle.swim_words.specs.Words.{No}
 use Rattle.swim_record.specs.Text.{IsArgument, SaysArguments, arguments_text, head_word}
-use Rattle.swim_wire.specs.declared.update.UpdateKind.{UpdateKind}
 use Rattle.swim_wire.specs.declared.update.UpdateKind.TheVariants.{Alive, Suspect, Confirm}
 use Rattle.swim_member.specs.declared.state.Phase.{Phase}
 use Rattle.swim_member.specs.declared.state.Phase.TheVariants as phase
@@ -13,7 +12,6 @@ use Rattle.swim_record.specs.declared.head.Head.{Head}
 use Rattle.swim_record.specs.declared.head.Head.TheVariants as head
 use Rattle.swim_record.specs.declared.line.Line.{Line}
 use Rattle.swim_record.specs.declared.line.Line.TheVariants as line
-use Rattle.swim_record.specs.declared.line.Start.{Start}
 use Rattle.swim_record.specs.Lines.{Says, arguments_of, head_in, number_or_none, phase_head}
 use Rattle.swim_record.proofs.Texts.{same_words}
 

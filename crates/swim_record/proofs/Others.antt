@@ -1,9 +1,8 @@
 -- Which lines other heads than theirs do not begin.
-use Rattle.std.proofs.Common.{◌≡◌, ℕ, List, [], ◌∷◌, ◌++◌, sym, ◌∙◌, ap, refl, Option, Some, None}
+use Rattle.std.proofs.Common.{◌≡◌, ℕ, [], ◌∷◌, sym, Option, Some, None}
 use Rattle.swim_member.specs.declared.state.Phase.{Phase}
 use Rattle.swim_member.specs.declared.state.Phase.TheVariants as phase
-use Rattle.swim_record.specs.declared.argument.Argument.{Argument}
-use Rattle.swim_record.specs.declared.argument.Argument.TheVariants.{Number, Who}
+use Rattle.swim_record.specs.declared.argument.Argument.TheVariants.{Number}
 use Rattle.swim_record.specs.declared.head.Head.{Head}
 use Rattle.swim_record.specs.declared.head.Head.TheVariants as head
 use Rattle.swim_record.specs.declared.line.Line.{Line}

@@ -1,5 +1,5 @@
 -- What is written is read in one way.
-use Rattle.std.proofs.Common.{◌≡◌, ℕ, ◌+◌, ◌*◌, ◌/◌, ◌%◌, ◌^◌, ◌<◌, ◌≤◌, ◌⊎◌, List, [], ◌∷◌, ◌++◌, inl, inr, refl, sym, ap, ◌∙◌, arith, append_assoc, append-nil, length, length-append, Option, Some, None}
+use Rattle.std.proofs.Common.{◌≡◌, ℕ, ◌/◌, ◌%◌, ◌^◌, ◌<◌, ◌≤◌, ◌⊎◌, List, [], ◌∷◌, ◌++◌, inl, inr, refl, sym, ap, ◌∙◌, arith, append_assoc, append-nil, length, length-append, Option, Some, None}
 use Rattle.std.specs.Prelude.{◌≢◌, All, IfNone, codes, if◌then◌else◌}
 use Rattle.std.specs.Str.{bytes_eq}
 use Rattle.std.specs.Fmt.{decimal}
@@ -133,7 +133,7 @@ all_more rest after word next args before others a is parts lacks cut spelled fi
 
 -- Heads
 
-head_lacks : (h : Head) → Lacks 32 (head_word h)
+pub head_lacks : (h : Head) → Lacks 32 (head_word h)
 head_lacks head.Member = lacks_byte 32 (codes "member") refl
 head_lacks head.Times = lacks_byte 32 (codes "times") refl
 head_lacks head.RowAlive = lacks_byte 32 (codes "alive") refl

@@ -1,3 +1,5 @@
+pub mod Blocks
+pub mod Events
 pub mod Lines
-pub mod Text
 pub mod Recording
+pub mod Text

@@ -12,7 +12,6 @@ use Rattle.swim_member.specs.declared.settings.Settings.{Settings}
 use Rattle.swim_member.specs.declared.state.Joining.{Joining}
 use Rattle.swim_member.specs.declared.state.Probe.{Probe}
 use Rattle.swim_member.specs.declared.state.Relay.{Relay}
-use Rattle.swim_member.specs.State.{State}
 use Rattle.swim_node.specs.declared.entry.Entry.{Entry}
 use Rattle.swim_node.specs.declared.entry.Outcome.{Outcome}
 use Rattle.swim_node.specs.declared.entry.Outcome.TheVariants.{Taken, Lost}

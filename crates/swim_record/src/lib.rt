@@ -2,11 +2,15 @@
 #![tactic(auto)]
 
 mod argument;
+mod block;
+mod event;
 mod head;
 mod line;
 mod writer;
 
 pub use argument::Argument;
+pub use block::{an_event_ends_the_lines, read_lines};
+pub use event::{EventFault, EventWord, read_event};
 pub use head::Head;
 pub use line::{Line, Start, Times, read_line};
 pub use writer::recording;

@@ -1,4 +1,4 @@
-use Rattle.std.proofs.Common.{◌≡◌, ◌∷◌, length, sym, ap, ◌∙◌, arith}
+use Rattle.std.proofs.Common.{◌∷◌, length, sym, ap, ◌∙◌}
 use Rattle.std.proofs.lemmas.Bool.{eqb-true}
 use Rattle.swim_record.proofs.Texts.{all_more, fit_more, none_full, none_space, none_word, read_more}
 use Rattle.swim_record.proofs.argument.read_arguments.Goals as goal

@@ -1,4 +1,4 @@
-use Rattle.std.proofs.Common.{◌≡◌, ◌≤◌, List, ◌++◌, length}
+use Rattle.std.proofs.Common.{◌≡◌, List, ◌++◌, length}
 use Rattle.std.specs.Prelude.{All}
 use Rattle.swim_record.specs.declared.argument.Argument.{Argument}
 use Rattle.swim_record.specs.Text.{IsArgument, SaysArguments, arguments_text}
