@@ -44,5 +44,6 @@ pub fn read_lines(alloc: Global, text: &[u8]) -> Result<(Vec<Line>, &[u8]), Allo
 
 /// The line of an event is none of those that `read_lines` takes. The function does nothing: its contract is the law.
 pub fn an_event_ends_the_lines()
-    ensures { (e : Events) → (after : List ℕ) → IsEvent e → HasNoLine (event_words e ++ 10 ∷ after) }
+    ensures { (e : Events) → (after : List ℕ) → IsEvent e
+        → HasNoLine (event_words e ++ 10 ∷ after) }
 {}

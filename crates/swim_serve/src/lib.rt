@@ -33,4 +33,4 @@ pub use minding::Minding;
 pub use note_log::{LOGGED_MAX, NoteLog};
 pub use number_log::NumberLog;
 pub use outgoing::{RingLink, RingSender};
-pub use serving::{Fault, MemberEnd, run_member};
+pub use serving::{Fault, MemberEnd, run_kept, run_member};

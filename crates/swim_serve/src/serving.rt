@@ -1,8 +1,9 @@
 //! A member from one era to the next.
 
-ghost use Rattle.std.specs.Prelude.{◌≡◌, [], IfOk};
+ghost use Rattle.std.specs.Prelude.{◌≡◌, ◌∷◌, [], ◌++◌, IfNone, IfOk, IfSome};
 ghost use Rattle.swim_node.specs.Lives.{IsRaised};
 ghost use Rattle.swim_node.specs.Node.{next_base};
+ghost use Rattle.swim_recorder.specs.Handing.{begun_at, recorded};
 ghost use Rattle.swim_shell.specs.Ticks.{answers};
 ghost use Rattle.swim_serve.specs.Desks.{desk_of};
 ghost use Rattle.swim_serve.specs.Faults.{by_desk, by_receiver, by_refusal, fault_by, fault_of};
@@ -19,7 +20,8 @@ use std::thread::Threads;
 use std::time::Clock;
 use swim_disk::Disk;
 use swim_member::Phase;
-use swim_node::{Link, Node};
+use swim_node::{Beginning, Link, Node};
+use swim_recorder::{Keeper, Unkept, begin, hand_over};
 use swim_shared::{Outbox, Parts, Sender as Ring};
 use swim_shell::{Alarmed, ControlEnd, Doors, Refusal, WorkerEnd};
 
@@ -102,9 +104,19 @@ fn fault_of(ends: &EraEnds) -> Option<Fault>
 }
 
 /// Ends an era of a node, and keeps the peers that the member knows then, if they are others than those that stand in the
-/// state file. A fault there is logged only: the member goes on, and its next save keeps the peers that it knows by then.
+/// state file. A fault there is logged only: the member goes on, and its next save keeps the peers that it knows by then. The
+/// era is handed to its keeper, if that asked for its beginning.
 #[tactic(auto, using(crate::proofs::Keeping::keeps_peers, crate::proofs::Keeping::begins_kept))]
-fn end_era<D: Disk, T: Log>(rt: &T, node: &mut Node<D>)
+fn end_era<D: Disk, T: Log, K: Keeper>(
+    rt: &T,
+    node: &mut Node<D>,
+    beginning: Option<Beginning>,
+    keeper: &mut K,
+)
+    requires { IfSome beginning (λ beginning. beginning ≡ begun_at node.old.base) }
+    ensures given { IfSome beginning (λ _. K.given keeper.new
+        ≡ K.given keeper.old ++ recorded node.old.base node.old.entries ∷ []) }
+    ensures none { IfNone beginning (keeper.new ≡ keeper.old) }
     ensures entries { node.new.entries ≡ [] }
     ensures base { IsRaised (next_base node.old.base node.old.entries) node.new.base }
     ensures owner { node.new.owner ≡ node.old.owner }
@@ -114,7 +126,7 @@ fn end_era<D: Disk, T: Log>(rt: &T, node: &mut Node<D>)
     ensures spared { HasKnown (next_era node.old) → node.new ≡ next_era node.old }
     ensures begins { BeginsKept node.new }
 {
-    node.rebase();
+    hand_over(node, beginning, keeper);
     if !node.has_other_peers() {
         return;
     }
@@ -139,12 +151,14 @@ fn one_era<
     I: Alarmed<Alarm: Sync> + Send + Drop,
     M: Link + Send + Drop,
     O: Doors + Drop,
+    K: Keeper,
 >(
     rt: &R,
     alloc: Global,
     node: Node<D>,
     outside: Outside<I, M, R, O>,
     alarms: &[I::Alarm],
+    keeper: &mut K,
 ) -> Result<EraEnd<D, I, M, R, O>, Fault>
     requires { node.entries ≡ [] }
     ensures entries { IfOk result (λ end. end.node.entries ≡ []) }
@@ -162,6 +176,7 @@ fn one_era<
         end.outside.desk.others)) end.ends) }
 {
     let (outbox, ring) = outbox_of(alloc)?;
+    let beginning = begin(&node, keeper);
     let parts = Parts::new(node, outbox, CALLERS, WATCHES);
     let ended = run_era::<Brand, _, _, _, _, _>(rt, alloc, parts, ring, outside, alarms);
     let mut end = match ended {
@@ -171,7 +186,7 @@ fn one_era<
     if let Some(fault) = fault_of(&end.ends) {
         return Err(fault);
     }
-    end_era(rt, &mut end.node);
+    end_era(rt, &mut end.node, beginning, keeper);
     let was_full = end.ends.ticker == Some(Refusal::EraFull);
     end.outside.beat.repeat_if(was_full);
     Ok(end)
@@ -204,7 +219,7 @@ fn member_end(control: Option<ControlEnd>, phase: Phase, ends_expelled: bool) ->
 }
 
 /// Runs a member era after era, until the line `stop` is answered, or a worker ends otherwise than by a full era, or, if
-/// it is to end then, until it is expelled. The alarms end the waits of its sockets.
+/// it is to end then, until it is expelled. The alarms end the waits of its sockets. Nobody keeps its eras.
 pub fn run_member<
     D: Disk + Send + Drop,
     R: Threads + Wait + Log + Clock + Send + Sync + Copy + Drop,
@@ -226,9 +241,37 @@ pub fn run_member<
         (answers outside.ticker.rng) outside.link outside.owed
         (desk_of outside.desk.joiner outside.desk.conversation outside.desk.others))) }
 {
+    let mut keeper = Unkept::new();
+    run_kept(rt, alloc, node, outside, alarms, ends_expelled, &mut keeper)
+}
+
+/// Runs a member as `run_member` does, and hands each era that ended to its keeper.
+pub fn run_kept<
+    D: Disk + Send + Drop,
+    R: Threads + Wait + Log + Clock + Send + Sync + Copy + Drop,
+    I: Alarmed<Alarm: Sync> + Send + Drop,
+    M: Link + Send + Drop,
+    O: Doors + Drop,
+    K: Keeper,
+>(
+    rt: &R,
+    alloc: Global,
+    node: Node<D>,
+    outside: Outside<I, M, R, O>,
+    alarms: &[I::Alarm],
+    ends_expelled: bool,
+    keeper: &mut K,
+) -> Result<MemberEnd, Fault>
+    requires { node.entries ≡ [] }
+    ensures { IfOk result (Lived I.tells M.tells M.took M.failures O.Reader.remaining
+        O.Writer.contents ends_expelled
+        (member_of node.base (receiver_of I.came I.failures outside.receiver)
+        (answers outside.ticker.rng) outside.link outside.owed
+        (desk_of outside.desk.joiner outside.desk.conversation outside.desk.others))) }
+{
     let mut left = (node, outside);
     for _ in rt.forever() {
-        let era = one_era(rt, alloc, left.0, left.1, alarms)?;
+        let era = one_era(rt, alloc, left.0, left.1, alarms, keeper)?;
         let phase = era.node.status().phase;
         if let Some(end) = member_end(era.ends.control, phase, ends_expelled) {
             return Ok(end);

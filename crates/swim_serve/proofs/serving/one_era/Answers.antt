@@ -1,11 +1,19 @@
-use Rattle.std.proofs.Common.{subst}
+use Rattle.std.proofs.Common.{◌≡◌, subst, sym}
+use Rattle.std.specs.Prelude.{IfSome}
 use Rattle.swim_node.specs.Lives.{IsRaised}
 use Rattle.swim_node.specs.Node.{next_base}
+use Rattle.swim_recorder.specs.Handing.{begun_at}
 use Rattle.swim_shell.specs.Ticks.{answers}
 use Rattle.swim_serve.specs.Desks.{desk_of}
 use Rattle.swim_serve.specs.Members.{Era, member_of}
 use Rattle.swim_serve.specs.Works.{receiver_of}
 use Rattle.swim_serve.proofs.serving.one_era.Goals as goal
+
+-- the era that ends is the one whose beginning was read
+pub end_era-requires : goal.end_era-requires
+end_era-requires g c =
+    let began = c.begin-beginning in
+    subst (λ b. IfSome began.result (λ beginning. beginning ≡ begun_at b)) (sym c.in-Ok.ensures.base) (subst (λ n. IfSome began.result (λ beginning. beginning ≡ begun_at n.base)) (sym c.new-parts.ensures.node) began.ensures)
 
 pub returns-clause-era : goal.returns-clause-era
 returns-clause-era g c =

@@ -1,6 +1,6 @@
 use Rattle.std.proofs.Common.{rules}
 use Rattle.swim_serve.specs.Members.{Here, Next}
-use Rattle.swim_serve.proofs.serving.run_member.Goals as goal
+use Rattle.swim_serve.proofs.serving.run_kept.Goals as goal
 
 pub loop-init : goal.loop-init
 loop-init g c = (c.requires, Here _)

@@ -3,7 +3,7 @@ use Rattle.swim_shell.specs.Ticks.{answers}
 use Rattle.swim_serve.specs.Desks.{desk_of}
 use Rattle.swim_serve.specs.Members.{Era, Eras, member_of}
 use Rattle.swim_serve.specs.Works.{receiver_of}
-use Rattle.swim_serve.proofs.serving.run_member.Given as goal
+use Rattle.swim_serve.proofs.serving.run_kept.Given as goal
 
 -- each era begins with an empty journal, after those that were
 abbrev pub invariant-loop : goal.invariant-loop

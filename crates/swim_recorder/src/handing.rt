@@ -1,0 +1,94 @@
+//! The end of an era, at which it is handed to who keeps it.
+
+ghost use Rattle.std.specs.Prelude.{◌≡◌, ◌∷◌, [], ◌++◌, IfSome, IfNone};
+ghost use Rattle.swim_node.specs.Node.{next_base};
+ghost use Rattle.swim_recorder.specs.Handing.{begun_at, recorded};
+
+use crate::finished::Finished;
+use swim_disk::Disk;
+use swim_node::{Beginning, Node};
+use swim_trace::Trace;
+
+/// Who keeps the eras of a member that ended.
+pub trait Keeper {
+    ghost use Rattle.std.specs.Prelude.{◌≡◌, ◌++◌, ◌∷◌, [], List};
+    ghost use Rattle.swim_node.specs.Lives.{Era};
+
+    /// The eras that it was given, in order.
+    ghost given: { Self → List Era };
+
+    /// Whether it keeps eras. What it is given else is let go.
+    fn is_on(&self) -> bool;
+
+    /// Takes an era that ended, of the life that began with this number. It may not hold the member up.
+    fn keep(&mut self, life: u64, era: Finished)
+        ensures { given self.new ≡ given self.old ++ era ∷ [] };
+}
+
+/// Where an era of a node that has no entry yet begins, for a keeper that keeps eras.
+pub fn begin<D: Disk, K: Keeper>(node: &Node<D>, keeper: &K) -> Option<Beginning>
+    requires { node.now.entries ≡ [] }
+    ensures { IfSome result (λ beginning. beginning ≡ begun_at node.now.base) }
+{
+    if keeper.is_on() {
+        Some(node.beginning())
+    } else {
+        None
+    }
+}
+
+/// Ends the era of a node, which began so, and hands it to its keeper. Where its beginning was not asked for, it is let go.
+pub fn hand_over<D: Disk, K: Keeper>(
+    node: &mut Node<D>,
+    beginning: Option<Beginning>,
+    keeper: &mut K,
+)
+    requires { IfSome beginning (λ beginning. beginning ≡ begun_at node.old.base) }
+    ensures given { IfSome beginning (λ _. K.given keeper.new
+        ≡ K.given keeper.old ++ recorded node.old.base node.old.entries ∷ []) }
+    ensures none { IfNone beginning (keeper.new ≡ keeper.old) }
+    ensures base { node.new.base ≡ next_base node.old.base node.old.entries }
+    ensures entries { node.new.entries ≡ [] }
+    ensures disk { node.new.disk ≡ node.old.disk }
+    ensures owner { node.new.owner ≡ node.old.owner }
+    ensures first { node.new.first ≡ node.old.first }
+    ensures peers { node.new.peers ≡ node.old.peers }
+    ensures broken { node.new.broken ≡ node.old.broken }
+{
+    match beginning {
+        Some(beginning) => {
+            let era = node.end_era();
+            keeper.keep(node.first(), Finished::new(beginning, era));
+        }
+        None => node.rebase(),
+    }
+}
+
+/// One who keeps no era.
+#[derive(Drop)]
+pub struct Unkept {
+    given: Trace<Finished>,
+}
+
+impl Unkept {
+    /// It was given none yet.
+    pub fn new() -> Unkept {
+        Unkept {
+            given: Trace::new(),
+        }
+    }
+}
+
+impl Keeper for Unkept {
+    ghost use Rattle.std.specs.Prelude.{◌≡◌, ◌++◌, ◌∷◌, []};
+
+    ghost given = { λ u. u.given };
+
+    fn is_on(&self) -> bool {
+        false
+    }
+
+    fn keep(&mut self, _life: u64, era: Finished) {
+        self.given = self.given.and(&era);
+    }
+}

@@ -1,0 +1,198 @@
+//! Who writes the eras of a member that ended, beside the member.
+
+use log::{Log, warn};
+use std::alloc::Global;
+use std::io::ErrorKind;
+use std::sync::Arc;
+use std::sync::atomic::{AtomicBool, Ordering};
+use std::thread::{self, JoinHandle, Threads};
+use swim_recorder::{FileName, Finished, Folder, Keeper};
+use swim_trace::Trace;
+
+/// An era that is to be recorded under a name.
+#[derive(Drop)]
+struct Named {
+    name: FileName,
+    era: Finished,
+}
+
+/// What a thread of its own writes: the era that waited, if one did, and the one that ended now.
+#[derive(Drop)]
+struct Writing {
+    folder: Arc<Folder, Global>,
+    is_done: Arc<AtomicBool, Global>,
+    waited: Option<Named>,
+    last: Named,
+}
+
+impl Writing {
+    /// Writes it. An error is why a recording was not written.
+    fn run(self) -> Result<(), ErrorKind> {
+        let waited = match &self.waited {
+            Some(waited) => self.folder.record(waited.name, &waited.era),
+            None => Ok(()),
+        };
+        let last = self.folder.record(self.last.name, &self.last.era);
+        self.is_done.store(true, Ordering::SeqCst);
+        waited.and(last).map_err(|error| error.kind())
+    }
+}
+
+/// A thread that writes, and whether it is done.
+#[derive(Drop)]
+struct Writer {
+    thread: JoinHandle<Result<(), ErrorKind>>,
+    is_done: Arc<AtomicBool, Global>,
+}
+
+/// The folder at this path, if there is one, for all who use it. That there is no memory for it is told.
+fn shared_folder<T: Log>(
+    rt: &T,
+    files: HostRuntime,
+    path: Option<String>,
+    kept: u64,
+) -> Option<Arc<Folder, Global>> {
+    let folder = Folder::new(files, path?, kept);
+    match Arc::new(files.alloc(), folder) {
+        Ok(folder) => Some(folder),
+        Err(_) => {
+            warn!(rt; "record refused: memory; no era is recorded");
+            None
+        }
+    }
+}
+
+/// Writes each era that it is given into a folder, in a thread of its own. While that is busy one era waits; one that ended later
+/// takes its place, and the log tells. A folder that takes no file is told once in the log.
+#[derive(Drop)]
+pub struct Scribe<'a, T> {
+    rt: &'a T,
+    alloc: Global,
+    folder: Option<Arc<Folder, Global>>,
+    /// How many eras it was given.
+    eras: u64,
+    writer: Option<Writer>,
+    waiting: Option<Named>,
+    has_told: bool,
+    given: Trace<Finished>,
+}
+
+impl<'a, T: Threads + Log> Scribe<'a, T> {
+    /// Into the folder at this path, of which so many recordings are kept. Without a path it records nothing.
+    pub fn new(rt: &'a T, files: HostRuntime, path: Option<String>, kept: u64) -> Scribe<'a, T> {
+        Scribe {
+            rt,
+            alloc: files.alloc(),
+            folder: shared_folder(rt, files, path, kept),
+            eras: 0,
+            writer: None,
+            waiting: None,
+            has_told: false,
+            given: Trace::new(),
+        }
+    }
+
+    /// Tells how the writing ended: a failure once, until a recording is written again.
+    fn tell(&mut self, ended: Result<(), ErrorKind>) {
+        let has_told = self.has_told;
+        self.has_told = ended.is_err();
+        if let Err(why) = ended
+            && !has_told
+            && let Some(folder) = &self.folder
+        {
+            let path = folder.path();
+            warn!(self.rt; "record refused in {path}: {why}; the member goes on. Make the folder, room in it, or the right to write there");
+        }
+    }
+
+    /// Waits until what is written now is written.
+    fn collect(&mut self) {
+        if let Some(writer) = self.writer.take() {
+            let ended = writer.thread.join(self.rt);
+            self.tell(ended);
+        }
+    }
+
+    /// Whether a thread writes now.
+    fn is_busy(&self) -> bool {
+        match &self.writer {
+            Some(writer) => !writer.is_done.load(Ordering::SeqCst),
+            None => false,
+        }
+    }
+
+    /// What a thread is to write now.
+    fn writing(&mut self, last: Named) -> Option<Writing> {
+        let waited = self.waiting.take();
+        let folder = Arc::try_clone(self.folder.as_ref()?).ok()?;
+        let is_done = Arc::new(self.alloc, AtomicBool::new(false)).ok()?;
+        Some(Writing {
+            folder,
+            is_done,
+            waited,
+            last,
+        })
+    }
+
+    /// Starts the thread that writes this.
+    fn spawn(&mut self, writing: Writing) -> Option<Writer> {
+        let is_done = Arc::try_clone(&writing.is_done).ok()?;
+        let thread = thread::spawn(self.rt, move || writing.run()).ok()?;
+        Some(Writer { thread, is_done })
+    }
+
+    /// Has a thread write this era, and the one that waits before it.
+    fn start(&mut self, last: Named) {
+        self.writer = match self.writing(last) {
+            Some(writing) => self.spawn(writing),
+            None => None,
+        };
+        if self.writer.is_none() {
+            self.tell(Err(ErrorKind::OutOfMemory));
+        }
+    }
+
+    /// Lets an era wait, in the place of one that waits already.
+    fn stand_by(&mut self, last: Named) {
+        if let Some(passed) = self.waiting.replace(last) {
+            let name = passed.name;
+            warn!(self.rt; "record passed over {name}: the folder is slower than the eras; take a greater `limit` or a faster folder");
+        }
+    }
+
+    /// Waits until all that it was given is written.
+    pub fn finish(mut self) {
+        self.collect();
+        if let Some(last) = self.waiting.take() {
+            self.start(last);
+            self.collect();
+        }
+    }
+}
+
+impl<'a, T: Threads + Log> Keeper for Scribe<'a, T> {
+    ghost use Rattle.std.specs.Prelude.{◌≡◌, ◌++◌, ◌∷◌, []};
+
+    ghost given = { λ r. r.given };
+
+    fn is_on(&self) -> bool {
+        self.folder.is_some()
+    }
+
+    fn keep(&mut self, life: u64, era: Finished) {
+        let given = self.given.and(&era);
+        self.eras = self.eras.saturating_add(1);
+        let name = FileName {
+            life,
+            era: self.eras,
+        };
+        let last = Named { name, era };
+        if self.is_busy() {
+            self.stand_by(last);
+        } else {
+            self.collect();
+            self.start(last);
+        }
+        self.given = given;
+    }
+}
