@@ -60,8 +60,14 @@ fn later_writes_hide_earlier_ones(rt: HostRuntime) -> Result<(), Fail> {
     disk.write_at(1, &[7, 7, 7])?;
     disk.sync()?;
     disk.write_at(8, &[9])?;
-    assert_eq!(rt; disk.bytes()?.as_slice(), [0, 7, 7, 7, 4, 0, 0, 0, 9].as_slice());
-    assert_eq!(rt; disk.crash(Choice::Drop).bytes()?.as_slice(), [0, 7, 7, 7, 4].as_slice());
+    assert_eq!(rt;
+        disk.bytes()?.as_slice(),
+        [0, 7, 7, 7, 4, 0, 0, 0, 9].as_slice()
+    );
+    assert_eq!(rt;
+        disk.crash(Choice::Drop).bytes()?.as_slice(),
+        [0, 7, 7, 7, 4].as_slice()
+    );
     Ok(())
 }
 
