@@ -1,23 +1,24 @@
 //! What a member that runs is asked for.
 
-ghost use Rattle.std.specs.Prelude.{◌≡◌, ◌≢◌, ◌⊎◌, ◌↔◌, ◌<◌, ◌≤◌, ◌∷◌, [], length, map, take, Err, IfErr, IfOk, IsErrOf, IsOk, OnErr, OnOk};
+ghost use Rattle.std.specs.Prelude.{◌≡◌, ◌≢◌, ◌⊎◌, ◌↔◌, ◌<◌, ◌≤◌, ◌∷◌, [], ℕ, List, length, map, take, Err, IfErr, IfOk, IsErrOf, IsOk, OnErr, OnOk};
 ghost use Rattle.swim_library.specs.Outbox.{waiting_in};
 ghost use Rattle.swim_library.specs.Running.{AddsTo, EntersEvent, Hands, SavesPeers, LivesOn, ShowsRows};
 ghost use Rattle.swim_library.specs.Shapes.{endpoint_as, note_as, row_as, status_as};
 ghost use Rattle.swim_library.specs.declared.refusal.Refusal.TheVariants as why;
 ghost use Rattle.swim_member.specs.declared.answer.TheConstants.{NOTES_MAX};
-ghost use Rattle.swim_member.specs.declared.event.Event.TheVariants.{Members};
+ghost use Rattle.swim_member.specs.declared.event.Event.TheVariants.{Members, Tick};
 ghost use Rattle.swim_node.specs.History.{status_of};
 ghost use Rattle.swim_node.specs.Node.{next_base};
 ghost use Rattle.swim_state.specs.declared.peers.TheConstants.{PEERS_MAX};
 ghost use Rattle.swim_wire.specs.declared.datagram.TheConstants.{UPDATES_MAX};
 
+use crate::deal::deal_of;
 use crate::outbox::Waiting;
 use crate::refusal::Refusal;
 use crate::running::Running;
 use crate::shapes::{SwimEndpoint, SwimRow, SwimStatus};
 use swim_disk::FileDisk;
-use swim_member::{Event, NOTES_MAX, Note};
+use swim_member::{Deal, Event, NOTES_MAX, Note};
 use swim_node::{ApplyFault, Node, Reply, Tag};
 use swim_state::PEERS_MAX;
 use swim_wire::{Cursor, Endpoint, UPDATES_MAX, Update};
@@ -135,6 +136,28 @@ impl Running {
         }
         let reply = self.apply(event)?;
         self.notes = reply.notes;
+        Ok(())
+    }
+
+    /// Time goes on by one tick. A period that ends may begin a new turn list, and its tick draws the order of one. At any
+    /// other tick the member reads no order, and is given the one that takes no drawing.
+    pub(crate) fn tick(&mut self, random: u64) -> Result<(), Refusal>
+        ensures entered { OnOk result ((numbers : List ℕ)
+            × EntersEvent self.old self.new (Tick numbers)) }
+        ensures waits { IsErrOf result why.Waiting ↔ (waiting_in self.old.outbox ≢ []) }
+        ensures refused { IfErr result (λ refusal. refusal ≢ why.Waiting
+            → refusal ≡ why.NoMemory) }
+        ensures same { OnErr result (self.new ≡ self.old) }
+    {
+        let ends = self.left <= 1;
+        let left = if ends { self.period } else { self.left - 1 };
+        let deal = if ends {
+            deal_of(random)
+        } else {
+            Deal::from_first(0)
+        };
+        self.enter(Event::Tick { deal })?;
+        self.left = left;
         Ok(())
     }
 

@@ -10,7 +10,6 @@ ghost use Rattle.swim_library.specs.declared.running.Running.{Running};
 ghost use Rattle.swim_member.specs.declared.event.Event.TheVariants.{Datagram, Join, Leave, ReceiveFailed, SendFailed, Tick};
 ghost use Rattle.swim_member.specs.declared.event.TheConstants.{RECEIVED_MAX};
 
-use crate::deal::deal_of;
 use crate::handle::{SwimMember, put, take};
 use crate::refusal::{Refusal, code};
 use crate::shapes::SwimEndpoint;
@@ -61,13 +60,14 @@ pub extern "C" fn swim_library_tick(member: &mut SwimMember, spare: SwimMember, 
         → waiting_in running.outbox ≢ []
         → result ≡ WAITING }
 {
-    enter(
-        member,
-        spare,
-        Event::Tick {
-            deal: deal_of(random),
-        },
-    )
+    match take(member, spare) {
+        None => code(Err(Refusal::Closed)),
+        Some(mut running) => {
+            let done = running.tick(random);
+            put(member, running);
+            code(done)
+        }
+    }
 }
 
 /// Bytes came. What passes 513 of them is cut off.

@@ -5,6 +5,7 @@
  *     calls misuse              each wrong call answers its code
  *     calls refuse              each allocation of an opening is refused once, and nothing is left
  *     calls fail                each write and sync of a life is failed once, and no life says a number of an earlier one
+ *     calls order               each turn probes each other member once, in an order that the random words give
  *     calls random SEED COUNT   random calls with random bytes
  */
 #include "swim.h"
@@ -432,6 +433,68 @@ static int one_call(struct swim_member *m) {
     return swim_receive(m, some_endpoint(), bytes, n);
 }
 
+#define OTHERS 12
+#define PROBES (2 * OTHERS)
+
+/* A ping of the first of these others, by rules 2, that says that they are all alive. */
+static size_t presence(uint8_t *out) {
+    uint8_t *at = out;
+    memcpy(at, "SWIM", 4);
+    at = put(put(put(at + 4, 0x0201, 2), OTHERS, 1), 0, 1);
+    at = put(put(at, 7, 8), 1, 4);
+    at = put(put(at, LOOPBACK, 4), peer.port, 2);
+    at = put(put(at, LOOPBACK, 4), ME_PORT, 2);
+    for (uint64_t i = 0; i < OTHERS; i++) {
+        at = put(at, 0x0100, 2);
+        at = put(put(at, LOOPBACK, 4), peer.port + i, 2);
+        at = put(at, 1, 8);
+    }
+    return (size_t)(at - out);
+}
+
+/* Whom a member probes in two turns, by the words that follow from this one. Nobody answers it. */
+static void probe(uint64_t seed, uint16_t ports[PROBES]) {
+    struct swim_member m = SWIM_CLOSED_MEMBER;
+    struct swim_settings settings = sound();
+    struct swim_endpoint to;
+    uint8_t bytes[SWIM_DATAGRAM_MAX];
+    size_t length;
+    int probes = 0;
+    settings.suspect = 10000;
+    settings.helpers = 0;
+    want("open", swim_open_memory(&m, &settings, 1), SWIM_OK);
+    length = presence(bytes);
+    want("receive", swim_receive(&m, peer, bytes, length), SWIM_OK);
+    take_all(&m);
+    state = seed;
+    for (int ticks = 0; probes < PROBES && ticks < 100 * PROBES; ticks++) {
+        want("tick", swim_tick(&m, draw()), SWIM_OK);
+        while (swim_next_datagram(&m, &to, bytes, sizeof bytes, &length) == SWIM_OK)
+            if (probes < PROBES)
+                ports[probes++] = to.port;
+    }
+    holds(probes == PROBES, "a member probes at the end of each period");
+    swim_close(&m);
+}
+
+static void order(void) {
+    uint16_t first[PROBES] = {0}, again[PROBES] = {0}, other[PROBES] = {0};
+    probe(1, first);
+    probe(1, again);
+    probe(2, other);
+    for (int turn = 0; turn < PROBES; turn += OTHERS)
+        for (int i = 0; i < OTHERS; i++) {
+            int seen = 0;
+            for (int at = turn; at < turn + OTHERS; at++)
+                seen += first[at] == peer.port + i;
+            holds(seen == 1, "each turn probes each other once");
+        }
+    holds(memcmp(first, again, sizeof first) == 0, "the same words give the same order");
+    for (int turn = 0; turn < PROBES; turn += OTHERS)
+        holds(memcmp(first + turn, other + turn, OTHERS * sizeof *first) != 0, "other words give another order");
+    holds(memcmp(first, first + OTHERS, OTHERS * sizeof *first) != 0, "the next turn has another order");
+}
+
 static void random_calls(uint64_t seed, long count) {
     struct swim_member m = SWIM_CLOSED_MEMBER;
     long by_code[64] = {0};
@@ -455,6 +518,8 @@ int main(int argc, char **argv) {
         refuse();
     else if (argc >= 2 && strcmp(argv[1], "fail") == 0)
         fail();
+    else if (argc >= 2 && strcmp(argv[1], "order") == 0)
+        order();
     else if (argc == 4 && strcmp(argv[1], "random") == 0)
         random_calls(strtoull(argv[2], NULL, 10), atol(argv[3]));
     else
