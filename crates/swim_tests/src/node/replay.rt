@@ -76,8 +76,6 @@ fn an_era_again(rt: HostRuntime) {
         assert!(rt; node.apply(&mut link, tag, event_of(&rt, 7)).is_ok());
     }
     let beginning = node.beginning();
-    let sound = beginning.state.settings.check();
-    sound.ok().expect(&rt, "sound settings");
     node.rebase();
     let mut turns = [0, 0];
     for (caller, number, lose, sync, write) in [
@@ -110,6 +108,8 @@ fn an_era_again(rt: HostRuntime) {
         };
         assert!(rt; node.apply(&mut link, tag, event_of(&rt, number)).is_ok());
     }
+    let sound = beginning.state.settings.check();
+    sound.ok().expect(&rt, "sound settings");
     let mut again = Replay::begin(rt.alloc(), beginning)
         .ok()
         .expect(&rt, "an era");
