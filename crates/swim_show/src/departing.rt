@@ -4,6 +4,7 @@ ghost use Rattle.std.specs.Prelude.{◌≡◌, ◌≤◌, ◌+◌, ◌*◌, leng
 ghost use Rattle.swim_show.specs.Departing.{IsThere};
 ghost use Rattle.swim_state.specs.File.{layout_of};
 
+use crate::shown::ENDPOINT_AT;
 use byteorder::{BigEndian, ByteOrder};
 use std::alloc::{AllocError, Global};
 use swim_state::{PEERS_MAX, Reading, Slot, Version, slots_in, version_of};
@@ -11,9 +12,6 @@ use swim_wire::NUMBER_MAX;
 
 /// The first ten bytes of each file.
 const LETTERS: [u8; 10] = *b"SWIMSTAT\x00\x01";
-
-/// Where the endpoint of the head stands.
-const ENDPOINT_AT: usize = 18;
 
 /// How many bytes an endpoint has.
 const PEER_SIZE: usize = 6;
@@ -118,6 +116,18 @@ fn add_complement(
     Ok(())
 }
 
+/// Adds that the endpoint at an offset has port 0, if it has.
+fn add_port(found: &mut Vec<Departure>, image: &[u8], at: usize) -> Result<(), AllocError>
+    requires inside { at + 6 ≤ length image.now }
+    requires there { All (IsThere image.now) found.old.items }
+    ensures there { OnOk result (All (IsThere image.now) found.new.items) }
+{
+    if BigEndian::read_u48(&image[at..]) % 65_536 == 0 {
+        found.push(Departure::Port { at: at as u64 })?;
+    }
+    Ok(())
+}
+
 /// Adds what is wrong with the peer at an offset. The one before it, if it is not the first, has the six bytes before its own.
 fn add_peer(
     found: &mut Vec<Departure>,
@@ -130,10 +140,8 @@ fn add_peer(
     requires there { All (IsThere image.now) found.old.items }
     ensures there { OnOk result (All (IsThere image.now) found.new.items) }
 {
+    add_port(found, image, at)?;
     let peer = BigEndian::read_u48(&image[at..]);
-    if peer % 65_536 == 0 {
-        found.push(Departure::Port { at: at as u64 })?;
-    }
     if !is_first && peer <= BigEndian::read_u48(&image[at - PEER_SIZE..]) {
         found.push(Departure::Order { at: at as u64 })?;
     }
@@ -210,12 +218,7 @@ fn add_head(found: &mut Vec<Departure>, image: &[u8]) -> Result<(), AllocError>
     ensures there { OnOk result (All (IsThere image.now) found.new.items) }
 {
     add_bytes(found, image, 0, &LETTERS)?;
-    if BigEndian::read_u48(&image[ENDPOINT_AT..]) % 65_536 == 0 {
-        found.push(Departure::Port {
-            at: ENDPOINT_AT as u64,
-        })?;
-    }
-    Ok(())
+    add_port(found, image, ENDPOINT_AT)
 }
 
 /// The places where a file with these bytes departs from the format: each is there. A shut slot has none, whatever its

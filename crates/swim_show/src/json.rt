@@ -1,10 +1,10 @@
 //! What a state file says, as a JSON object on one line.
 
 use crate::departing::Departure;
-use crate::lines::{Said, letter_of, number_of};
-use crate::shown::{Opening, Shown};
+use crate::lines::{Said, number_of};
+use crate::shown::{Opening, SlotShown};
 use std::fmt;
-use swim_state::{Owner, Peers, Reading, Saved, Slot, Version};
+use swim_state::{Owner, Peers, Reading, Saved, Slot};
 
 /// Whose file it is, or `null`.
 #[derive(Clone, Copy)]
@@ -60,17 +60,17 @@ impl fmt::Display for ReadingJson {
 
 /// A slot, with the offsets of its body and its gate.
 #[derive(Clone, Copy)]
-struct SlotJson {
-    version: Version,
-    slot: Slot,
-    reading: Reading,
-}
+struct SlotJson(SlotShown);
 
 impl fmt::Display for SlotJson {
     fn fmt<W: fmt::Write>(&self, f: &mut fmt::Formatter<W>) -> fmt::Result {
-        let letter = letter_of(self.slot);
-        let (body, gate) = (self.slot.body(self.version), self.slot.gate(self.version));
-        let reading = ReadingJson(self.reading);
+        let SlotShown {
+            letter,
+            body,
+            gate,
+            reading,
+        } = self.0;
+        let reading = ReadingJson(reading);
         write!(
             f,
             "{{\"slot\":\"{letter}\",\"body_at\":{body},\"gate_at\":{gate},{reading}}}"
@@ -126,19 +126,6 @@ impl fmt::Display for DeparturesJson<'_> {
     }
 }
 
-impl Shown {
-    /// One of its slots.
-    fn json_of(&self, slot: Slot) -> SlotJson {
-        let version = self.version;
-        let reading = self.reading_of(slot);
-        SlotJson {
-            version,
-            slot,
-            reading,
-        }
-    }
-}
-
 /// All of it, as one object.
 #[derive(Clone, Copy)]
 pub(crate) struct Json<'a>(pub(crate) Said<'a>);
@@ -151,7 +138,7 @@ impl fmt::Display for Json<'_> {
             departures,
         } = self.0;
         let (owner, version) = (OwnerJson(shown.owner), number_of(shown.version));
-        let (a, b) = (shown.json_of(Slot::A), shown.json_of(Slot::B));
+        let (a, b) = (SlotJson(shown.slot(Slot::A)), SlotJson(shown.slot(Slot::B)));
         let opening = OpeningJson(shown.opening);
         let departures = DeparturesJson(departures);
         write!(

@@ -1,7 +1,7 @@
 //! What a state file says, as lines for a person.
 
 use crate::departing::Departure;
-use crate::shown::{Opening, Shown};
+use crate::shown::{Opening, Shown, SlotShown};
 use std::fmt;
 use swim_state::{Owner, Peers, Reading, RecoverFault, Saved, Slot, Version};
 
@@ -21,14 +21,6 @@ pub(crate) fn number_of(version: Version) -> u8 {
     match version {
         Version::One => 1,
         Version::Two => 2,
-    }
-}
-
-/// The letter of a slot.
-pub(crate) fn letter_of(slot: Slot) -> &'static str {
-    match slot {
-        Slot::A => "A",
-        Slot::B => "B",
     }
 }
 
@@ -83,34 +75,21 @@ impl fmt::Display for ReadingSaid {
 
 /// A line about a slot.
 #[derive(Clone, Copy)]
-struct SlotLine {
-    version: Version,
-    slot: Slot,
-    reading: Reading,
-}
+struct SlotLine(SlotShown);
 
 impl fmt::Display for SlotLine {
     fn fmt<W: fmt::Write>(&self, f: &mut fmt::Formatter<W>) -> fmt::Result {
-        let letter = letter_of(self.slot);
-        let (body, gate) = (self.slot.body(self.version), self.slot.gate(self.version));
-        let reading = ReadingSaid(self.reading);
+        let SlotShown {
+            letter,
+            body,
+            gate,
+            reading,
+        } = self.0;
+        let reading = ReadingSaid(reading);
         write!(
             f,
             "slot {letter}   body at {body}, gate at {gate}: {reading}\n"
         )
-    }
-}
-
-impl Shown {
-    /// The line about one of its slots.
-    fn line_of(&self, slot: Slot) -> SlotLine {
-        let version = self.version;
-        let reading = self.reading_of(slot);
-        SlotLine {
-            version,
-            slot,
-            reading,
-        }
     }
 }
 
@@ -201,7 +180,7 @@ impl fmt::Display for Lines<'_> {
             departures,
         } = self.0;
         let (owner, version) = (OwnerLine(shown.owner), number_of(shown.version));
-        let (a, b) = (shown.line_of(Slot::A), shown.line_of(Slot::B));
+        let (a, b) = (SlotLine(shown.slot(Slot::A)), SlotLine(shown.slot(Slot::B)));
         let opening = OpeningLine(shown.opening);
         let departures = DepartureLines(departures);
         write!(

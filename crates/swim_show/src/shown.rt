@@ -19,7 +19,7 @@ use swim_wire::Endpoint;
 /// Where the group and the endpoint stand in the head, and how many bytes it has.
 const GROUP_AT: usize = 10;
 
-const ENDPOINT_AT: usize = 18;
+pub(crate) const ENDPOINT_AT: usize = 18;
 
 const HEAD_SIZE: usize = 24;
 
@@ -50,12 +50,31 @@ pub struct Shown {
     pub opening: Opening,
 }
 
+/// One of the slots.
+#[derive(Clone, Copy)]
+pub(crate) struct SlotShown {
+    /// Its letter.
+    pub(crate) letter: &'static str,
+    /// The offset of its body.
+    pub(crate) body: u64,
+    /// The offset of its gate.
+    pub(crate) gate: u64,
+    /// What it says.
+    pub(crate) reading: Reading,
+}
+
 impl Shown {
-    /// What one of its slots says.
-    pub(crate) fn reading_of(&self, slot: Slot) -> Reading {
-        match slot {
-            Slot::A => self.slots.a,
-            Slot::B => self.slots.b,
+    /// One of its slots.
+    pub(crate) fn slot(&self, slot: Slot) -> SlotShown {
+        let (letter, reading) = match slot {
+            Slot::A => ("A", self.slots.a),
+            Slot::B => ("B", self.slots.b),
+        };
+        SlotShown {
+            letter,
+            body: slot.body(self.version),
+            gate: slot.gate(self.version),
+            reading,
         }
     }
 
