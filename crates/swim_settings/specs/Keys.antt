@@ -5,6 +5,7 @@ use Rattle.swim_settings.specs.declared.key.Key.TheVariants.{File, Group, Me, Co
 use Rattle.swim_settings.specs.declared.key.Key.TheVariants.{Lambda, Period, Direct, Suspect}
 use Rattle.swim_settings.specs.declared.key.Key.TheVariants.{Forget, Helpers, Limit, Block, Rules}
 use Rattle.swim_settings.specs.declared.key.Key.TheVariants.{RandomKey, Join, Rejoin, Expelled}
+use Rattle.swim_settings.specs.declared.key.Key.TheVariants.{Record, RecordEras}
 
 -- the key as a file has it
 abbrev pub key_text : Key → List ℕ
@@ -26,11 +27,13 @@ key_text RandomKey = codes "random_key"
 key_text Join = codes "join"
 key_text Rejoin = codes "rejoin"
 key_text Expelled = codes "expelled"
+key_text Record = codes "record"
+key_text RecordEras = codes "record_eras"
 
 -- all keys, in the order in which a refused one is looked for
 abbrev pub keys : List Key
 keys = File ∷ Group ∷ Me ∷ Control ∷ TickMs ∷ Lambda ∷ Period ∷ Direct ∷ Suspect ∷ Forget ∷ Helpers
-    ∷ Limit ∷ Block ∷ Rules ∷ RandomKey ∷ Join ∷ Rejoin ∷ Expelled ∷ []
+    ∷ Limit ∷ Block ∷ Rules ∷ RandomKey ∷ Join ∷ Rejoin ∷ Expelled ∷ Record ∷ RecordEras ∷ []
 
 -- how many keys come before it
 abbrev pub key_place : Key → ℕ
@@ -52,6 +55,8 @@ key_place RandomKey = 14
 key_place Join = 15
 key_place Rejoin = 16
 key_place Expelled = 17
+key_place Record = 18
+key_place RecordEras = 19
 
 -- the keys before it
 abbrev pub keys_before : Key → List Key

@@ -1,7 +1,7 @@
 -- What the table of a settings file says.
-use Rattle.std.specs.Prelude.{◌≡◌, ◌⊎◌, ◌≤◌, ◌-◌, ℕ, ℤ, pos, negsuc, List, [], ◌∷◌, string_bytes}
-use Rattle.std.specs.Prelude.{IsUtf8, Option, Some, None, option_and_then, Ok, Bool, true, false}
-use Rattle.std.specs.Prelude.{codes}
+use Rattle.std.specs.Prelude.{◌≡◌, ◌≢◌, ◌⊎◌, ◌≤◌, ◌-◌, ℕ, ℤ, pos, negsuc, List, [], ◌∷◌}
+use Rattle.std.specs.Prelude.{IsUtf8, Option, Some, None, option_and_then, option_map, Ok, Bool}
+use Rattle.std.specs.Prelude.{true, false, codes, string_bytes}
 use Rattle.std.specs.List.{AllByRecursion}
 use Rattle.hex.specs.Hex.{decode_of}
 use Rattle.toml.specs.Parse.{parse_document}
@@ -14,6 +14,7 @@ use Rattle.swim_settings.specs.declared.key.Key.TheVariants.{File, Group, Me, Co
 use Rattle.swim_settings.specs.declared.key.Key.TheVariants.{Lambda, Period, Direct, Suspect}
 use Rattle.swim_settings.specs.declared.key.Key.TheVariants.{Forget, Helpers, Limit, Block, Rules}
 use Rattle.swim_settings.specs.declared.key.Key.TheVariants.{RandomKey, Join, Rejoin, Expelled}
+use Rattle.swim_settings.specs.declared.key.Key.TheVariants.{Record, RecordEras}
 use Rattle.swim_member.specs.declared.settings.TheConstants.{HELPERS_MAX, BLOCK_MAX}
 use Rattle.swim_member.specs.declared.settings.Settings.{Settings}
 use Rattle.swim_settings.specs.declared.refusal.Refusal.{Refusal}
@@ -74,6 +75,11 @@ IsChoice key usual other table false =
 abbrev pub EndsExpelled : Members → Bool → Type 0
 EndsExpelled = IsChoice Expelled (codes "stay") (codes "end")
 
+-- the folder there, which has a name; none where the table hasn't the key
+abbrev pub IsFolder : Key → Members → Option (List ℕ) → Type 0
+IsFolder key table (Some folder) = (text_at key table ≡ Some folder) × (folder ≢ [])
+IsFolder key table None = value_at key table ≡ None
+
 -- the table says these settings of the member; its group, endpoint, block and rules aside
 pub record SaysMember (table : Members) (settings : Settings) : Type 0 where
   pub lambda : IsNumber Lambda 3 table settings.lambda
@@ -98,6 +104,8 @@ pub record Says (table : Members) (run : RunSettings) : Type 0 where
   pub join : AreEndpoints Join table run.join.items
   pub rejoin : IsNumber Rejoin 300 table run.rejoin
   pub expelled : EndsExpelled table run.ends_expelled
+  pub record_folder : IsFolder Record table (option_map string_bytes run.record_folder)
+  pub record_eras : IsNumber RecordEras 8 table run.record_eras
 
 -- the endpoint whose text is there
 abbrev pub IsEndpointAt : Key → Members → ℕ → Type 0
@@ -126,6 +134,8 @@ IsRefused Block table = No (IsWithin Block 1 1 BLOCK_MAX table)
 IsRefused Rules table = No (IsWithin Rules 1 1 2 table)
 IsRefused Rejoin table = No (IsWithin Rejoin 300 0 1000000 table)
 IsRefused Expelled table = No (EndsExpelled table)
+IsRefused Record table = No (IsFolder Record table)
+IsRefused RecordEras table = No (IsWithin RecordEras 8 1 1000 table)
 IsRefused _ table = Unit
 
 -- the refusal is of the text, which is no TOML, or memory ran out
@@ -153,6 +163,8 @@ IsTaken Block table = (n : ℕ) × IsWithin Block 1 1 BLOCK_MAX table n
 IsTaken Rules table = (n : ℕ) × IsWithin Rules 1 1 2 table n
 IsTaken Rejoin table = (n : ℕ) × IsWithin Rejoin 300 0 1000000 table n
 IsTaken Expelled table = (is_end : Bool) × EndsExpelled table is_end
+IsTaken Record table = (folder : Option (List ℕ)) × IsFolder Record table folder
+IsTaken RecordEras table = (n : ℕ) × IsWithin RecordEras 8 1 1000 table n
 IsTaken _ table = Unit
 
 -- all keys before the key have what they take

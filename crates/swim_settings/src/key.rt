@@ -45,11 +45,15 @@ pub enum Key {
     Rejoin,
     /// What a member does that is expelled.
     Expelled,
+    /// The folder of the recordings of the eras that ended.
+    Record,
+    /// How many recordings are kept there.
+    RecordEras,
 }
 
 impl Key {
     /// All keys, in the order in which a refused one is looked for.
-    pub const ALL: [Key; 18] = [
+    pub const ALL: [Key; 20] = [
         Key::File,
         Key::Group,
         Key::Me,
@@ -68,6 +72,8 @@ impl Key {
         Key::Join,
         Key::Rejoin,
         Key::Expelled,
+        Key::Record,
+        Key::RecordEras,
     ];
 
     /// The key as a file has it.
@@ -93,6 +99,8 @@ impl Key {
             Key::Join => "join",
             Key::Rejoin => "rejoin",
             Key::Expelled => "expelled",
+            Key::Record => "record",
+            Key::RecordEras => "record_eras",
         }
     }
 }

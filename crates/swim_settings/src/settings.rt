@@ -1,19 +1,20 @@
 //! The settings of `swim run`.
 
-ghost use Rattle.std.specs.Prelude.{◌≡◌, Some, IfOk, IfErr};
+ghost use Rattle.std.specs.Prelude.{◌≡◌, ◌≤◌, Some, IfOk, IfErr, option_map, string_bytes};
 ghost use Rattle.toml.specs.Data.{Members};
 ghost use Rattle.toml.specs.Parse.{parse_document};
 ghost use Rattle.toml.specs.View.{table_view};
 ghost use Rattle.swim_member.specs.Checks.{AreSound};
 ghost use Rattle.swim_settings.specs.Ranges.{AreInRange};
-ghost use Rattle.swim_settings.specs.Says.{AreTakenBefore, IsNumber, IsOfKey, IsReason, Says, SaysMember};
+ghost use Rattle.swim_settings.specs.Says.{AreTakenBefore, IsFolder, IsNumber, IsOfKey, IsReason, Says, SaysMember};
 ghost use Rattle.swim_settings.specs.declared.key.Key.TheVariants as keys;
 
 use crate::key::Key;
 use crate::refusal::Refusal;
 use crate::table::{read_table, refuse_unknown};
 use crate::value::{
-    read_bytes, read_choice, read_endpoint_at, read_endpoints, read_number, read_text, read_within,
+    read_bytes, read_choice, read_endpoint_at, read_endpoints, read_folder, read_number, read_text,
+    read_within,
 };
 use arrayvec::ArrayVec;
 use std::alloc::Global;
@@ -45,6 +46,10 @@ pub struct RunSettings {
     pub rejoin: u64,
     /// `expelled`: whether the member ends once it is expelled.
     pub ends_expelled: bool,
+    /// `record`: the folder into which eras that ended are recorded, if the file has one.
+    pub record_folder: Option<String>,
+    /// `record_eras`: how many recordings are kept there, 1 to 1,000.
+    pub record_eras: u64,
 }
 
 /// What the member is told, with this group and endpoint, and a block of 1 and rules 1: their keys come
@@ -98,6 +103,24 @@ fn read_block_and_rules(table: &Table, member: Settings) -> Result<Settings, Ref
     })
 }
 
+/// The folder of the recordings, if there is one, and how many are kept there.
+fn read_recording(alloc: Global, table: &Table) -> Result<(Option<String>, u64), Refusal>
+    requires { AreTakenBefore keys.Record (table_view table.now) }
+    ensures folder { IfOk result (λ told.
+        IsFolder keys.Record (table_view table.now) (option_map string_bytes told.0)) }
+    ensures eras { IfOk result (λ told. IsNumber keys.RecordEras 8 (table_view table.now) told.1) }
+    ensures range { IfOk result (λ told. (1 ≤ told.1) × (told.1 ≤ 1000)) }
+    ensures refused { IfErr result (IsOfKey (table_view table.now)) }
+{
+    let named = read_folder(table, Key::Record)?;
+    let eras = read_within(table, Key::RecordEras, 8, 1, 1000)?;
+    let folder = match named {
+        Some(folder) => Some(String::from_str(alloc, folder)?),
+        None => None,
+    };
+    Ok((folder, eras))
+}
+
 /// The settings of a table, where each key has a value that it takes.
 fn read_keys(alloc: Global, table: &Table) -> Result<RunSettings, Refusal>
     ensures range { IfOk result AreInRange }
@@ -116,6 +139,7 @@ fn read_keys(alloc: Global, table: &Table) -> Result<RunSettings, Refusal>
     let join = read_endpoints(table, Key::Join)?;
     let rejoin = read_within(table, Key::Rejoin, 300, 0, 1_000_000)?;
     let ends_expelled = read_choice(table, Key::Expelled, "stay", "end")?;
+    let (record_folder, record_eras) = read_recording(alloc, table)?;
     Ok(RunSettings {
         file: String::from_str(alloc, file)?,
         settings,
@@ -126,6 +150,8 @@ fn read_keys(alloc: Global, table: &Table) -> Result<RunSettings, Refusal>
         join,
         rejoin,
         ends_expelled,
+        record_folder,
+        record_eras,
     })
 }
 

@@ -7,7 +7,7 @@ ghost use Rattle.toml.specs.Data.{as_str};
 ghost use Rattle.toml.specs.View.{view, items_view, table_view};
 ghost use Rattle.swim_wire.specs.Numbers.{IsEndpoint};
 ghost use Rattle.swim_words.specs.Words.{endpoint_text, No};
-ghost use Rattle.swim_settings.specs.Says.{value_at, text_at, number_at, IsNumber, IsWithin, IsEndpointAt, IsChoice, AreBytes, AreTexts, AreEndpoints};
+ghost use Rattle.swim_settings.specs.Says.{value_at, text_at, number_at, IsNumber, IsWithin, IsEndpointAt, IsChoice, IsFolder, AreBytes, AreTexts, AreEndpoints};
 ghost use Rattle.swim_settings.specs.declared.refusal.Refusal.TheVariants as refusals;
 
 use crate::key::Key;
@@ -99,6 +99,23 @@ pub(crate) fn read_choice(
     } else {
         Err(Refusal::Key(key))
     }
+}
+
+/// The folder at a key, which has to have a name; none where the key isn't there.
+pub(crate) fn read_folder(table: &Table, key: Key) -> Result<Option<&str>, Refusal>
+    ensures folder { IfOk result (λ folder.
+        IsFolder key (table_view table.now) (option_map (λ f. f.now) folder)) }
+    ensures none { IfErr result (λ refusal. (refusal ≡ refusals.Key key)
+        × No (IsFolder key (table_view table.now))) }
+{
+    if find(table, key).is_none() {
+        return Ok(None);
+    }
+    let text = read_text(table, key)?;
+    if text.is_empty() {
+        return Err(Refusal::Key(key));
+    }
+    Ok(Some(text))
 }
 
 /// The endpoint at a key that has to be there.

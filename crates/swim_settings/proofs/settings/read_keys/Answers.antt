@@ -38,6 +38,16 @@ returns-in_err-ends_expelled-clause-refused c =
     let fault = err_from_is_err_and c.from_residual-in_err-ends_expelled.result c.from_residual-in_err-ends_expelled.ensures.1 in
     rw (fault.1, fault.2, c.in_err-ends_expelled.ensures.none.0) (taken, c.in_err-ends_expelled.ensures.none.1)
 
+pub read_recording-requires : goal.read_recording-requires
+read_recording-requires c =
+    let t = table_view c.args.table.now in
+    let rejoin = c.in_ok-rejoin in
+    let ends = c.in_ok-ends_expelled in
+    let to_random_key = AreTaken-push t (keys_before keys.RandomKey) keys.RandomKey c.in_ok-settings.ensures.taken tt in
+    let to_join = AreTaken-push t (keys_before keys.Join) keys.Join to_random_key tt in
+    let to_rejoin = AreTaken-push t (keys_before keys.Rejoin) keys.Rejoin to_join (rejoin.rejoin, (rejoin.ensures.number, rejoin.ensures.range.0, rejoin.ensures.range.1)) in
+    AreTaken-push t (keys_before keys.Expelled) keys.Expelled to_rejoin (ends.ends_expelled, ends.ensures.choice)
+
 pub returns-clause-said : goal.returns-clause-said
 returns-clause-said c =
     let member = c.in_ok-member.ensures.said in
@@ -62,4 +72,6 @@ returns-clause-said c =
       join = c.in_ok-join.ensures.endpoints;
       rejoin = c.in_ok-rejoin.ensures.number;
       expelled = c.in_ok-ends_expelled.ensures.choice;
+      record_folder = c.in_ok-record_folder.ensures.folder;
+      record_eras = c.in_ok-record_folder.ensures.eras;
     }
