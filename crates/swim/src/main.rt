@@ -12,12 +12,12 @@ use std::sync::Wait;
 use std::thread::Threads;
 use std::time::Clock;
 use std::{env, fs};
+use swim_ask::{StatusJson, Watched, ask, read_status, show_members, watch_members};
 use swim_check::{Stop, check};
-use swim_cli::{
-    Ending, LogStream, Stamped, Subcommand, ask, hold_standard, level, make, read_words, run,
-    show_members, watch_members,
-};
+use swim_cli::{LogStream, Stamped, Subcommand, hold_standard, level, make, read_words};
+use swim_ending::Ending;
 use swim_play::play;
+use swim_run::run;
 use swim_script::ScriptFault;
 use swim_show::ShowFault;
 use swim_survey::{Asked, AskedFault};
@@ -68,10 +68,17 @@ fn check_input(rt: &HostRuntime) -> Result<ExitCode, Ending> {
     }
 }
 
-/// Asks a member, and prints its answer. The status says whether it begins with `ok`.
-fn ask_member(rt: &HostRuntime, to: &str, line: &str) -> Result<ExitCode, Ending> {
+/// Asks a member, and prints its answer, a status as a JSON object where that is wanted. The exit status says whether it begins with
+/// `ok`.
+fn ask_member(rt: &HostRuntime, to: &str, line: &str, as_json: bool) -> Result<ExitCode, Ending> {
     let answer = ask(rt, to, line)?;
-    print_bytes(rt, answer.as_slice())?;
+    match read_status(answer.as_slice()) {
+        Some(status) if as_json => {
+            let shown = StatusJson(status);
+            println!(rt; "{shown}").map_err(|_| Ending::File)?;
+        }
+        _ => print_bytes(rt, answer.as_slice())?,
+    }
     Ok(if answer.as_slice().starts_with(b"ok") {
         ExitCode::SUCCESS
     } else {
@@ -129,13 +136,24 @@ fn answer<T: Threads + Wait + Log + Clock + Send + Sync + Copy + Drop>(
             run(rt, logged, config)?;
             Ok(ExitCode::SUCCESS)
         }
-        Subcommand::Ctl { to, line } => ask_member(rt, to, line),
+        Subcommand::Ctl { to, line, as_json } => ask_member(rt, to, line, as_json),
         Subcommand::Members { to, as_json } => {
             show_members(rt, to, as_json)?;
             Ok(ExitCode::SUCCESS)
         }
-        Subcommand::Watch { to, as_json, every } => {
-            watch_members(rt, logged, to, as_json, every)?;
+        Subcommand::Watch {
+            to,
+            as_json,
+            every,
+            once,
+        } => {
+            let watched = Watched {
+                to,
+                as_json,
+                every,
+                once,
+            };
+            watch_members(rt, logged, &watched)?;
             Ok(ExitCode::SUCCESS)
         }
         Subcommand::Show { file, as_json } => show_file(rt, file, as_json),

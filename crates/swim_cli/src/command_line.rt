@@ -38,6 +38,8 @@ pub enum Subcommand<'a> {
         to: &'a str,
         /// The line.
         line: &'a str,
+        /// Whether as JSON, which only the line `status` has.
+        as_json: bool,
     },
     /// All rows of a member.
     Members {
@@ -54,6 +56,8 @@ pub enum Subcommand<'a> {
         as_json: bool,
         /// Milliseconds from one comparison to the next.
         every: u64,
+        /// Whether to end where the member does not answer.
+        once: bool,
     },
     /// What a state file says.
     Show {
@@ -153,7 +157,7 @@ fn members_command<'a>(alloc: Global) -> Result<Command<'a>, Error> {
     Ok(command)
 }
 
-/// `swim watch ADDR [--json] [--every N]`.
+/// `swim watch ADDR [--json] [--every N] [--once]`.
 fn watch_command<'a>(alloc: Global) -> Result<Command<'a>, Error> {
     let every = number(
         alloc,
@@ -162,15 +166,20 @@ fn watch_command<'a>(alloc: Global) -> Result<Command<'a>, Error> {
     )
     .value_parser(ValueParser::unsigned(1, EVERY_LIMIT))
     .default_value("1000");
+    let once = Arg::new(alloc, "once")
+        .long("once")
+        .action(ArgAction::SetTrue)
+        .help("Ends with status 1 where the member does not answer");
     let command = Command::new(alloc, "watch")
         .about("Prints what changes of the members, a line a change, until it is stopped")
         .arg(address(alloc))?
         .arg(json(alloc))?
-        .arg(every)?;
+        .arg(every)?
+        .arg(once)?;
     Ok(command)
 }
 
-/// `swim ctl ADDR LINE`.
+/// `swim ctl ADDR LINE [--json]`.
 fn ctl_command<'a>(alloc: Global) -> Result<Command<'a>, Error> {
     let line = word(
         alloc,
@@ -178,10 +187,12 @@ fn ctl_command<'a>(alloc: Global) -> Result<Command<'a>, Error> {
         "LINE",
         "status, members, members A, join A, leave or stop",
     );
+    let as_json = json(alloc).help("Prints the answer to status as a JSON object");
     let command = Command::new(alloc, "ctl")
         .about("Sends a control line and prints the answer")
         .arg(address(alloc))?
-        .arg(line.allow_hyphen_values(true))?;
+        .arg(line.allow_hyphen_values(true))?
+        .arg(as_json)?;
     Ok(command)
 }
 
@@ -257,6 +268,7 @@ fn chosen<'a>(matches: &ArgMatches<'a>) -> Option<Subcommand<'a>> {
         ("ctl", words) => Some(Subcommand::Ctl {
             to: text(words, "addr"),
             line: text(words, "line"),
+            as_json: words.get_flag("json"),
         }),
         ("members", words) => Some(Subcommand::Members {
             to: text(words, "addr"),
@@ -266,6 +278,7 @@ fn chosen<'a>(matches: &ArgMatches<'a>) -> Option<Subcommand<'a>> {
             to: text(words, "addr"),
             as_json: words.get_flag("json"),
             every: words.get_one::<u64>("every")?,
+            once: words.get_flag("once"),
         }),
         ("show", words) => Some(Subcommand::Show {
             file: text(words, "file"),

@@ -1,10 +1,10 @@
 //! `swim init`.
 
-use crate::ending::Ending;
 use std::fs::File;
 use std::io;
 use std::rt::Files;
 use swim_disk::FileDisk;
+use swim_ending::Ending;
 use swim_start::{open_locked, sync_folder};
 use swim_state::{InitFault, Owner, init};
 use swim_wire::NUMBER_MAX;

@@ -3,11 +3,11 @@
 ghost use Rattle.std.specs.Prelude.{◌≡◌, ◌≢◌, ◌+◌, length, IfSome};
 
 use crate::asking::exchange;
-use crate::ending::Ending;
 use arrayvec::ArrayString;
 use std::fmt::Write as _;
 use std::net::{Net, TcpStream};
 use std::rt::Clock;
+use swim_ending::Ending;
 use swim_news::{PAGES_MAX, Rows};
 use swim_wire::{Endpoint, MEMBERS_MAX, UPDATES_MAX, Update, UpdateKind};
 use swim_words::{read_endpoint, read_number, split_at_byte};

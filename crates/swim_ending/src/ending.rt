@@ -63,7 +63,7 @@ const MAYBE_PART: &str =
 impl Ending {
     ghost use Rattle.std.specs.Prelude.{◌≡◌};
     ghost use Rattle.std.specs.Process.{exit_status};
-    ghost use Rattle.swim_cli.specs.Ending.{ending_status};
+    ghost use Rattle.swim_ending.specs.Ending.{ending_status};
 
     /// What else there is to say, on a line of its own.
     pub fn hint(&self) -> Option<&'static str> {
@@ -77,7 +77,7 @@ impl Ending {
     }
 
     /// The ending by an error of the system: the lack of memory, or else the other one.
-    pub(crate) fn of(error: &io::Error, otherwise: Ending) -> Ending {
+    pub fn of(error: &io::Error, otherwise: Ending) -> Ending {
         if error.kind() == ErrorKind::OutOfMemory {
             Ending::Memory
         } else {

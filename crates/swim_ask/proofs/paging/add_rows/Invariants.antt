@@ -1,5 +1,5 @@
 use Rattle.std.proofs.Common.{◌≡◌, ◌+◌, length}
-use Rattle.swim_cli.proofs.paging.add_rows.Given as goal
+use Rattle.swim_ask.proofs.paging.add_rows.Given as goal
 
 abbrev pub invariant-loop-count : goal.invariant-loop-count
 invariant-loop-count l = length l.rows ≡ length l.fn.rows + l.count

@@ -1,10 +1,10 @@
 //! `swim ctl`.
 
-use crate::ending::Ending;
 use std::io::{self, ErrorKind, Read, Write};
 use std::net::{Net, TcpStream};
 use std::rt::Clock;
 use std::time::{Duration, Instant};
+use swim_ending::Ending;
 use swim_net::address_of;
 use swim_wire::Endpoint;
 use swim_words::{read_endpoint, read_number, split_at_byte};

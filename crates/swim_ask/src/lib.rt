@@ -1,0 +1,13 @@
+//! Who asks a running member over its control socket: a line and its answer, all rows, and what changes of them.
+#![tactic(auto)]
+
+mod asking;
+mod gap;
+mod paging;
+mod status;
+mod timed;
+mod watching;
+
+pub use asking::ask;
+pub use status::{StatusJson, read_status};
+pub use watching::{Watched, show_members, watch_members};

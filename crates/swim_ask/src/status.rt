@@ -1,0 +1,88 @@
+//! The answer to `status`, read and as JSON.
+
+ghost use Rattle.std.specs.Prelude.{◌≡◌, ◌++◌, ◌∷◌, IfSome};
+ghost use Rattle.std.specs.Fmt.{decimal};
+ghost use Rattle.swim_member.specs.Texts.{phase_word};
+ghost use Rattle.swim_shell.specs.Answers.{status_text};
+
+use std::fmt;
+use swim_member::Phase;
+use swim_node::Status;
+use swim_words::{read_number, split_at_byte};
+
+/// The phase that the word is.
+fn read_phase(word: &[u8]) -> Option<Phase>
+    ensures { IfSome result (λ phase. word.now ≡ phase_word phase) }
+{
+    match word {
+        b"running" => Some(Phase::Running),
+        b"left" => Some(Phase::Left),
+        b"expelled" => Some(Phase::Expelled),
+        _ => None,
+    }
+}
+
+/// What stands after a word and a space.
+fn after_word<'a>(text: &'a [u8], word: &[u8]) -> Option<&'a [u8]>
+    ensures { IfSome result (λ rest. text.now ≡ word.now ++ 32 ∷ rest.now) }
+{
+    let (first, rest) = split_at_byte(text, b' ')?;
+    if first == word { Some(rest) } else { None }
+}
+
+/// The count after a name, and what stands after the byte that ends it.
+fn read_count<'a>(text: &'a [u8], name: &[u8], end: u8) -> Option<(u64, &'a [u8])>
+    ensures { IfSome result (λ r. text.now ≡ name.now ++ 32 ∷ decimal r.0 ++ end ∷ r.1.now) }
+{
+    let rest = after_word(text, name)?;
+    let (word, after) = split_at_byte(rest, end)?;
+    let count = read_number(word)?;
+    Some((count, after))
+}
+
+/// The status that an answer to the line `status` says; none where it is no such answer.
+pub fn read_status(answer: &[u8]) -> Option<Status>
+    ensures { IfSome result (λ status. answer.now ≡ status_text status) }
+{
+    let rest = after_word(answer, b"ok")?;
+    let (phase, rest) = split_at_byte(rest, b' ')?;
+    let phase = read_phase(phase)?;
+    let (number, rest) = read_count(rest, b"number", b' ')?;
+    let (alive, rest) = read_count(rest, b"alive", b' ')?;
+    let (suspect, rest) = read_count(rest, b"suspect", b' ')?;
+    let (confirmed, rest) = read_count(rest, b"confirmed", b' ')?;
+    let (length, rest) = read_count(rest, b"length", b'\n')?;
+    if !rest.is_empty() {
+        return None;
+    }
+    Some(Status {
+        phase,
+        number,
+        alive: alive as usize,
+        suspect: suspect as usize,
+        confirmed: confirmed as usize,
+        length: length as usize,
+    })
+}
+
+/// A status as a JSON object: `{"phase":"running","number":3,"alive":4,"suspect":0,"confirmed":0,"length":17}`.
+#[derive(Clone, Copy)]
+pub struct StatusJson(pub Status);
+
+impl fmt::Display for StatusJson {
+    fn fmt<W: fmt::Write>(&self, f: &mut fmt::Formatter<W>) -> fmt::Result {
+        let Status {
+            phase,
+            number,
+            alive,
+            suspect,
+            confirmed,
+            length,
+        } = self.0;
+        let phase = phase.name();
+        write!(
+            f,
+            "{{\"phase\":\"{phase}\",\"number\":{number},\"alive\":{alive},\"suspect\":{suspect},\"confirmed\":{confirmed},\"length\":{length}}}"
+        )
+    }
+}

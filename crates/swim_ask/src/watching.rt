@@ -1,0 +1,163 @@
+//! `swim members` and `swim watch`.
+
+use crate::gap::{Gap, GapJson};
+use crate::paging::read_rows;
+use crate::timed::{Timed, TimedJson};
+use arrayvec::ArrayString;
+use std::fmt::{self, Display, Write as _};
+use std::net::{Net, TcpStream};
+use std::rt::Clock;
+use std::sync::{Wait, WaitMethods};
+use std::thread;
+use std::time::Duration;
+use swim_ending::Ending;
+use swim_news::{Change, ChangeJson, Changes, RowJson, Rows, compare};
+use swim_wire::{Endpoint, Update};
+use swim_words::read_endpoint;
+
+/// How long `swim members` waits until it asks a member again whose era was full, in milliseconds, and how often.
+const AGAIN_MILLIS: u64 = 100;
+
+const AGAIN_MAX: u32 = 50;
+
+/// The width of the longest endpoint.
+const ENDPOINT_WIDTH: usize = 21;
+
+/// Prints a line at once.
+fn print_line<P: Print, D: Display>(rt: &P, line: &D) -> Result<(), Ending> {
+    println!(rt; "{line}").map_err(|_| Ending::File)
+}
+
+/// Prints a row of the table.
+fn print_row<P: Print>(rt: &P, row: &Update) -> Result<(), Ending> {
+    let mut text = ArrayString::<ENDPOINT_WIDTH>::new();
+    let _ = write!(text, "{}", row.who);
+    let who = text.as_str();
+    let kind = row.kind.name();
+    let number = row.number;
+    println!(rt; "{who:<21} {kind:<7} {number}").map_err(|_| Ending::File)
+}
+
+/// Prints rows, as a table with a head or as JSON, a line each.
+fn print_rows<P: Print>(rt: &P, rows: &Rows, as_json: bool) -> Result<(), Ending> {
+    if !as_json {
+        println!(rt; "MEMBER                KIND    NUMBER").map_err(|_| Ending::File)?;
+    }
+    for row in rows.as_slice() {
+        if as_json {
+            print_line(rt, &RowJson(*row))?;
+        } else {
+            print_row(rt, row)?;
+        }
+    }
+    Ok(())
+}
+
+/// Prints all rows of a member, whose control socket is a word not yet judged. Where its era is full it is asked again.
+pub fn show_members<R: Net<Stream = TcpStream> + Clock + AllocGlobal + Print>(
+    rt: &R,
+    to: &str,
+    as_json: bool,
+) -> Result<(), Ending> {
+    let to = read_endpoint(to.as_bytes()).ok_or(Ending::Address)?;
+    for _ in 0..AGAIN_MAX {
+        if let Some(rows) = read_rows(rt, to)? {
+            return print_rows(rt, &rows, as_json);
+        }
+        thread::sleep(rt, Duration::from_millis(AGAIN_MILLIS));
+    }
+    Err(Ending::Answer)
+}
+
+/// A change as what a JSON object has of it.
+#[derive(Clone, Copy)]
+struct NamedChange(Change);
+
+impl Display for NamedChange {
+    fn fmt<W: fmt::Write>(&self, f: &mut fmt::Formatter<W>) -> fmt::Result {
+        let change = ChangeJson(self.0);
+        write!(f, "\"change\":{change}")
+    }
+}
+
+/// How a member is watched.
+#[derive(Clone, Copy, Debug)]
+pub struct Watched<'a> {
+    /// Its control socket, a word not yet judged.
+    pub to: &'a str,
+    /// Whether each line is a JSON object.
+    pub as_json: bool,
+    /// Milliseconds from one comparison to the next.
+    pub every: u64,
+    /// Whether to end where it does not answer.
+    pub once: bool,
+}
+
+impl Watched<'_> {
+    /// Tells a change of a row, with the time.
+    fn tell_change<R: Print + Clock>(&self, rt: &R, change: Change) -> Result<(), Ending> {
+        if self.as_json {
+            print_line(rt, &TimedJson(Timed::now(rt, NamedChange(change))))
+        } else {
+            print_line(rt, &Timed::now(rt, change))
+        }
+    }
+
+    /// Tells that the member answers no more, or again, with the time.
+    fn tell_gap<R: Print + Clock>(&self, rt: &R, gap: Gap) -> Result<(), Ending> {
+        if self.as_json {
+            print_line(rt, &TimedJson(Timed::now(rt, GapJson(gap))))
+        } else {
+            print_line(rt, &Timed::now(rt, gap))
+        }
+    }
+
+    /// Tells what changed from one list of rows to a later one, a line each.
+    fn tell_news<R: Print + Clock>(&self, rt: &R, old: &Rows, new: &Rows) -> Result<(), Ending> {
+        let mut changes = Changes::new();
+        compare(old, new, &mut changes);
+        for change in changes.as_slice() {
+            self.tell_change(rt, *change)?;
+        }
+        Ok(())
+    }
+
+    /// Asks the member for its rows: none where its era is full, or where it does not answer, which is told once.
+    fn rows_now<R: Net<Stream = TcpStream> + Clock + AllocGlobal + Print>(
+        &self,
+        rt: &R,
+        to: Endpoint,
+        is_lost: &mut bool,
+    ) -> Result<Option<Rows>, Ending> {
+        let read = read_rows(rt, to);
+        let answers = !matches!(read, Err(Ending::Socket | Ending::Answer));
+        if !answers && self.once {
+            return read;
+        }
+        if let Some(gap) = Gap::after(*is_lost, answers) {
+            self.tell_gap(rt, gap)?;
+        }
+        *is_lost = !answers;
+        if answers { read } else { Ok(None) }
+    }
+}
+
+/// Prints what changes of a member's rows until the process is ended. The first comparison is with no rows. Where its era is full,
+/// or where it does not answer, there is no comparison, and the next one is with the rows that stood before.
+pub fn watch_members<R: Net<Stream = TcpStream> + Clock + AllocGlobal + Print, T: Wait>(
+    rt: &R,
+    wait: &T,
+    watched: &Watched<'_>,
+) -> Result<(), Ending> {
+    let to: Endpoint = read_endpoint(watched.to.as_bytes()).ok_or(Ending::Address)?;
+    let mut before = Rows::new();
+    let mut is_lost = false;
+    for _ in wait.forever() {
+        if let Some(rows) = watched.rows_now(rt, to, &mut is_lost)? {
+            watched.tell_news(rt, &before, &rows)?;
+            before = rows;
+        }
+        thread::sleep(rt, Duration::from_millis(watched.every));
+    }
+    unreachable!()
+}

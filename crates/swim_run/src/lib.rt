@@ -1,0 +1,10 @@
+//! A member that runs: its settings, its state file, its sockets, and its eras one after the other.
+#![tactic(auto)]
+
+mod ended;
+mod running;
+mod sockets;
+mod state_file;
+mod watched_doors;
+
+pub use running::run;

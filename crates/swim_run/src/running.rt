@@ -1,0 +1,111 @@
+//! `swim run`.
+
+ghost use Rattle.swim_settings.specs.Ranges.{AreInRange};
+ghost use Rattle.std.specs.Prelude.{IfOk};
+
+use crate::ended::ended_by;
+use crate::sockets::{Sockets, waits};
+use crate::state_file::{StateFile, open_node};
+use crate::watched_doors::WatchedDoors;
+use log::{Log, info};
+use std::fs::{self, File};
+use std::io;
+use std::rt::Files;
+use std::sync::Wait;
+use std::thread::Threads;
+use std::time::{Clock, Duration};
+use swim_ending::Ending;
+use swim_scribe::Scribe;
+use swim_serve::{Beat, Desk, Logs, Outside, run_kept};
+use swim_settings::{Refusal, RunSettings, read_settings};
+use swim_shell::{Joiner, Receiver, Ticker};
+use swim_start::{generators, key_of, paces_of, peers_of};
+
+/// The settings that a file says.
+fn settings_at<R: Files<File = File> + AllocGlobal>(
+    rt: &R,
+    config: &str,
+) -> Result<RunSettings, Ending>
+    ensures { IfOk result AreInRange }
+{
+    let bytes = fs::read(rt, config).map_err(|error| Ending::of(&error, Ending::File))?;
+    match read_settings(rt.alloc(), bytes.as_slice()) {
+        Ok(settings) => Ok(settings),
+        Err(Refusal::Memory) => Err(Ending::Memory),
+        Err(refusal) => Err(Ending::Settings(refusal)),
+    }
+}
+
+/// After how many periods of a life the peers are kept that the member has met by then.
+const PEERS_PERIODS: u64 = 2;
+
+/// When the ticks of a member are due.
+fn beat_of(told: &RunSettings) -> Beat {
+    Beat::new(
+        Duration::from_millis(told.tick_ms),
+        told.settings.period.saturating_mul(PEERS_PERIODS),
+    )
+}
+
+/// Takes a number above all that the member may have used, and serves era after era.
+fn live<'a, T: Threads + Wait + Log + Clock + Send + Sync + Copy + Drop>(
+    rt: &HostRuntime,
+    logged: &'a T,
+    told: RunSettings,
+    key: [u8; 32],
+    held: StateFile,
+    sockets: Sockets<'a, T>,
+) -> Result<(), Ending>
+    requires { AreInRange told }
+{
+    let settings = told.settings;
+    let node = open_node(rt.alloc(), held.opened, held.watched, settings, told.limit)?;
+    let number = node.first();
+    info!(logged; "up with number {number}, at {}, control at {}", settings.me, told.control);
+    let (rng, draws) = generators(key);
+    let peers = peers_of(settings.me, told.join.as_slice(), node.peers().as_slice());
+    let paces = paces_of(&settings, told.rejoin, told.tick_ms);
+    let joiner = Joiner::new(settings.me, settings.rules_of(), peers, paces, draws);
+    let doors = WatchedDoors::new(sockets.doors, held.own, *logged);
+    let desk = Desk::new(rt.alloc(), *logged, joiner, doors).map_err(|_| Ending::Memory)?;
+    let outside = Outside {
+        receiver: Receiver::new(sockets.inbound),
+        ticker: Ticker { rng },
+        beat: beat_of(&told),
+        link: sockets.link,
+        owed: 0,
+        desk,
+        logs: Logs::new(settings.me, number),
+    };
+    let alarms = sockets.alarms;
+    let mut scribe = Scribe::new(logged, *rt, told.record_folder, told.record_eras);
+    let ended = run_kept(
+        logged,
+        rt.alloc(),
+        node,
+        outside,
+        &alarms,
+        told.ends_expelled,
+        &mut scribe,
+    );
+    scribe.finish();
+    ended_by(ended)
+}
+
+/// Runs the member that the settings file describes until the line `stop`: locks its state file, binds its sockets, takes a
+/// number above all that it may have used, and serves era after era. A start without its sockets spends no number. Where the
+/// settings say so, each era that ended is recorded. An error is why it ended before, `Expelled` among them, which comes only
+/// if the settings say so.
+pub fn run<T: Threads + Wait + Log + Clock + Send + Sync + Copy + Drop>(
+    rt: &HostRuntime,
+    logged: &T,
+    config: &str,
+) -> Result<(), Ending> {
+    let told = settings_at(rt, config)?;
+    let held = StateFile::lock(rt, told.file.as_str())?;
+    let drawn = key_of(rt, told.random_key);
+    let key = drawn.map_err(|error: io::Error| Ending::of(&error, Ending::File))?;
+    let (waits, connections) = waits(rt, rt.alloc())?;
+    let sockets = Sockets::bind(rt, logged, &waits, connections, &told)?;
+    live(rt, logged, told, key, held, sockets)
+}

@@ -1,0 +1,94 @@
+//! What a running member holds of the network.
+
+ghost use Rattle.std.specs.Prelude.{◌≡◌, ◌*◌, min};
+ghost use Rattle.std.specs.Duration.{as_nanos};
+
+use std::alloc::Global;
+use std::io;
+use std::net::{Net, SocketAddr, TcpListener, TcpStream};
+use std::rt::Clock;
+use std::time::Duration;
+use swim_ending::Ending;
+use swim_net::{SocketAlarm, TcpDoors, UdpInbound, UdpLink, Waits, address_of, bind_datagrams};
+use swim_settings::RunSettings;
+use swim_wire::Endpoint;
+
+/// No socket waits longer, in milliseconds.
+const WAIT_MAX_MILLIS: u64 = 1000;
+
+/// The control socket waits no longer, in milliseconds, so that a connection whose second is over ends soon.
+const DOORS_WAIT_MAX_MILLIS: u64 = 250;
+
+/// How long a socket waits at most: one tick, or a second if that is less.
+fn wait_of(tick_millis: u64) -> Duration
+    ensures { as_nanos result ≡ min tick_millis WAIT_MAX_MILLIS * 1000000 }
+{
+    Duration::from_millis(tick_millis.min(WAIT_MAX_MILLIS))
+}
+
+/// The address that the others reach this member by. A machine binds the unspecified one and those of multicast too, but a
+/// datagram that is sent there does not come back to this member alone.
+fn own_address(me: Endpoint) -> Result<SocketAddr, Ending> {
+    let at = address_of(me);
+    if at.ip().is_unspecified() || at.ip().is_multicast() {
+        return Err(Ending::Socket);
+    }
+    Ok(at)
+}
+
+/// The ending where the system refuses a socket.
+fn unbound(error: io::Error) -> Ending {
+    Ending::of(&error, Ending::Socket)
+}
+
+/// The waits of the control socket's thread, and what ends them.
+pub(crate) fn waits<R: Net>(rt: &R, alloc: Global) -> Result<(Waits, SocketAlarm), Ending> {
+    Waits::new(rt, alloc).map_err(unbound)
+}
+
+/// Binds the control socket, whose thread has these waits.
+fn bind_doors<'a, R: Net<Listener = TcpListener, Stream = TcpStream>, C: Clock>(
+    rt: &R,
+    clock: &'a C,
+    waits: &'a Waits,
+    control: Endpoint,
+    wait: Duration,
+) -> Result<TcpDoors<'a, C>, Ending> {
+    let bound = TcpListener::bind(rt, address_of(control));
+    let listener = bound.map_err(unbound)?;
+    let wait = wait.min(Duration::from_millis(DOORS_WAIT_MAX_MILLIS));
+    TcpDoors::new(listener, waits, clock, wait).map_err(unbound)
+}
+
+/// The sockets of a member: what receives datagrams, what sends them, the control socket, and what ends the waits of the first
+/// and the last.
+#[derive(Drop)]
+pub(crate) struct Sockets<'a, C: Clock> {
+    pub(crate) inbound: UdpInbound<'a, C>,
+    pub(crate) link: UdpLink<'a, C>,
+    pub(crate) doors: TcpDoors<'a, C>,
+    pub(crate) alarms: [SocketAlarm; 2],
+}
+
+impl<'a, C: Clock> Sockets<'a, C> {
+    /// Binds them as the settings say. The control socket's thread has these waits, which that alarm ends.
+    pub(crate) fn bind<R: Net<Listener = TcpListener, Stream = TcpStream> + AllocGlobal>(
+        rt: &R,
+        clock: &'a C,
+        waits: &'a Waits,
+        connections: SocketAlarm,
+        told: &RunSettings,
+    ) -> Result<Sockets<'a, C>, Ending> {
+        let wait = wait_of(told.tick_ms);
+        let at = own_address(told.settings.me)?;
+        let bound = bind_datagrams(rt, clock, rt.alloc(), at, wait);
+        let (inbound, link, datagrams) = bound.map_err(unbound)?;
+        let doors = bind_doors(rt, clock, waits, told.control, wait)?;
+        Ok(Sockets {
+            inbound,
+            link,
+            doors,
+            alarms: [datagrams, connections],
+        })
+    }
+}

@@ -1,0 +1,59 @@
+//! The state file that a running member holds.
+
+ghost use Rattle.std.specs.Prelude.{◌≡◌, [], IfOk};
+ghost use Rattle.swim_member.specs.Checks.{AreSound};
+
+use std::alloc::Global;
+use std::fs::File;
+use std::io;
+use swim_disk::FileDisk;
+use swim_ending::Ending;
+use swim_member::Settings;
+use swim_node::OpenFault;
+use swim_start::{FileNode, OwnFile, Watch, open, open_locked};
+use swim_state::RecoverFault;
+
+/// What the opening of a state file answers where a call of the disk failed.
+const DEVICE: OpenFault = OpenFault::Refused(RecoverFault::Device);
+
+/// A state file that is locked, and who looks whether it is still the member's own: one for the doors, and one for the disk.
+#[derive(Drop)]
+pub(crate) struct StateFile {
+    pub(crate) opened: File,
+    pub(crate) own: OwnFile<HostRuntime>,
+    pub(crate) watched: OwnFile<HostRuntime>,
+}
+
+impl StateFile {
+    /// Opens and locks the file at this path.
+    pub(crate) fn lock(rt: &HostRuntime, path: &str) -> Result<StateFile, Ending> {
+        let unopened = |error: io::Error| Ending::of(&error, Ending::File);
+        let opened = open_locked(rt, path, false).map_err(unopened)?;
+        let own = OwnFile::new(*rt, rt.alloc(), path, &opened).map_err(unopened)?;
+        let watched = own.try_clone().map_err(|_| Ending::Memory)?;
+        Ok(StateFile {
+            opened,
+            own,
+            watched,
+        })
+    }
+}
+
+/// Opens the member on its state file, which is written only while the watch says that it may be.
+pub(crate) fn open_node<W: Watch + Drop>(
+    alloc: Global,
+    file: File,
+    watch: W,
+    settings: Settings,
+    limit: u32,
+) -> Result<FileNode<W>, Ending>
+    requires { AreSound settings }
+    ensures { IfOk result (λ node. node.entries ≡ []) }
+{
+    let loaded = FileDisk::load(alloc, file);
+    let disk = loaded.map_err(|error| Ending::of(&error, Ending::Open(DEVICE)))?;
+    match open(alloc, disk, watch, settings, limit) {
+        Ok(node) => Ok(node),
+        Err(fault) => Err(Ending::Open(fault)),
+    }
+}
