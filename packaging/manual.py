@@ -1,4 +1,4 @@
-"""The manual page, made of the words that the program's own help has, and of the titles of the documents."""
+"""The manual pages, made of the words that the program's own help has, and of the titles of the documents."""
 
 import re
 import subprocess
@@ -50,8 +50,26 @@ def command_section(help):
     return [spelled(help.about), ".PP", f".B {spelled(help.usage)}", *tagged(pairs)]
 
 
+def page_of(program, date, command):
+    """The page of one command."""
+    help = help_of(program, command)
+    name, version = said(program, "--version").split()
+    lines = [f'.TH {name.upper()}-{command.upper()} 1 {date} "{name} {version}"', ".SH NAME"]
+    lines += [rf"{name}\-{command} \- {spelled(help.about)}", ".SH SYNOPSIS", f".B {spelled(help.usage)}"]
+    for heading, pairs in help.lists.items():
+        lines += [f".SH {heading.upper()}", *tagged(pairs)]
+    lines += [".SH SEE ALSO", f".BR {name} (1)"]
+    return "\n".join(lines) + "\n"
+
+
+def pages_of_commands(program, date):
+    """The page of each command but `help`, by its name."""
+    commands = [command for command, _ in help_of(program).lists["Commands"] if command != "help"]
+    return {f"swim-{command}": page_of(program, date, command) for command in commands}
+
+
 def manual(program, date, documents):
-    """The page. `documents` are the paths and the titles of what is installed beside it."""
+    """The page of the whole. `documents` are the paths and the titles of what is installed beside it."""
     whole = help_of(program)
     name, version = said(program, "--version").split()
     lines = [f'.TH {name.upper()} 1 {date} "{name} {version}"']
