@@ -4,7 +4,8 @@ import re
 from typing import NamedTuple
 
 from lib.datagrams import Endpoint
-from lib.trials import expect_true
+from lib.processes import swim
+from lib.trials import expect, expect_true
 
 NAME = re.compile(r"life-(\d{7,})-era-(\d{6,})\.recording")
 PART = re.compile(r"\.life-(\d{7,})-era-(\d{6,})\.recording\.part")
@@ -56,6 +57,36 @@ def read_recording(path):
     return Recording(int(name[1]), int(name[2]), lines[: start + 1], calls)
 
 
+def paths_in(folder):
+    """The recordings of a folder, in the order in which their eras ended."""
+    return sorted(path for path in folder.iterdir() if NAME.fullmatch(path.name))
+
+
 def recordings_in(folder):
     """All recordings of a folder, in the order of their names."""
-    return [read_recording(path) for path in sorted(folder.iterdir()) if NAME.fullmatch(path.name)]
+    return [read_recording(path) for path in paths_in(folder)]
+
+
+EVENT = re.compile(r"event \d+ save (none|done|failed) number (\d+) phase (running|left|expelled)")
+SEND = re.compile(r"send (\S+) (taken|lost) ([0-9a-f]+)")
+
+
+class Played(NamedTuple):
+    """What `swim play` says of a call: the own number after it, and the datagrams, each with whom it went to and what became of it."""
+
+    number: int
+    sends: list
+
+
+def play(path):
+    """The calls of a recording as `swim play` plays it, one for each that stands there."""
+    ran = swim("play", input=path.read_bytes())
+    expect((ran.status, ran.err), (0, ""), f"swim play < {path.name}")
+    calls = []
+    for line in ran.out.splitlines():
+        if event := EVENT.fullmatch(line):
+            calls.append(Played(int(event[2]), []))
+        elif send := SEND.fullmatch(line):
+            calls[-1].sends.append((endpoint(send[1]), send[2], bytes.fromhex(send[3])))
+    expect(len(calls), len(read_recording(path).calls), f"the calls that are played of {path.name}")
+    return calls
