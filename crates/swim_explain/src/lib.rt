@@ -1,0 +1,13 @@
+//! The story of one member, told from a recorded era: what each call says of it, in order.
+#![tactic(auto)]
+
+mod datagrams;
+mod fact;
+mod lines;
+mod sends;
+mod telling;
+mod ticks;
+mod view;
+
+pub use fact::{Fact, Happening, Purpose};
+pub use telling::story;
