@@ -3,11 +3,15 @@
 
 mod datagrams;
 mod fact;
+mod heading;
+mod json;
 mod lines;
+mod printing;
 mod sends;
 mod telling;
 mod ticks;
 mod view;
 
 pub use fact::{Fact, Happening, Purpose};
+pub use printing::print_story;
 pub use telling::story;

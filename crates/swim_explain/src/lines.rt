@@ -73,7 +73,7 @@ impl fmt::Display for Met {
 }
 
 /// What a datagram is called.
-fn name_of(kind: Kind) -> &'static str {
+pub(crate) fn name_of(kind: Kind) -> &'static str {
     match kind {
         Kind::Ping => "ping",
         Kind::PingReq => "ping-req",

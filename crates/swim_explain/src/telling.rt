@@ -17,7 +17,7 @@ use crate::ticks::tell_tick;
 use crate::view::View;
 use std::alloc::{AllocError, Global};
 use swim_member::{Answer, Judgement, Member, Phase, Settings};
-use swim_node::{Entry, Replay};
+use swim_node::{BeginFault, Beginning, Entry, Replay};
 use swim_wire::Endpoint;
 
 /// What the call was told, and what time did.
@@ -175,9 +175,8 @@ fn tell_all(
     Ok(told)
 }
 
-/// The story of one member in an era that began with this state: what was held of it there, and then what each call says of
-/// it, in order.
-pub fn story(
+/// Does an era again that began with this member, and tells the story of another or of itself.
+fn tell_era(
     alloc: Global,
     begun: Member,
     era: &Replay,
@@ -190,4 +189,25 @@ pub fn story(
     ensures { IfOk result (λ told. told.items ≡ story begun who era.now.entries) }
 {
     tell_all(alloc, begun, era.journal(), who)
+}
+
+/// The story of one member in an era that began so: what was held of it there, and then what each call says of it, in
+/// order. Err: no era begins so, or there was no memory.
+pub fn story(
+    alloc: Global,
+    beginning: Beginning,
+    era: &Replay,
+    who: Endpoint,
+) -> Result<Vec<Happening>, BeginFault>
+    requires sound { AreSound beginning.state.settings }
+    requires base { era.now.base ≡ beginning }
+    ensures story { IfOk result (λ told. told.items
+        ≡ story beginning.state who era.now.entries) }
+{
+    let Beginning { state, granted, .. } = beginning;
+    if state.number > granted {
+        return Err(BeginFault::Ceiling);
+    }
+    let begun = Member::resume(state)?;
+    tell_era(alloc, begun, era, who).map_err(|_| BeginFault::NoMemory)
 }

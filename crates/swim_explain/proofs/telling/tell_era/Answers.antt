@@ -2,7 +2,7 @@ use Rattle.std.proofs.Common.{[], List, subst, sym}
 use Rattle.swim_node.specs.declared.entry.Entry.{Entry}
 use Rattle.swim_explain.specs.Machinery.Covering.{AreCovered}
 use Rattle.swim_explain.proofs.Covers.{covers_next, covers-less}
-use Rattle.swim_explain.proofs.telling.story.Goals as goal
+use Rattle.swim_explain.proofs.telling.tell_era.Goals as goal
 
 pub tell_all-requires-clause-covered : goal.tell_all-requires-clause-covered
 tell_all-requires-clause-covered c =
