@@ -1,0 +1,5 @@
+pub mod Calls
+pub mod Entering
+pub mod Lines
+pub mod Sections
+pub mod Walks

@@ -1,0 +1,29 @@
+use Rattle.std.proofs.Common.{◌++◌, List, ap, sym, ◌∙◌, inl, inr}
+use Rattle.swim_node.specs.declared.entry.Entry.{Entry}
+use Rattle.swim_node.specs.History.{Base}
+use Rattle.swim_record.specs.Recording.{calls_text, lines_text, recording_text}
+use Rattle.swim_replay.specs.Recorded.{base_lines}
+use Rattle.swim_replay.proofs.Lines.{body}
+use Rattle.swim_replay.proofs.playing.play_recording.Goals as goal
+
+pub returns-in_default-clause-back : goal.returns-in_default-clause-back
+returns-in_default-clause-back c b entries is says =
+    absurd (c.in_default.ensures (lines_text (base_lines b) ++ calls_text b.granted entries) (says ∙ body b entries))
+
+pub returns-in-Err-clause-back : goal.returns-in-Err-clause-back
+returns-in-Err-clause-back c b entries is says =
+    c.in-Err.ensures.back b entries is (c.in-Some.ensures (lines_text (base_lines b) ++ calls_text b.granted entries) (says ∙ body b entries))
+
+pub returns-in-Ok-check_text-clause-back : goal.returns-in-Ok-check_text-clause-back
+returns-in-Ok-check_text-clause-back c b entries is says =
+    let played = c.in-Ok.ensures.back b entries is (c.in-Some.ensures (lines_text (base_lines b) ++ calls_text b.granted entries) (says ∙ body b entries)) in
+    (c.in-Ok.ensures.base ∙ played.0, played.1)
+
+pub returns-in-Err-check_text-clause-back : goal.returns-in-Err-check_text-clause-back
+returns-in-Err-check_text-clause-back c b entries is says =
+    let played = c.in-Ok.ensures.back b entries is (c.in-Some.ensures (lines_text (base_lines b) ++ calls_text b.granted entries) (says ∙ body b entries)) in
+    elim c.in-Err-check_text.ensures.refused [
+      | inl memory ↦ memory
+      | inr other ↦
+          absurd (other (says ∙ sym (ap (λ (x : Base). recording_text x c.journal.result.now) played.0 ∙ ap (λ (xs : List Entry). recording_text b xs) (c.journal.ensures.entries ∙ played.1))))
+    ]

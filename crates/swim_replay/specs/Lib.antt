@@ -1,0 +1,2 @@
+pub mod Machinery
+pub mod Recorded

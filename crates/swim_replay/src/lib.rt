@@ -1,0 +1,15 @@
+//! A recording, read and played: the era that it is of.
+#![tactic(auto)]
+
+mod beginning;
+mod call;
+mod copies;
+mod fault;
+mod met;
+mod playing;
+#[cfg(test)]
+mod tests;
+mod told;
+
+pub use fault::{RecordingFault, RecordingReason};
+pub use playing::play_recording;

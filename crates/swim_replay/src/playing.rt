@@ -1,0 +1,343 @@
+//! A recording that is played.
+
+ghost use Rattle.std.specs.Prelude.{◌≡◌, ◌≢◌, ◌⊎◌, ◌+◌, ◌^◌, ◌<◌, ◌≤◌, ◌∷◌, [], ◌++◌, ℕ, List, length, codes, true, false, None, OnOk, IfOk, IfErr, IsSomeAnd, MatchResult};
+ghost use Rattle.swim_member.specs.Checks.{AreSound};
+ghost use Rattle.swim_node.specs.declared.entry.Entry.{Entry as Entries};
+ghost use Rattle.swim_node.specs.History.{Base as Bases, IsLegal, IsNext, calls_by};
+ghost use Rattle.swim_record.specs.declared.line.Line.{Line as Lines};
+ghost use Rattle.swim_record.specs.Blocks.{AreFit};
+ghost use Rattle.swim_record.specs.Recording.{calls_text, lines_text, recording_text};
+ghost use Rattle.swim_replay.specs.Machinery.Calls.{IsMet, IsToCome};
+ghost use Rattle.swim_replay.specs.Recorded.{IsPlayed, IsRecorded, IsWord, base_lines};
+ghost use Rattle.swim_replay.specs.declared.fault.RecordingReason.TheVariants.{NoMemory};
+
+use crate::beginning::read_beginning;
+use crate::call::{Call, read_call};
+use crate::copies::copy_beginning;
+use crate::fault::{RecordingFault, RecordingReason};
+use crate::met::Met;
+use std::alloc::Global;
+use swim_member::Event;
+use swim_node::{Beginning, Cause, Entry, Replay, Tag};
+use swim_record::{read_lines, recording};
+use swim_words::split_at_byte;
+
+/// What follows so many lines.
+fn after_lines(text: &[u8], count: usize) -> Option<&[u8]>
+    ensures { (lines : List Lines) (rest : List ℕ) → AreFit lines → length lines ≡ count
+        → text.now ≡ lines_text lines ++ rest
+        → IsSomeAnd result (λ r. r.now ≡ rest) }
+{
+    let mut rest = text;
+    for _ in 0..count {
+        let (_, after) = split_at_byte(rest, b'\n')?;
+        rest = after;
+    }
+    Some(rest)
+}
+
+/// The turn of a caller's next call.
+fn next_turn(era: &Replay, caller: u8) -> u32
+    requires { caller < 16 }
+    ensures { IsWord (length (calls_by caller era.now.entries) + 1)
+        → result ≡ length (calls_by caller era.now.entries) + 1 }
+{
+    era.turns(caller).saturating_add(1)
+}
+
+/// Enters a call as the next one of its caller.
+fn enter(era: &mut Replay, met: &Met, event: Event) -> Result<(), RecordingReason>
+    requires { met.now.caller < 16 }
+    ensures base { era.new.base ≡ era.old.base }
+    ensures back { (e : Entries) → IsMet e met.now → event ≡ e.event
+        → IsNext era.old.base era.old.entries e
+        → length era.old.entries < era.old.base.limit
+        → IsWord era.old.base.limit
+        → MatchResult result
+        (λ _. era.new.entries ≡ era.old.entries ++ e ∷ [])
+        (λ reason. reason ≡ NoMemory) }
+{
+    let tag = Tag {
+        caller: met.caller,
+        turn: next_turn(era, met.caller),
+    };
+    let cause = Cause {
+        tag,
+        event,
+        granted: met.granted,
+        outcomes: met.outcomes(),
+    };
+    match era.enter(cause) {
+        Ok(()) => Ok(()),
+        Err(fault) => Err(RecordingReason::from(fault)),
+    }
+}
+
+/// What is to be read next: the text that is left, the ceiling that stood last, and the number of the next line.
+#[derive(Clone, Copy)]
+struct Left<'a> {
+    text: &'a [u8],
+    granted: u64,
+    line: usize,
+}
+
+/// Enters the first call that is left.
+fn enter_next<'a>(
+    alloc: Global,
+    era: &mut Replay,
+    left: Left<'a>,
+) -> Result<Left<'a>, RecordingFault>
+    ensures base { era.new.base ≡ era.old.base }
+    ensures shorter { IfOk result (λ next.
+        length next.text.now < length left.entry.text.now) }
+    ensures back { (e : Entries) (others : List Entries)
+        → IsToCome era.old left.entry.text.now left.entry.granted (e ∷ others)
+        → MatchResult result
+        (λ next. IsToCome era.new next.text.now next.granted others
+        × (era.new.entries ≡ era.old.entries ++ e ∷ []))
+        (λ fault. fault.reason ≡ NoMemory) }
+{
+    let call = match read_call(alloc, left.granted, left.text) {
+        Ok(call) => call,
+        Err((place, reason)) => {
+            let line = left.line.saturating_add(place);
+            return Err(RecordingFault { line, reason });
+        }
+    };
+    let Call {
+        met,
+        event,
+        before,
+        rest,
+    } = call;
+    let line = left.line.saturating_add(before);
+    match enter(era, &met, event) {
+        Ok(()) => Ok(Left {
+            text: rest,
+            granted: met.granted,
+            line: line.saturating_add(1),
+        }),
+        Err(reason) => Err(RecordingFault { line, reason }),
+    }
+}
+
+/// Enters the calls that are left.
+fn enter_calls(alloc: Global, era: &mut Replay, first: Left<'_>) -> Result<(), RecordingFault>
+    ensures base { era.new.base ≡ era.old.base }
+    ensures back { (entries : List Entries)
+        → IsToCome era.old first.entry.text.now first.entry.granted entries
+        → MatchResult result
+        (λ _. era.new.entries ≡ era.old.entries ++ entries)
+        (λ fault. fault.reason ≡ NoMemory) }
+{
+    let mut left = first;
+    while !left.text.is_empty() {
+        left = enter_next(alloc, era, left)?;
+    }
+    Ok(())
+}
+
+/// An era that began, where it began, and its calls that are left.
+#[derive(Drop)]
+struct Opened<'a> {
+    beginning: Beginning,
+    era: Replay,
+    left: Left<'a>,
+}
+
+/// The front of a recording: where the era begins, the number of the last line that says it, and what follows.
+#[derive(Drop)]
+struct Front<'a> {
+    beginning: Beginning,
+    line: usize,
+    rest: &'a [u8],
+}
+
+/// Reads the front of a recording after its first line.
+fn read_front(alloc: Global, text: &[u8]) -> Result<Front<'_>, RecordingFault>
+    ensures sound { IfOk result (λ front. AreSound front.beginning.state.settings) }
+    ensures back { (b : Bases) (entries : List Entries) → IsRecorded b entries
+        → text.now ≡ lines_text (base_lines b) ++ calls_text b.granted entries
+        → MatchResult result
+        (λ front. (front.beginning ≡ b) × (front.rest.now ≡ calls_text b.granted entries))
+        (λ fault. fault.reason ≡ NoMemory) }
+{
+    let lines = match read_lines(alloc, text) {
+        Ok((lines, _)) => lines,
+        Err(_) => return Err(RecordingFault {
+            line: 2,
+            reason: RecordingReason::NoMemory,
+        }),
+    };
+    let begun = match read_beginning(&lines) {
+        Ok(begun) => begun,
+        Err(fault) => return Err(fault),
+    };
+    let line = begun.lines.saturating_add(1);
+    match after_lines(text, begun.lines) {
+        Some(rest) => Ok(Front {
+            beginning: begun.beginning,
+            line,
+            rest,
+        }),
+        None => Err(RecordingFault {
+            line,
+            reason: RecordingReason::Cut,
+        }),
+    }
+}
+
+/// Begins an era with what stands after the first line of its recording.
+fn open(alloc: Global, text: &[u8]) -> Result<Opened<'_>, RecordingFault>
+    ensures base { IfOk result (λ opened. opened.era.base ≡ opened.beginning) }
+    ensures back { (b : Bases) (entries : List Entries) → IsRecorded b entries
+        → text.now ≡ lines_text (base_lines b) ++ calls_text b.granted entries
+        → MatchResult result
+        (λ opened. (opened.beginning ≡ b) × (opened.era.entries ≡ [])
+        × IsToCome opened.era opened.left.text.now opened.left.granted entries)
+        (λ fault. fault.reason ≡ NoMemory) }
+{
+    let Front {
+        beginning,
+        line,
+        rest,
+    } = match read_front(alloc, text) {
+        Ok(front) => front,
+        Err(fault) => return Err(fault),
+    };
+    let left = Left {
+        text: rest,
+        granted: beginning.granted,
+        line: line.saturating_add(1),
+    };
+    match Replay::begin(alloc, copy_beginning(&beginning)) {
+        Ok(era) => Ok(Opened {
+            beginning,
+            era,
+            left,
+        }),
+        Err(fault) => Err(RecordingFault {
+            line,
+            reason: RecordingReason::from(fault),
+        }),
+    }
+}
+
+/// The number of the line, counted from 1, at which two texts differ first.
+fn differing_line(one: &[u8], other: &[u8]) -> usize {
+    let mut line: usize = 1;
+    for (a, b) in one.iter().zip(other) {
+        if *a != *b {
+            return line;
+        }
+        if *a == b'\n' {
+            line = line.saturating_add(1);
+        }
+    }
+    line
+}
+
+/// Judges whether a text is the recording of an era that began so and had these entries.
+fn check_text(
+    alloc: Global,
+    beginning: &Beginning,
+    entries: &[Entry],
+    text: &[u8],
+) -> Result<(), RecordingFault>
+    ensures ok { OnOk result (text.now ≡ recording_text beginning.now entries.now) }
+    ensures refused { IfErr result (λ fault. (fault.reason ≡ NoMemory)
+        ⊎ (text.now ≢ recording_text beginning.now entries.now)) }
+{
+    let written = match recording(alloc, beginning, entries) {
+        Ok(written) => written,
+        Err(_) => return Err(RecordingFault {
+            line: 1,
+            reason: RecordingReason::NoMemory,
+        }),
+    };
+    let written = written.as_bytes();
+    if written == text {
+        return Ok(());
+    }
+    Err(RecordingFault {
+        line: differing_line(written, text),
+        reason: RecordingReason::Differs,
+    })
+}
+
+/// An era that was played, and where it began.
+#[derive(Drop)]
+struct Played {
+    beginning: Beginning,
+    era: Replay,
+}
+
+/// Plays what stands after the first line of a recording.
+fn play_body(alloc: Global, body: &[u8]) -> Result<Played, RecordingFault>
+    ensures base { IfOk result (λ played. played.era.base ≡ played.beginning) }
+    ensures back { (b : Bases) (entries : List Entries) → IsRecorded b entries
+        → body.now ≡ lines_text (base_lines b) ++ calls_text b.granted entries
+        → MatchResult result
+        (λ played. (played.beginning ≡ b) × (played.era.entries ≡ entries))
+        (λ fault. fault.reason ≡ NoMemory) }
+{
+    let opened = match open(alloc, body) {
+        Ok(opened) => opened,
+        Err(fault) => return Err(fault),
+    };
+    let Opened {
+        beginning,
+        mut era,
+        left,
+    } = opened;
+    match enter_calls(alloc, &mut era, left) {
+        Ok(()) => Ok(Played { beginning, era }),
+        Err(fault) => Err(fault),
+    }
+}
+
+/// Whether a line is the first one of a recording.
+fn is_first_line(line: &[u8]) -> bool
+    ensures yes { result ≡ true → line.now ≡ codes "recording 1" }
+    ensures no { result ≡ false → line.now ≢ codes "recording 1" }
+{
+    line == b"recording 1".as_slice()
+}
+
+/// What follows the first line of a recording.
+pub fn after_first_line(text: &[u8]) -> Option<&[u8]>
+    ensures { (body : List ℕ) → text.now ≡ codes "recording 1" ++ 10 ∷ body
+        → IsSomeAnd result (λ r. r.now ≡ body) }
+{
+    let (first, body) = split_at_byte(text, b'\n')?;
+    if !is_first_line(first) {
+        return None;
+    }
+    Some(body)
+}
+
+/// The era of which a text is the recording, played again. It plays what the lines say and writes the recording of that,
+/// which is to be the same text: so it needs memory for another one.
+pub fn play_recording(alloc: Global, text: &[u8]) -> Result<Replay, RecordingFault>
+    ensures legal { IfOk result (λ era. IsLegal era.base era.entries) }
+    ensures exact { IfOk result (λ era. text.now ≡ recording_text era.base era.entries) }
+    ensures back { (b : Bases) (entries : List Entries) → IsRecorded b entries
+        → text.now ≡ recording_text b entries
+        → IsPlayed b entries result }
+{
+    let Some(body) = after_first_line(text) else {
+        return Err(RecordingFault {
+            line: 1,
+            reason: RecordingReason::NoRecording,
+        });
+    };
+    let played = match play_body(alloc, body) {
+        Ok(played) => played,
+        Err(fault) => return Err(fault),
+    };
+    let Played { beginning, era } = played;
+    match check_text(alloc, &beginning, era.journal(), text) {
+        Ok(()) => Ok(era),
+        Err(fault) => Err(fault),
+    }
+}
