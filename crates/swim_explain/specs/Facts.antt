@@ -155,20 +155,20 @@ purpose_of judged.Leave = purpose.Leave
 purpose_of _ = purpose.Probe
 
 -- a datagram to or about x, with what became of it
-abbrev pub sent_as : ℕ → Purpose → Kind → Out → Outcome → List Fact
-sent_as x why Ping out o =
+abbrev pub sent_about : ℕ → Purpose → Kind → Out → Outcome → List Fact
+sent_about x why Ping out o =
     if out.datagram.subject == x then fact.Pinged why out.datagram.seq o ∷ [] else []
-sent_as x why PingReq out o =
+sent_about x why PingReq out o =
     if out.datagram.subject == x then fact.Asked out.to out.datagram.seq o ∷ [] else []
-sent_as x why Join out o = if out.to == x then fact.Joined out.datagram.seq o ∷ [] else []
-sent_as x why Ack out o = []
-sent_as x why Page out o = []
+sent_about x why Join out o = if out.to == x then fact.Joined out.datagram.seq o ∷ [] else []
+sent_about x why Ack out o = []
+sent_about x why Page out o = []
 
 abbrev pub sent : ℕ → Purpose → List Out → List Outcome → List Fact
 sent x why [] outcomes = []
 sent x why (out ∷ outs) [] = []
 sent x why (out ∷ outs) (o ∷ outcomes) =
-    sent_as x why out.datagram.kind out o ++ sent x why outs outcomes
+    sent_about x why out.datagram.kind out o ++ sent x why outs outcomes
 
 -- all that a call says of x, between these views
 abbrev pub facts : Settings → ℕ → Judgement → View → View → Entry → List Fact

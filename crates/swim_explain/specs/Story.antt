@@ -11,17 +11,17 @@ use Rattle.swim_explain.specs.declared.fact.Happening.{Happening}
 use Rattle.swim_explain.specs.Facts.{facts, view_of}
 
 -- a fact at this call and this tick
-abbrev pub at : ℕ → ℕ → Fact → Happening
-at call tick f = record { call = call; tick = tick; fact = f }
+abbrev pub stamped : ℕ → ℕ → Fact → Happening
+stamped call tick f = record { call = call; tick = tick; fact = f }
 
 -- what x was where the era began, before its first call
-abbrev pub first_of : State → ℕ → Happening
-first_of s x = at 0 s.time (fact.Began (view_of s x).row)
+abbrev pub beginning_of : State → ℕ → Happening
+beginning_of s x = stamped 0 s.time (fact.Began (view_of s x).row)
 
 -- what the call with this number says, which led from one state to another
 abbrev pub told_at : State → State → ℕ → ℕ → Entry → List Happening
 told_at s t call x e =
-    map (at call t.time)
+    map (stamped call t.time)
     (facts s.settings x (judge s e.event) (view_of s x) (view_of t x) e)
 
 -- what the entries say that come after these steps
@@ -34,4 +34,4 @@ story_after base before x (e ∷ entries) =
 
 -- the whole story of an era that began so
 abbrev pub story : State → ℕ → List Entry → List Happening
-story base x entries = first_of base x ∷ story_after base [] x entries
+story base x entries = beginning_of base x ∷ story_after base [] x entries

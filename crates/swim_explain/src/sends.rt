@@ -2,7 +2,7 @@
 
 ghost use Rattle.std.specs.Prelude.{◌≡◌, ◌++◌, OnOk};
 ghost use Rattle.std.specs.Option.{option_to_list};
-ghost use Rattle.swim_explain.specs.Facts.{purpose_of, sent, sent_as};
+ghost use Rattle.swim_explain.specs.Facts.{purpose_of, sent, sent_about};
 
 use crate::fact::{Fact, Purpose, add};
 use std::alloc::AllocError;
@@ -22,9 +22,9 @@ pub(crate) fn purpose_of(judged: &Judgement) -> Purpose
 }
 
 /// What a datagram to or about the member says.
-fn sent_as(who: Endpoint, purpose: &Purpose, out: &Out, outcome: Outcome) -> Option<Fact>
+fn sent_about(who: Endpoint, purpose: &Purpose, out: &Out, outcome: Outcome) -> Option<Fact>
     ensures { option_to_list result
-        ≡ sent_as who purpose.now out.now.datagram.kind out.now outcome }
+        ≡ sent_about who purpose.now out.now.datagram.kind out.now outcome }
 {
     let seq = out.datagram.seq;
     let is_about = out.datagram.subject.number() == who.number();
@@ -57,7 +57,7 @@ pub(crate) fn tell_sent(
 {
     for (place, out) in outs.iter().enumerate() {
         if let Some(outcome) = outcomes.get(place) {
-            add(facts, &sent_as(who, purpose, out, *outcome))?;
+            add(facts, &sent_about(who, purpose, out, *outcome))?;
         }
     }
     Ok(())

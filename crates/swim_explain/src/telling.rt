@@ -7,7 +7,7 @@ ghost use Rattle.swim_member.specs.Events.{Step, state_of};
 ghost use Rattle.swim_member.specs.State.{State};
 ghost use Rattle.swim_node.specs.History.{step_of};
 ghost use Rattle.swim_explain.specs.Facts.{ended, facts, itself, met, renumbered};
-ghost use Rattle.swim_explain.specs.Story.{at, story, told_at};
+ghost use Rattle.swim_explain.specs.Story.{stamped, story, told_at};
 ghost use Rattle.swim_explain.specs.Machinery.Covering.{AreCovered};
 
 use crate::datagrams::tell_datagram;
@@ -111,7 +111,7 @@ fn stamp(
     tick: u64,
     facts: &[Fact],
 ) -> Result<(), AllocError>
-    ensures { OnOk result (told.new.items ≡ told.old.items ++ map (at call tick) facts.now) }
+    ensures { OnOk result (told.new.items ≡ told.old.items ++ map (stamped call tick) facts.now) }
 {
     for fact in facts {
         told.push(Happening {
