@@ -267,9 +267,11 @@ fn check_text(
 
 /// An era that was played, and where it began.
 #[derive(Drop)]
-struct Played {
-    beginning: Beginning,
-    era: Replay,
+pub struct Played {
+    /// Where it began.
+    pub beginning: Beginning,
+    /// The era.
+    pub era: Replay,
 }
 
 /// Plays what stands after the first line of a recording.
@@ -316,14 +318,18 @@ pub fn after_first_line(text: &[u8]) -> Option<&[u8]>
     Some(body)
 }
 
-/// The era of which a text is the recording, played again. It plays what the lines say and writes the recording of that,
-/// which is to be the same text: so it needs memory for another one.
-pub fn play_recording(alloc: Global, text: &[u8]) -> Result<Replay, RecordingFault>
-    ensures legal { IfOk result (λ era. IsLegal era.base era.entries) }
-    ensures exact { IfOk result (λ era. text.now ≡ recording_text era.base era.entries) }
+/// The era of which a text is the recording, played again, and where it began. It plays what the lines say and writes the
+/// recording of that, which is to be the same text: so it needs memory for another one.
+pub fn play_from(alloc: Global, text: &[u8]) -> Result<Played, RecordingFault>
+    ensures base { IfOk result (λ played. played.era.base ≡ played.beginning) }
+    ensures legal { IfOk result (λ played. IsLegal played.era.base played.era.entries) }
+    ensures exact { IfOk result (λ played. text.now
+        ≡ recording_text played.era.base played.era.entries) }
     ensures back { (b : Bases) (entries : List Entries) → IsRecorded b entries
         → text.now ≡ recording_text b entries
-        → IsPlayed b entries result }
+        → MatchResult result
+        (λ played. (played.era.base ≡ b) × (played.era.entries ≡ entries))
+        (λ fault. fault.reason ≡ NoMemory) }
 {
     let Some(body) = after_first_line(text) else {
         return Err(RecordingFault {
@@ -337,7 +343,21 @@ pub fn play_recording(alloc: Global, text: &[u8]) -> Result<Replay, RecordingFau
     };
     let Played { beginning, era } = played;
     match check_text(alloc, &beginning, era.journal(), text) {
-        Ok(()) => Ok(era),
+        Ok(()) => Ok(Played { beginning, era }),
+        Err(fault) => Err(fault),
+    }
+}
+
+/// The era of which a text is the recording, played again.
+pub fn play_recording(alloc: Global, text: &[u8]) -> Result<Replay, RecordingFault>
+    ensures legal { IfOk result (λ era. IsLegal era.base era.entries) }
+    ensures exact { IfOk result (λ era. text.now ≡ recording_text era.base era.entries) }
+    ensures back { (b : Bases) (entries : List Entries) → IsRecorded b entries
+        → text.now ≡ recording_text b entries
+        → IsPlayed b entries result }
+{
+    match play_from(alloc, text) {
+        Ok(Played { era, .. }) => Ok(era),
         Err(fault) => Err(fault),
     }
 }

@@ -4,7 +4,7 @@ use Rattle.swim_node.specs.History.{Base}
 use Rattle.swim_record.specs.Recording.{calls_text, lines_text, recording_text}
 use Rattle.swim_replay.specs.Recorded.{base_lines}
 use Rattle.swim_replay.proofs.Lines.{body}
-use Rattle.swim_replay.proofs.playing.play_recording.Goals as goal
+use Rattle.swim_replay.proofs.playing.play_from.Goals as goal
 
 pub returns-in_default-clause-back : goal.returns-in_default-clause-back
 returns-in_default-clause-back c b entries is says =

@@ -1,0 +1,4 @@
+pub mod Covers
+pub mod Sending
+pub mod Stories
+pub mod Examples
