@@ -12,4 +12,4 @@ mod tests;
 mod told;
 
 pub use fault::{RecordingFault, RecordingReason};
-pub use playing::play_recording;
+pub use playing::{after_first_line, play_recording};
