@@ -11,12 +11,9 @@ ghost use Rattle.swim_replay.specs.Recorded.{IsRecordedState, IsWord, base_lines
 
 use crate::fault::{RecordingFault, RecordingReason};
 use crate::told::{add_told, blank, narrow};
-use swim_member::{MemberState, Settings};
+use swim_member::{MemberState, Settings, SettingsFault};
 use swim_node::Beginning;
 use swim_record::{Line, Start};
-
-/// The number of the line with the settings that are judged.
-const SETTINGS_LINE: usize = 2;
 
 /// The number of the line after the settings.
 const TOLD_LINE: usize = 4;
@@ -79,6 +76,21 @@ fn read_settings(lines: &[Line]) -> Result<(Settings, u32, &[Line]), RecordingRe
     }
 }
 
+/// The number of the line for which the settings are refused: the second or the third.
+fn settings_line(lines: &[Line], reason: RecordingReason) -> usize {
+    if let RecordingReason::Settings(fault) = reason {
+        return match fault {
+            SettingsFault::Lambda | SettingsFault::Rules => 2,
+            _ => 3,
+        };
+    }
+    match lines.first() {
+        Some(Line::Member(_, _, lambda, rules))
+            if narrow(*lambda).is_some() && narrow(*rules).is_some() => { 3 }
+        _ => 2,
+    }
+}
+
 /// Tells a member with what its era begins.
 fn start_with(state: &mut MemberState, start: &Start) -> Option<()>
     ensures settings { state.new.settings ≡ state.old.settings }
@@ -104,10 +116,10 @@ pub(crate) fn read_beginning(lines: &[Line]) -> Result<Begun, RecordingFault>
 {
     let (settings, limit, told) = match read_settings(lines) {
         Ok(read) => read,
-        Err(reason) => return Err(RecordingFault {
-            line: SETTINGS_LINE,
-            reason,
-        }),
+        Err(reason) => {
+            let line = settings_line(lines, reason);
+            return Err(RecordingFault { line, reason });
+        }
     };
     let mut state = blank(settings);
     let (start, after) = match add_told(&mut state, told) {

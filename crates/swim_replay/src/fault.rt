@@ -11,11 +11,10 @@ pub enum RecordingReason {
     /// The text does not begin with the first line of a recording.
     #[error("no recording")]
     NoRecording,
-    /// The line does not say the group, the endpoint, the lambda and the rules of a member, or the one after it not the
-    /// other settings.
+    /// The line, the second or the third, is not that of the settings that stand there.
     #[error("no settings")]
     NoSettings,
-    /// No member has these settings.
+    /// No member has this setting.
     #[error("settings refused {0}")]
     Settings(SettingsFault),
     /// The line says nothing of where an era begins, or more than a member has room for.
@@ -30,7 +29,7 @@ pub enum RecordingReason {
     /// The line says nothing of a call.
     #[error("no line of a call")]
     NotMet,
-    /// The last line has no end, or says what a call met that does not follow.
+    /// The line has no end, or no event follows what was said of the next call.
     #[error("the last line has no end")]
     Cut,
     /// The call was not entered.

@@ -12,4 +12,4 @@ mod tests;
 mod told;
 
 pub use fault::{RecordingFault, RecordingReason};
-pub use playing::{Played, play_from, play_recording};
+pub use playing::{Played, after_first_line, play_from, play_recording};
