@@ -1,5 +1,6 @@
 //! A member of a group, as a program: `swim init` makes its state file, `swim run` runs it, `swim ctl`,
-//! `swim members` and `swim watch` ask it, `swim show` says what a state file holds, `swim play` plays a script over a
+//! `swim members` and `swim watch` ask it, `swim show` says what a state file holds, `swim explain`
+//! what recordings tell of a member, `swim play` plays a script over a
 //! member in memory, `swim check` looks at what the members of a group sent, and `swim simulate` plays whole groups.
 #![tactic(auto)]
 
@@ -17,10 +18,12 @@ use swim_cli::{
     Ending, LogStream, Stamped, Subcommand, ask, hold_standard, level, make, read_words, run,
     show_members, watch_members,
 };
+use swim_explain::{ExplainFault, explain_file, in_order};
 use swim_play::play;
 use swim_script::ScriptFault;
 use swim_show::ShowFault;
 use swim_survey::{Asked, AskedFault};
+use swim_words::read_endpoint;
 
 /// The exit status where the words are refused.
 const REFUSED: u8 = 2;
@@ -93,6 +96,34 @@ fn show_file(rt: &HostRuntime, path: &str, as_json: bool) -> Result<ExitCode, En
     })
 }
 
+/// Prints what recordings tell of a member, a file after the other. One that tells nothing is named on standard error, and the
+/// status says whether there was one.
+fn explain_files(
+    rt: &HostRuntime,
+    member: &str,
+    files: &[String],
+    as_json: bool,
+) -> Result<ExitCode, Ending> {
+    let who = read_endpoint(member.as_bytes()).ok_or(Ending::Address)?;
+    let mut status = ExitCode::SUCCESS;
+    for file in &in_order(rt, files).map_err(|_| Ending::Memory)? {
+        match explain_file(rt, file, who, as_json) {
+            Ok(story) => {
+                if !as_json {
+                    println!(rt; "{file}").map_err(|_| Ending::File)?;
+                }
+                print_bytes(rt, story.as_bytes())?;
+            }
+            Err(ExplainFault::Memory) => return Err(Ending::Memory),
+            Err(fault) => {
+                let _ = eprintln!(rt; "swim: {file}: {fault}");
+                status = ExitCode::FAILURE;
+            }
+        }
+    }
+    Ok(status)
+}
+
 /// Simulates a group, and prints what was measured. A refused plan or sweep is named on standard error.
 fn simulate_group(rt: &HostRuntime, asked: &Asked<'_>) -> Result<ExitCode, Ending> {
     let fault = match swim_survey::answer(rt, asked) {
@@ -139,6 +170,11 @@ fn answer<T: Threads + Wait + Log + Clock + Send + Sync + Copy + Drop>(
             Ok(ExitCode::SUCCESS)
         }
         Subcommand::Show { file, as_json } => show_file(rt, file, as_json),
+        Subcommand::Explain {
+            member,
+            files,
+            as_json,
+        } => explain_files(rt, member, files, as_json),
         Subcommand::Play => play_input(rt),
         Subcommand::Check => check_input(rt),
         Subcommand::Simulate {
