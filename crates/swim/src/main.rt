@@ -1,6 +1,7 @@
 //! A member of a group, as a program: `swim init` makes its state file, `swim run` runs it, `swim ctl`,
-//! `swim members` and `swim watch` ask it, `swim show` says what a state file holds, `swim play` plays a script over a
-//! member in memory, `swim check` looks at what the members of a group sent, and `swim simulate` plays whole groups.
+//! `swim members` and `swim watch` ask it, `swim show` says what a state file holds, `swim explain` what recordings tell of a
+//! member, `swim play` plays a script over a member in memory, or a recording, `swim check` looks at what the members of a
+//! group sent, and `swim simulate` plays whole groups.
 #![tactic(auto)]
 
 use clap::Error;
@@ -16,11 +17,14 @@ use swim_ask::{StatusJson, Watched, ask, read_status, show_members, watch_member
 use swim_check::{Stop, check};
 use swim_cli::{LogStream, Stamped, Subcommand, hold_standard, level, make, read_words};
 use swim_ending::Ending;
-use swim_play::play;
+use swim_explain::{ExplainFault, explain_file, in_order};
+use swim_play::{play, play_recorded};
+use swim_replay::{RecordingFault, RecordingReason, after_first_line};
 use swim_run::run;
 use swim_script::ScriptFault;
 use swim_show::ShowFault;
 use swim_survey::{Asked, AskedFault};
+use swim_words::read_endpoint;
 
 /// The exit status where the words are refused.
 const REFUSED: u8 = 2;
@@ -40,10 +44,33 @@ fn print_bytes(rt: &HostRuntime, bytes: &[u8]) -> Result<(), Ending> {
     io::writer(rt).write_all(bytes).map_err(|_| Ending::File)
 }
 
-/// Plays the script on standard input, and prints its transcript.
+/// Plays a recording, and prints what happened. A refused one is named on standard error.
+fn play_era(rt: &HostRuntime, recording: &[u8]) -> Result<ExitCode, Ending> {
+    match play_recorded(rt.alloc(), recording) {
+        Ok(recorded) => {
+            print_bytes(rt, recorded.text.as_bytes())?;
+            Ok(ExitCode::SUCCESS)
+        }
+        Err(
+            RecordingFault {
+                reason: RecordingReason::NoMemory,
+                ..
+            },
+        ) => Err(Ending::Memory),
+        Err(fault) => {
+            let _ = eprintln!(rt; "swim: recording refused {fault}");
+            Ok(ExitCode::from(REFUSED))
+        }
+    }
+}
+
+/// Plays the script or the recording on standard input, and prints its transcript.
 fn play_input(rt: &HostRuntime) -> Result<ExitCode, Ending> {
-    let script = read_input(rt, Ending::Script(ScriptFault::NO_MEMORY))?;
-    let transcript = play(rt.alloc(), &script).map_err(Ending::Script)?;
+    let input = read_input(rt, Ending::Script(ScriptFault::NO_MEMORY))?;
+    if after_first_line(&input).is_some() {
+        return play_era(rt, &input);
+    }
+    let transcript = play(rt.alloc(), &input).map_err(Ending::Script)?;
     print_bytes(rt, transcript.text.as_bytes())?;
     Ok(ExitCode::SUCCESS)
 }
@@ -98,6 +125,34 @@ fn show_file(rt: &HostRuntime, path: &str, as_json: bool) -> Result<ExitCode, En
     } else {
         ExitCode::FAILURE
     })
+}
+
+/// Prints what recordings tell of a member, a file after the other. One that tells nothing is named on standard error, and the
+/// status says whether there was one.
+fn explain_files(
+    rt: &HostRuntime,
+    member: &str,
+    files: &[String],
+    as_json: bool,
+) -> Result<ExitCode, Ending> {
+    let who = read_endpoint(member.as_bytes()).ok_or(Ending::Address)?;
+    let mut status = ExitCode::SUCCESS;
+    for file in &in_order(rt, files).map_err(|_| Ending::Memory)? {
+        match explain_file(rt, file, who, as_json) {
+            Ok(story) => {
+                if !as_json {
+                    println!(rt; "{file}").map_err(|_| Ending::File)?;
+                }
+                print_bytes(rt, story.as_bytes())?;
+            }
+            Err(ExplainFault::Memory) => return Err(Ending::Memory),
+            Err(fault) => {
+                let _ = eprintln!(rt; "swim: {file}: {fault}");
+                status = ExitCode::FAILURE;
+            }
+        }
+    }
+    Ok(status)
 }
 
 /// Simulates a group, and prints what was measured. A refused plan or sweep is named on standard error.
@@ -157,6 +212,11 @@ fn answer<T: Threads + Wait + Log + Clock + Send + Sync + Copy + Drop>(
             Ok(ExitCode::SUCCESS)
         }
         Subcommand::Show { file, as_json } => show_file(rt, file, as_json),
+        Subcommand::Explain {
+            member,
+            files,
+            as_json,
+        } => explain_files(rt, member, files, as_json),
         Subcommand::Play => play_input(rt),
         Subcommand::Check => check_input(rt),
         Subcommand::Simulate {

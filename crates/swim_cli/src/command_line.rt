@@ -66,6 +66,15 @@ pub enum Subcommand<'a> {
         /// Whether as JSON.
         as_json: bool,
     },
+    /// The story of a member in recordings.
+    Explain {
+        /// The member's endpoint, not yet judged.
+        member: &'a str,
+        /// The paths of the recordings.
+        files: &'a [String],
+        /// Whether as JSON.
+        as_json: bool,
+    },
     /// A script from standard input.
     Play,
     /// A capture from standard input.
@@ -145,6 +154,20 @@ fn show_command<'a>(alloc: Global) -> Result<Command<'a>, Error> {
         .about(about)
         .arg(word(alloc, "file", "FILE", "The state file"))?
         .arg(json(alloc))?;
+    Ok(command)
+}
+
+/// `swim explain --member A [--json] FILE..`.
+fn explain_command<'a>(alloc: Global) -> Result<Command<'a>, Error> {
+    let member = word(alloc, "member", "A", "The member that the story is of").long("member");
+    let files = word(alloc, "files", "FILE", "Recordings of one member")
+        .num_args(1..)
+        .trailing_var_arg(true);
+    let command = Command::new(alloc, "explain")
+        .about("Prints when a member was heard of, suspected, confirmed, and why")
+        .arg(member)?
+        .arg(json(alloc))?
+        .arg(files)?;
     Ok(command)
 }
 
@@ -242,6 +265,7 @@ fn command<'a>(alloc: Global) -> Result<Command<'a>, Error> {
         .subcommand(members_command(alloc)?)?
         .subcommand(watch_command(alloc)?)?
         .subcommand(show_command(alloc)?)?
+        .subcommand(explain_command(alloc)?)?
         .subcommand(play)?
         .subcommand(check)?
         .subcommand(simulate_command(alloc)?)?;
@@ -253,8 +277,15 @@ fn text<'a>(matches: &ArgMatches<'a>, id: &str) -> &'a str {
     matches.get_str(id).unwrap_or("")
 }
 
+/// As many of the last words as there are matched files: no option stands behind the first of them.
+fn last_words<'a>(words: &'a [String], matches: &ArgMatches<'a>) -> Option<&'a [String]> {
+    let count = matches.get_raw("files")?.len();
+    let first = words.len().checked_sub(count)?;
+    words.get(first..)
+}
+
 /// What the matched words ask for.
-fn chosen<'a>(matches: &ArgMatches<'a>) -> Option<Subcommand<'a>> {
+fn chosen<'a>(matches: &ArgMatches<'a>, all: &'a [String]) -> Option<Subcommand<'a>> {
     match matches.subcommand()? {
         ("init", words) => Some(Subcommand::Init {
             file: text(words, "file"),
@@ -284,6 +315,11 @@ fn chosen<'a>(matches: &ArgMatches<'a>) -> Option<Subcommand<'a>> {
             file: text(words, "file"),
             as_json: words.get_flag("json"),
         }),
+        ("explain", words) => Some(Subcommand::Explain {
+            member: text(words, "member"),
+            files: last_words(all, words)?,
+            as_json: words.get_flag("json"),
+        }),
         ("play", _) => Some(Subcommand::Play),
         ("check", _) => Some(Subcommand::Check),
         ("simulate", words) => Some(Subcommand::Simulate {
@@ -303,5 +339,5 @@ fn chosen<'a>(matches: &ArgMatches<'a>) -> Option<Subcommand<'a>> {
 pub fn read_words<'a>(alloc: Global, words: &'a [String]) -> Result<Option<Subcommand<'a>>, Error> {
     let command = command(alloc)?;
     let matches = command.try_get_matches_from(words)?;
-    Ok(chosen(&matches))
+    Ok(chosen(&matches, words))
 }
