@@ -1,6 +1,6 @@
 //! A member of a group, as a program: `swim init` makes its state file, `swim run` runs it, `swim ctl`,
 //! `swim members` and `swim watch` ask it, `swim show` says what a state file holds, `swim play` plays a script over a
-//! member in memory, `swim check` looks at what the members of a group sent, and `swim simulate` plays whole groups.
+//! member in memory, or a recording, `swim check` looks at what the members of a group sent, and `swim simulate` plays whole groups.
 #![tactic(auto)]
 
 use clap::Error;
@@ -17,7 +17,8 @@ use swim_cli::{
     Ending, LogStream, Stamped, Subcommand, ask, hold_standard, level, make, read_words, run,
     show_members, watch_members,
 };
-use swim_play::play;
+use swim_play::{play, play_recorded};
+use swim_replay::{RecordingFault, RecordingReason, after_first_line};
 use swim_script::ScriptFault;
 use swim_show::ShowFault;
 use swim_survey::{Asked, AskedFault};
@@ -40,10 +41,33 @@ fn print_bytes(rt: &HostRuntime, bytes: &[u8]) -> Result<(), Ending> {
     io::writer(rt).write_all(bytes).map_err(|_| Ending::File)
 }
 
-/// Plays the script on standard input, and prints its transcript.
+/// Plays a recording, and prints what happened. A refused one is named on standard error.
+fn play_era(rt: &HostRuntime, recording: &[u8]) -> Result<ExitCode, Ending> {
+    match play_recorded(rt.alloc(), recording) {
+        Ok(recorded) => {
+            print_bytes(rt, recorded.text.as_bytes())?;
+            Ok(ExitCode::SUCCESS)
+        }
+        Err(
+            RecordingFault {
+                reason: RecordingReason::NoMemory,
+                ..
+            },
+        ) => Err(Ending::Memory),
+        Err(fault) => {
+            let _ = eprintln!(rt; "swim: recording refused {fault}");
+            Ok(ExitCode::from(REFUSED))
+        }
+    }
+}
+
+/// Plays the script or the recording on standard input, and prints its transcript.
 fn play_input(rt: &HostRuntime) -> Result<ExitCode, Ending> {
-    let script = read_input(rt, Ending::Script(ScriptFault::NO_MEMORY))?;
-    let transcript = play(rt.alloc(), &script).map_err(Ending::Script)?;
+    let input = read_input(rt, Ending::Script(ScriptFault::NO_MEMORY))?;
+    if after_first_line(&input).is_some() {
+        return play_era(rt, &input);
+    }
+    let transcript = play(rt.alloc(), &input).map_err(Ending::Script)?;
     print_bytes(rt, transcript.text.as_bytes())?;
     Ok(ExitCode::SUCCESS)
 }
