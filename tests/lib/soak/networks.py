@@ -127,6 +127,10 @@ class Network:
             self.thread.join()
         self.end()
 
+    def as_seen(self, place, data):
+        """The bytes that a member at this place sent, as `see` is told of them."""
+        return data
+
     def make_home(self, place):
         raise NotImplementedError
 
@@ -241,9 +245,12 @@ class Loopback(Network):
                 return None
             source = self.places.get(Endpoint(*sender))
             if source is not None:
-                home = self.homes[source]
-                data = renamed(data, home.me, home.public)
+                data = self.as_seen(source, data)
                 return source, self.handles.index(handle), data, data
+
+    def as_seen(self, place, data):
+        home = self.homes[place]
+        return renamed(data, home.me, home.public)
 
     def deliver(self, source, to, packet):
         home = self.homes[to]

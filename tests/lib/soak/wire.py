@@ -22,12 +22,14 @@ class Wire:
         self.accused = {}  # who first told, and in what, that a member is confirmed which lives, by its place
         self.homes = []
         self.capture = bytearray()  # all that was sent, as `swim check` reads it
+        self.sent = [[] for _ in range(count)]  # the same, by the place of who sent it
 
     def see(self, source, data):
         """One datagram, as it leaves the member at this place."""
         self.datagrams += 1
         self.bytes += len(data)
         self.capture += f"{self.homes[source].public} {data.hex()}\n".encode()
+        self.sent[source].append(data)
         try:
             datagram = decode(data, self.rules)
         except Wrong as wrong:
