@@ -46,6 +46,8 @@ fn defaults(rt: HostRuntime) -> Result<(), Fail> {
         join,
         rejoin,
         ends_expelled,
+        record_folder,
+        record_eras,
     } = read_settings(rt.alloc(), text.as_bytes())?;
     assert_eq!(rt; file.as_str(), "s");
     assert_eq!(rt; settings.group, 7);
@@ -65,6 +67,8 @@ fn defaults(rt: HostRuntime) -> Result<(), Fail> {
     assert_eq!(rt; join.len(), 0);
     assert_eq!(rt; rejoin, 300);
     assert!(rt; !ends_expelled);
+    assert!(rt; record_folder.is_none());
+    assert_eq!(rt; record_eras, 8);
     Ok(())
 }
 
@@ -72,6 +76,7 @@ fn defaults(rt: HostRuntime) -> Result<(), Fail> {
 fn every_key(rt: HostRuntime) -> Result<(), Fail> {
     let lines = "tick_ms = 20\nlambda = 5\nperiod = 8\ndirect = 7\nsuspect = 90\nforget = 400
 helpers = 0\nlimit = 20\nblock = 64\nrules = 2\nrejoin = 90\nexpelled = 'end'
+record = 'eras'\nrecord_eras = 3
 join = ['10.0.0.2:7000', '10.0.0.3:7001']
 random_key = '000102030405060708090a0b0c0d0e0f101112131415161718191A1B1C1D1E1F'\n";
     let text = file_with(rt.alloc(), Key::Join, lines)?;
@@ -92,6 +97,9 @@ random_key = '000102030405060708090a0b0c0d0e0f101112131415161718191A1B1C1D1E1F'\
     ];
     assert_eq!(rt; run.rejoin, 90);
     assert!(rt; run.ends_expelled);
+    assert_eq!(rt; run.record_eras, 3);
+    let folder = run.record_folder.unwrap_or(String::new(rt.alloc()));
+    assert_eq!(rt; folder.as_str(), "eras");
     assert_eq!(rt; run.join.len(), 2);
     for (peer, want) in run.join.as_slice().iter().zip(peers) {
         assert_eq!(rt; Some(*peer), want);
@@ -128,6 +136,8 @@ fn taken_values(rt: HostRuntime) -> Result<(), Fail> {
         (Key::Rules, "rules = 2"),
         (Key::Rejoin, "rejoin = 0"),
         (Key::Rejoin, "rejoin = 1000000"),
+        (Key::RecordEras, "record_eras = 1"),
+        (Key::RecordEras, "record_eras = 1000"),
         (Key::Expelled, "expelled = 'stay'"),
         (Key::Expelled, "expelled = 'end'"),
         (Key::Join, "join = []"),
@@ -192,6 +202,10 @@ fn refused_values(rt: HostRuntime) -> Result<(), Fail> {
         (Key::Expelled, "expelled = ''"),
         (Key::Expelled, "expelled = 'End'"),
         (Key::Expelled, "expelled = true"),
+        (Key::Record, "record = ''"),
+        (Key::Record, "record = 8"),
+        (Key::RecordEras, "record_eras = 0"),
+        (Key::RecordEras, "record_eras = 1001"),
         (Key::Join, "join = '10.0.0.2:7000'"),
         (Key::Join, "join = [7000]"),
         (Key::Join, "join = ['10.0.0.2']"),
