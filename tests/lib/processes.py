@@ -65,6 +65,12 @@ def swim(*words, **more):
     return run_to_its_end([PLACE.program, *words], **more)
 
 
+def why_no_namespace(*kinds):
+    """Why this machine makes no namespaces of these kinds with a file system of its own in them; none if it does."""
+    ran = run_to_its_end(["unshare", *kinds, "--mount", "mount", "-t", "tmpfs", "swim", "/mnt"])
+    return ran.err.strip() if ran.status else None
+
+
 def end_started():
     """Ends each process that is still there, by its id."""
     while STARTED:
