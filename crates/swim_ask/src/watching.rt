@@ -94,21 +94,17 @@ pub struct Watched<'a> {
 }
 
 impl Watched<'_> {
-    /// Tells a change of a row, with the time.
-    fn tell_change<R: Print + Clock>(&self, rt: &R, change: Change) -> Result<(), Ending> {
+    /// Tells something with the time: as this line, or as this part of a JSON object.
+    fn tell<R: Print + Clock, L: Display + Copy, J: Display + Copy>(
+        &self,
+        rt: &R,
+        line: L,
+        json: J,
+    ) -> Result<(), Ending> {
         if self.as_json {
-            print_line(rt, &TimedJson(Timed::now(rt, NamedChange(change))))
+            print_line(rt, &TimedJson(Timed::now(rt, json)))
         } else {
-            print_line(rt, &Timed::now(rt, change))
-        }
-    }
-
-    /// Tells that the member answers no more, or again, with the time.
-    fn tell_gap<R: Print + Clock>(&self, rt: &R, gap: Gap) -> Result<(), Ending> {
-        if self.as_json {
-            print_line(rt, &TimedJson(Timed::now(rt, GapJson(gap))))
-        } else {
-            print_line(rt, &Timed::now(rt, gap))
+            print_line(rt, &Timed::now(rt, line))
         }
     }
 
@@ -117,7 +113,7 @@ impl Watched<'_> {
         let mut changes = Changes::new();
         compare(old, new, &mut changes);
         for change in changes.as_slice() {
-            self.tell_change(rt, *change)?;
+            self.tell(rt, *change, NamedChange(*change))?;
         }
         Ok(())
     }
@@ -135,7 +131,7 @@ impl Watched<'_> {
             return read;
         }
         if let Some(gap) = Gap::after(*is_lost, answers) {
-            self.tell_gap(rt, gap)?;
+            self.tell(rt, gap, GapJson(gap))?;
         }
         *is_lost = !answers;
         if answers { read } else { Ok(None) }

@@ -2,8 +2,8 @@
 
 use crate::printing::print_story;
 use std::alloc::AllocError;
-use std::fs::File;
-use std::io::{self, ErrorKind, Read};
+use std::fs::{self, File};
+use std::io::{self, ErrorKind};
 use std::rt::Files;
 use swim_replay::{Played, RecordingFault, RecordingReason, play_from};
 use swim_wire::Endpoint;
@@ -53,17 +53,6 @@ fn refused(reason: RecordingReason) -> ExplainFault {
     ExplainFault::from(RecordingFault { line: 1, reason })
 }
 
-/// All bytes of a file.
-fn read_file<R: Files<File = File> + AllocGlobal>(
-    rt: &R,
-    path: &str,
-) -> Result<Vec<u8>, ExplainFault> {
-    let mut file = File::open(rt, path)?;
-    let mut bytes = Vec::new(rt.alloc());
-    file.read_to_end(&mut bytes)?;
-    Ok(bytes)
-}
-
 /// The files in the order of their names, which is that of the eras where all lie in one folder.
 pub fn in_order<R: AllocGlobal>(rt: &R, files: &[String]) -> Result<Vec<String>, AllocError> {
     let mut names = Vec::new(rt.alloc());
@@ -82,7 +71,7 @@ pub fn explain_file<R: Files<File = File> + AllocGlobal>(
     who: Endpoint,
     as_json: bool,
 ) -> Result<String, ExplainFault> {
-    let text = read_file(rt, path)?;
+    let text = fs::read(rt, path)?;
     let Played { beginning, era } = play_from(rt.alloc(), &text)?;
     if let Err(fault) = beginning.state.settings.check() {
         return Err(refused(RecordingReason::Settings(fault)));
