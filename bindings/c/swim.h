@@ -210,7 +210,8 @@ int swim_close(struct swim_member *member);
  * SWIM_OK, SWIM_NULL, SWIM_CLOSED, SWIM_WAITING, SWIM_NO_MEMORY, and SWIM_NO_ENDPOINT where one is passed.
  */
 
-/* Time goes on by one tick. `random` is any 64 random bits: they order the probes, and guard no secret. */
+/* Time goes on by one tick. `random` is any 64 random bits: they order the probes, and guard no secret. A tick that ends no
+   period makes the same of all of them. */
 int swim_tick(struct swim_member *member, uint64_t random);
 
 /* Bytes came from there. Any bytes will do; what is no datagram of the group is noted and no more. Past 513 bytes they are
