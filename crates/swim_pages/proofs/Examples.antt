@@ -1,9 +1,8 @@
 -- Worked rows, by computation: what is asked, what it is answered, and the numbers of a member.
-use Rattle.std.proofs.Common.{◌≡◌, refl, ℕ, List, [], ◌∷◌, ◌++◌, Some, None}
+use Rattle.std.proofs.Common.{◌≡◌, refl, List, [], ◌∷◌, ◌++◌, Some, None}
 use Rattle.std.specs.Prelude.{codes}
 use Rattle.std.specs.Fmt.{decimal}
 use Rattle.swim_member.specs.declared.state.Phase.TheVariants.{Running, Left, Expelled}
-use Rattle.swim_node.specs.declared.entry.Status.{Status}
 use Rattle.swim_wire.specs.declared.update.Update.{Update}
 use Rattle.swim_wire.specs.declared.update.UpdateKind.{UpdateKind}
 use Rattle.swim_wire.specs.declared.update.UpdateKind.TheVariants.{Alive, Suspect, Confirm}
@@ -12,7 +11,6 @@ use Rattle.swim_pages.specs.Metrics.{count_kind, gauge, gauge_head, kind_sample,
 use Rattle.swim_pages.specs.Requests.{IsMethod, IsPath, path_in}
 use Rattle.swim_pages.specs.declared.answer.Code.TheVariants as code
 use Rattle.swim_pages.specs.declared.answer.Content.TheVariants as content
-use Rattle.swim_pages.specs.declared.request.Method.{Method}
 use Rattle.swim_pages.specs.declared.request.Method.TheVariants as method
 use Rattle.swim_pages.specs.declared.request.Path.{Path}
 use Rattle.swim_pages.specs.declared.request.Path.TheVariants as path

@@ -1,5 +1,5 @@
 -- The numbers of a member, as Prometheus reads them.
-use Rattle.std.specs.Prelude.{ℕ, List, [], ◌++◌, codes, count_by, Option, Some, None}
+use Rattle.std.specs.Prelude.{ℕ, List, ◌++◌, codes, count_by, Option, Some, None}
 use Rattle.std.specs.Prelude.{Bool, true, false}
 use Rattle.std.specs.Fmt.{decimal}
 use Rattle.swim_member.specs.Texts.{phase_word}

@@ -11,12 +11,10 @@ use swim_wire::{MEMBERS_MAX, Update, UpdateKind};
 /// The most members whose names stand beside them. Of more only the table has the names.
 const NAMED_MAX: usize = 14;
 
-/// The most members that have their letters, and the radii of members with one and without.
-const LETTERED_MAX: usize = 48;
+/// The most members whose circles have room for a letter, and the most whose circles stand apart without one.
+const LETTERED_MAX: usize = 28;
 
-const RADIUS_LETTERED: u32 = 12;
-
-const RADIUS_BARE: u32 = 4;
+const APART_MAX: usize = 90;
 
 /// Thousandths of a degree in a whole turn.
 const TURN: usize = 360_000;
@@ -69,6 +67,17 @@ fn letter(kind: UpdateKind) -> &'static str {
     }
 }
 
+/// The radius of a member's circle among so many.
+fn radius_among(count: usize) -> u32 {
+    if count <= LETTERED_MAX {
+        12
+    } else if count <= APART_MAX {
+        4
+    } else {
+        2
+    }
+}
+
 /// Adds the letter of a member inside its circle, upright.
 fn write_letter(text: &mut String, row: &Update, angle: Angle) -> Result<(), AllocError> {
     let letter = letter(row.kind);
@@ -98,11 +107,7 @@ fn write_member(
     count: usize,
 ) -> Result<(), AllocError> {
     let (who, kind) = (row.who, row.kind.name());
-    let radius = if count <= LETTERED_MAX {
-        RADIUS_LETTERED
-    } else {
-        RADIUS_BARE
-    };
+    let radius = radius_among(count);
     write!(
         text,
         "<g transform=\"rotate({angle} 260 260)\"><circle class=\"{kind}\" cx=\"260\" cy=\"140\" r=\"{radius}\"><title>{who} {kind}</title></circle>"

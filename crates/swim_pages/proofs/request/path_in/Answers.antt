@@ -1,4 +1,4 @@
-use Rattle.std.proofs.Common.{◌≡◌, sym, ap, ◌∙◌}
+use Rattle.std.proofs.Common.{sym, ap, ◌∙◌}
 use Rattle.swim_pages.specs.Requests.{path_in}
 use Rattle.swim_pages.proofs.Paths.{path_in-split, path_in-whole}
 use Rattle.swim_pages.proofs.request.path_in.Goals as goal
