@@ -7,8 +7,6 @@ mod copies;
 mod fault;
 mod met;
 mod playing;
-#[cfg(test)]
-mod tests;
 mod told;
 
 pub use fault::{RecordingFault, RecordingReason};

@@ -2,6 +2,7 @@
 
 use std::test::Fail;
 use swim_news::{Change, ChangeJson, Changes, RowJson, Rows, compare};
+use swim_same::{holds, same};
 use swim_wire::{Endpoint, Update, UpdateKind};
 
 /// The row of 10.0.0.1:7000 and this number more.
@@ -43,10 +44,10 @@ fn gone_new_and_changed(rt: HostRuntime) -> Result<(), Fail> {
         "member 10.0.0.6:7000 alive 2, was alive 1",
         "member 10.0.0.7:7000 suspect 9, was unknown",
     ];
-    assert_eq!(rt; changes.len(), want.len());
+    same(&rt, changes.len(), want.len());
     for (change, want) in changes.as_slice().iter().zip(want) {
         let text = format!(in rt.alloc(); "{change}")?;
-        assert_eq!(rt; text.as_str(), want);
+        same(&rt, text.as_str(), want);
     }
     Ok(())
 }
@@ -56,11 +57,11 @@ fn nothing_changed(rt: HostRuntime) -> Result<(), Fail> {
     let rows = rows_of(&[row(0, UpdateKind::Alive, 1), row(4, UpdateKind::Suspect, 2)]);
     let mut changes = Changes::new();
     compare(&Rows::new(), &rows, &mut changes);
-    assert_eq!(rt; changes.len(), 2);
+    same(&rt, changes.len(), 2);
     compare(&rows, &rows, &mut changes);
-    assert_eq!(rt; changes.len(), 0);
+    same(&rt, changes.len(), 0);
     compare(&rows, &Rows::new(), &mut changes);
-    assert_eq!(rt; changes.len(), 2);
+    same(&rt, changes.len(), 2);
     Ok(())
 }
 
@@ -68,10 +69,10 @@ fn nothing_changed(rt: HostRuntime) -> Result<(), Fail> {
 fn rows_that_are_refused(rt: HostRuntime) -> Result<(), Fail> {
     let mut rows = rows_of(&[row(4, UpdateKind::Alive, 1)]);
     for place in [3, 4] {
-        assert!(rt; !rows.add(row(place, UpdateKind::Alive, 1)));
+        holds(&rt, !rows.add(row(place, UpdateKind::Alive, 1)));
     }
-    assert_eq!(rt; rows.as_slice().len(), 1);
-    assert_eq!(rt; rows.last(), Endpoint::new(0x0a00_0005, 7000));
+    same(&rt, rows.as_slice().len(), 1);
+    same(&rt, rows.last(), Endpoint::new(0x0a00_0005, 7000));
     Ok(())
 }
 
@@ -96,13 +97,14 @@ fn as_json(rt: HostRuntime) -> Result<(), Fail> {
     ] {
         let json = ChangeJson(change);
         let text = format!(in rt.alloc(); "{json}")?;
-        assert_eq!(rt; text.as_str(), want);
+        same(&rt, text.as_str(), want);
     }
     let json = RowJson(row(1, UpdateKind::Alive, 3));
     let text = format!(in rt.alloc(); "{json}")?;
-    assert_eq!(rt;
+    same(
+        &rt,
         text.as_str(),
-        r#"{"member":"10.0.0.2:7000","kind":"alive","number":3}"#
+        r#"{"member":"10.0.0.2:7000","kind":"alive","number":3}"#,
     );
     Ok(())
 }

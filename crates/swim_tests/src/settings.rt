@@ -2,6 +2,7 @@
 
 use std::alloc::{AllocError, Global};
 use std::test::Fail;
+use swim_same::{holds, same, same_at};
 use swim_settings::{Key, RunSettings, read_settings};
 use swim_wire::Endpoint;
 
@@ -49,26 +50,26 @@ fn defaults(rt: HostRuntime) -> Result<(), Fail> {
         record_folder,
         record_eras,
     } = read_settings(rt.alloc(), text.as_bytes())?;
-    assert_eq!(rt; file.as_str(), "s");
-    assert_eq!(rt; settings.group, 7);
-    assert_eq!(rt; Some(settings.me), Endpoint::new(0x0a00_0001, 7000));
-    assert_eq!(rt; Some(control), Endpoint::new(0x7f00_0001, 8000));
-    assert_eq!(rt; tick_ms, 100);
-    assert_eq!(rt; settings.lambda, 3);
-    assert_eq!(rt; settings.period, 10);
-    assert_eq!(rt; settings.direct, 3);
-    assert_eq!(rt; settings.suspect, 50);
-    assert_eq!(rt; settings.forget, 6000);
-    assert_eq!(rt; settings.helpers, 3);
-    assert_eq!(rt; limit, 4096);
-    assert_eq!(rt; settings.block, 1);
-    assert_eq!(rt; settings.rules, 1);
-    assert!(rt; random_key.is_none());
-    assert_eq!(rt; join.len(), 0);
-    assert_eq!(rt; rejoin, 300);
-    assert!(rt; !ends_expelled);
-    assert!(rt; record_folder.is_none());
-    assert_eq!(rt; record_eras, 8);
+    same(&rt, file.as_str(), "s");
+    same(&rt, settings.group, 7);
+    same(&rt, Some(settings.me), Endpoint::new(0x0a00_0001, 7000));
+    same(&rt, Some(control), Endpoint::new(0x7f00_0001, 8000));
+    same(&rt, tick_ms, 100);
+    same(&rt, settings.lambda, 3);
+    same(&rt, settings.period, 10);
+    same(&rt, settings.direct, 3);
+    same(&rt, settings.suspect, 50);
+    same(&rt, settings.forget, 6000);
+    same(&rt, settings.helpers, 3);
+    same(&rt, limit, 4096);
+    same(&rt, settings.block, 1);
+    same(&rt, settings.rules, 1);
+    holds(&rt, random_key.is_none());
+    same(&rt, join.len(), 0);
+    same(&rt, rejoin, 300);
+    holds(&rt, !ends_expelled);
+    holds(&rt, record_folder.is_none());
+    same(&rt, record_eras, 8);
     Ok(())
 }
 
@@ -81,32 +82,32 @@ join = ['10.0.0.2:7000', '10.0.0.3:7001']
 random_key = '000102030405060708090a0b0c0d0e0f101112131415161718191A1B1C1D1E1F'\n";
     let text = file_with(rt.alloc(), Key::Join, lines)?;
     let run = read_settings(rt.alloc(), text.as_bytes())?;
-    assert_eq!(rt; run.tick_ms, 20);
-    assert_eq!(rt; run.settings.lambda, 5);
-    assert_eq!(rt; run.settings.period, 8);
-    assert_eq!(rt; run.settings.direct, 7);
-    assert_eq!(rt; run.settings.suspect, 90);
-    assert_eq!(rt; run.settings.forget, 400);
-    assert_eq!(rt; run.settings.helpers, 0);
-    assert_eq!(rt; run.limit, 20);
-    assert_eq!(rt; run.settings.block, 64);
-    assert_eq!(rt; run.settings.rules, 2);
+    same(&rt, run.tick_ms, 20);
+    same(&rt, run.settings.lambda, 5);
+    same(&rt, run.settings.period, 8);
+    same(&rt, run.settings.direct, 7);
+    same(&rt, run.settings.suspect, 90);
+    same(&rt, run.settings.forget, 400);
+    same(&rt, run.settings.helpers, 0);
+    same(&rt, run.limit, 20);
+    same(&rt, run.settings.block, 64);
+    same(&rt, run.settings.rules, 2);
     let peers = [
         Endpoint::new(0x0a00_0002, 7000),
         Endpoint::new(0x0a00_0003, 7001),
     ];
-    assert_eq!(rt; run.rejoin, 90);
-    assert!(rt; run.ends_expelled);
-    assert_eq!(rt; run.record_eras, 3);
+    same(&rt, run.rejoin, 90);
+    holds(&rt, run.ends_expelled);
+    same(&rt, run.record_eras, 3);
     let folder = run.record_folder.unwrap_or(String::new(rt.alloc()));
-    assert_eq!(rt; folder.as_str(), "eras");
-    assert_eq!(rt; run.join.len(), 2);
+    same(&rt, folder.as_str(), "eras");
+    same(&rt, run.join.len(), 2);
     for (peer, want) in run.join.as_slice().iter().zip(peers) {
-        assert_eq!(rt; Some(*peer), want);
+        same(&rt, Some(*peer), want);
     }
     let bytes = run.random_key.unwrap_or([0; 32]);
     for (index, byte) in bytes.iter().enumerate() {
-        assert_eq!(rt; usize::from(*byte), index);
+        same(&rt, usize::from(*byte), index);
     }
     Ok(())
 }
@@ -149,7 +150,7 @@ fn taken_values(rt: HostRuntime) -> Result<(), Fail> {
     ] {
         let text = file_with(rt.alloc(), key, lines)?;
         let refusal = refusal_of(rt.alloc(), text.as_bytes())?;
-        assert_eq!(rt; refusal.as_str(), "", "{lines}");
+        same_at(&rt, &lines, refusal.as_str(), "");
     }
     Ok(())
 }
@@ -217,7 +218,7 @@ fn refused_values(rt: HostRuntime) -> Result<(), Fail> {
     ] {
         let text = file_with(rt.alloc(), key, lines)?;
         let refusal = refusal_of(rt.alloc(), text.as_bytes())?;
-        assert_eq!(rt; refusal.as_str(), key.text(), "{lines}");
+        same_at(&rt, &lines, refusal.as_str(), key.text());
     }
     Ok(())
 }
@@ -246,10 +247,10 @@ fn first_refused(rt: HostRuntime) -> Result<(), Fail> {
     ] {
         let text = file_with(rt.alloc(), Key::TickMs, lines)?;
         let refusal = refusal_of(rt.alloc(), text.as_bytes())?;
-        assert_eq!(rt; refusal.as_str(), want, "{lines}");
+        same_at(&rt, &lines, refusal.as_str(), want);
     }
     for (bytes, want) in [(b"".as_slice(), "file"), (b"\xff\xfe".as_slice(), "toml")] {
-        assert_eq!(rt; refusal_of(rt.alloc(), bytes)?.as_str(), want);
+        same(&rt, refusal_of(rt.alloc(), bytes)?.as_str(), want);
     }
     Ok(())
 }

@@ -4,6 +4,7 @@ use super::{alive, endpoint, opened, ping};
 use std::process::Abort;
 use swim_member::{Deal, Event, Out, Relay, ResumeFault};
 use swim_node::{BeginFault, Beginning, Cause, Entry, MemoryLink, Replay, Tag};
+use swim_same::{holds, same, same_at};
 use swim_wire::{Cursor, NUMBER_MAX, Update, UpdateKind, encode};
 
 /// That 10.0.0.1:7000 is suspected with this number.
@@ -36,26 +37,34 @@ fn event_of(rt: &impl Abort, number: u32) -> Event {
 
 /// The two datagrams are the same, byte by byte.
 fn same_out(rt: &impl Abort, out: &Out, other: &Out) {
-    assert_eq!(rt; out.to, other.to);
-    assert!(rt; out.datagram.is_encodable() && other.datagram.is_encodable());
+    same(rt, out.to, other.to);
+    holds(
+        rt,
+        out.datagram.is_encodable() && other.datagram.is_encodable(),
+    );
     let bytes = encode(&out.datagram);
     let others = encode(&other.datagram);
-    assert_eq!(rt; bytes.as_slice(), others.as_slice());
+    same(rt, bytes.as_slice(), others.as_slice());
 }
 
 /// The two entries are the same, but for the event, which the causes have.
 fn same_entry(rt: &impl Abort, entry: &Entry, other: &Entry) {
-    assert_eq!(rt; entry.tag, other.tag);
-    assert_eq!(rt; (entry.save, entry.granted), (other.save, other.granted));
-    assert_eq!(rt; entry.outcomes.as_slice(), other.outcomes.as_slice());
-    assert_eq!(rt; entry.reply.status, other.reply.status);
-    assert_eq!(rt; entry.reply.notes.as_slice(), other.reply.notes.as_slice());
-    assert_eq!(rt; entry.reply.page.as_slice(), other.reply.page.as_slice());
-    assert_eq!(rt;
-        (entry.reply.sent, entry.reply.lost),
-        (other.reply.sent, other.reply.lost)
+    same(rt, entry.tag, other.tag);
+    same(rt, (entry.save, entry.granted), (other.save, other.granted));
+    same(rt, entry.outcomes.as_slice(), other.outcomes.as_slice());
+    same(rt, entry.reply.status, other.reply.status);
+    same(
+        rt,
+        entry.reply.notes.as_slice(),
+        other.reply.notes.as_slice(),
     );
-    assert_eq!(rt; entry.outs.len(), other.outs.len());
+    same(rt, entry.reply.page.as_slice(), other.reply.page.as_slice());
+    same(
+        rt,
+        (entry.reply.sent, entry.reply.lost),
+        (other.reply.sent, other.reply.lost),
+    );
+    same(rt, entry.outs.len(), other.outs.len());
     for (out, other) in entry.outs.iter().zip(other.outs.iter()) {
         same_out(rt, out, other);
     }
@@ -70,10 +79,10 @@ fn an_era_again(rt: HostRuntime) {
     let mut link = MemoryLink::new(rt.alloc(), 1);
     let heard = ping(&rt, 1, &[alive(&rt, 2, 1), alive(&rt, 3, 1)]);
     let first = Tag { caller: 0, turn: 1 };
-    assert!(rt; node.apply(&mut link, first, heard).is_ok());
+    holds(&rt, node.apply(&mut link, first, heard).is_ok());
     for turn in 2..10 {
         let tag = Tag { caller: 0, turn };
-        assert!(rt; node.apply(&mut link, tag, event_of(&rt, 7)).is_ok());
+        holds(&rt, node.apply(&mut link, tag, event_of(&rt, 7)).is_ok());
     }
     let beginning = node.beginning();
     node.rebase();
@@ -95,7 +104,7 @@ fn an_era_again(rt: HostRuntime) {
         (1, 6, 0, 0, 0),
         (0, 7, 0, 0, 0),
     ] {
-        assert!(rt; caller < 2 && turns[caller as usize] < 100);
+        holds(&rt, caller < 2 && turns[caller as usize] < 100);
         turns[caller as usize] += 1;
         if lose > 0 {
             link.lose(lose);
@@ -106,7 +115,10 @@ fn an_era_again(rt: HostRuntime) {
             caller,
             turn: turns[caller as usize],
         };
-        assert!(rt; node.apply(&mut link, tag, event_of(&rt, number)).is_ok());
+        holds(
+            &rt,
+            node.apply(&mut link, tag, event_of(&rt, number)).is_ok(),
+        );
     }
     let sound = beginning.state.settings.check();
     sound.ok().expect(&rt, "sound settings");
@@ -114,16 +126,16 @@ fn an_era_again(rt: HostRuntime) {
         .ok()
         .expect(&rt, "an era");
     for entry in node.journal() {
-        assert!(rt; entry.tag.caller < 16);
-        assert_eq!(rt; again.enter(Cause::of(entry)), Ok(()));
+        holds(&rt, entry.tag.caller < 16);
+        same(&rt, again.enter(Cause::of(entry)), Ok(()));
     }
-    assert_eq!(rt; again.journal().len(), 15);
+    same(&rt, again.journal().len(), 15);
     let lossy = node
         .journal()
         .iter()
         .filter(|entry| entry.reply.lost == 1)
         .count();
-    assert_eq!(rt; lossy, 4);
+    same(&rt, lossy, 4);
     for (entry, other) in node.journal().iter().zip(again.journal()) {
         same_entry(&rt, entry, other);
     }
@@ -142,19 +154,19 @@ fn spoil(rt: &impl Abort, beginning: &mut Beginning, row: u32) {
         }
         5 => state.time = NUMBER_MAX + 1,
         6 => state.rows.as_mut_slice().reverse(),
-        7 => assert!(rt; state.queue.pop().is_some()),
+        7 => holds(rt, state.queue.pop().is_some()),
         8 => state.number = 0,
         9 => {
-            assert!(rt; !state.queue.is_empty());
+            holds(rt, !state.queue.is_empty());
             state.queue[0].count = 19;
         }
         10 => {
-            assert!(rt; state.relays.is_empty());
+            holds(rt, state.relays.is_empty());
             state.time = 10;
             state.relays.push(Relay::default());
         }
         11 => {
-            assert!(rt; state.listed.is_empty());
+            holds(rt, state.listed.is_empty());
             state.listed.push(endpoint(rt, 2));
             state.listed.push(endpoint(rt, 2));
         }
@@ -185,7 +197,7 @@ fn refused_beginnings(rt: HostRuntime) {
         let mut link = MemoryLink::new(rt.alloc(), 1);
         let heard = ping(&rt, 1, &[alive(&rt, 2, 1), alive(&rt, 3, 1)]);
         let first = Tag { caller: 0, turn: 1 };
-        assert!(rt; node.apply(&mut link, first, heard).is_ok());
+        holds(&rt, node.apply(&mut link, first, heard).is_ok());
         let mut beginning = node.beginning();
         spoil(&rt, &mut beginning, row);
         beginning
@@ -195,6 +207,6 @@ fn refused_beginnings(rt: HostRuntime) {
             .ok()
             .expect(&rt, "sound settings");
         let begun = Replay::begin(rt.alloc(), beginning).map(|_| ());
-        assert_eq!(rt; begun, want, "row {row}");
+        same_at(&rt, &row, begun, want);
     }
 }
