@@ -1,21 +1,14 @@
 //! What is printed of small runs, sweeps, and plans that are made smaller.
 
-use crate::broken::told;
-use crate::files::Made;
-use crate::gathered::Gathered;
-use crate::pictures::{draw_runs, draw_sweep};
-use crate::placed::placed;
-use crate::runs::run_all;
-use crate::shrink::{Trial, shrunk, write_plan};
-use crate::stage::Stage;
-use crate::sweep::{Span, Sweep, numbers_of, read_span};
-use crate::sweeping::run_sweep;
-use crate::table::report;
 use std::alloc::{AllocError, Global};
 use std::test::Fail;
 use swim_group::Breach;
 use swim_same::{holds, holds_at, same, same_at};
 use swim_simulate::{Key, Kill, Plan, SimulateFault, Stop, simulate};
+use swim_survey::{
+    Gathered, Made, Span, Stage, Sweep, Trial, draw_runs, draw_sweep, numbers_of, placed,
+    read_span, report, run_all, run_sweep, shrunk, told, write_plan,
+};
 use swim_wire::{Endpoint, Update, UpdateKind};
 
 /// What runs of a plan print.
