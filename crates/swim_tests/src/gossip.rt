@@ -91,7 +91,11 @@ fn ten_pings(rt: HostRuntime) {
 /// Whether these say that 10.0.0.1 is alive, and then 10.0.1.1 and those after it.
 fn are_in_order(updates: &[Update]) -> bool {
     for (place, update) in updates.iter().enumerate() {
-        let last = if place == 0 { 1 } else { 256 + (place % 256) as u16 };
+        let last = if place == 0 {
+            1
+        } else {
+            256 + (place % 256) as u16
+        };
         if *update != alive(last) {
             return false;
         }
