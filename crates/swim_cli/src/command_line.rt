@@ -208,7 +208,7 @@ fn ctl_command<'a>(alloc: Global) -> Result<Command<'a>, Error> {
         alloc,
         "line",
         "LINE",
-        "status, members, members A, join A, leave or stop",
+        "status, members, members A, join A, leave, record or stop",
     );
     let as_json = json(alloc).help("Prints the answer to status as a JSON object");
     let command = Command::new(alloc, "ctl")

@@ -73,9 +73,6 @@ pub fn explain_file<R: Files<File = File> + AllocGlobal>(
 ) -> Result<String, ExplainFault> {
     let text = fs::read(rt, path)?;
     let Played { beginning, era } = play_from(rt.alloc(), &text)?;
-    if let Err(fault) = beginning.state.settings.check() {
-        return Err(refused(RecordingReason::Settings(fault)));
-    }
     match print_story(rt.alloc(), beginning, &era, who, as_json) {
         Ok(story) => Ok(story),
         Err(fault) => Err(refused(RecordingReason::from(fault))),

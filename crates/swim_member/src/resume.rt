@@ -373,6 +373,37 @@ fn copy_relays(relays: &[Relay]) -> ArrayVec<Relay, RELAYS_MAX>
     copy
 }
 
+fn copy_listed(listed: &[Endpoint]) -> ArrayVec<Endpoint, ROWS_MAX>
+    requires { length listed.now ≤ ROWS_MAX }
+    ensures { result.items ≡ listed.now }
+{
+    let mut copy = ArrayVec::new();
+    let _ = copy.try_extend_from_slice(listed);
+    copy
+}
+
+impl MemberState {
+    /// The same once more. It takes no memory.
+    pub fn copy(&self) -> MemberState
+        ensures { result ≡ self.now }
+    {
+        MemberState {
+            settings: self.settings,
+            number: self.number,
+            phase: self.phase,
+            time: self.time,
+            rows: copy_rows(self.rows.as_slice()),
+            queue: copy_queue(self.queue.as_slice()),
+            seq: self.seq,
+            probe: self.probe,
+            relays: copy_relays(self.relays.as_slice()),
+            joining: self.joining,
+            listed: copy_listed(self.listed.as_slice()),
+            place: self.place,
+        }
+    }
+}
+
 impl Member {
     /// All that the member has now.
     pub fn state(&self) -> MemberState

@@ -37,6 +37,20 @@ impl Model for Beginning {
     } };
 }
 
+impl Beginning {
+    /// The same once more. It takes no memory.
+    pub fn copy(&self) -> Beginning
+        ensures { result ≡ self.now }
+    {
+        Beginning {
+            state: self.state.copy(),
+            granted: self.granted,
+            past: self.past,
+            limit: self.limit,
+        }
+    }
+}
+
 /// Why no era begins so: the first that holds, in the order Limit, Ceiling, Past, State. It prints its number and name.
 #[derive(Clone, Copy, Debug, PartialEq, Eq)]
 pub enum BeginFault {

@@ -39,4 +39,17 @@ impl Era {
     {
         &self.entries
     }
+
+    /// Its room, for the entries of another era. What it says is lost.
+    pub fn into_room(self) -> Room {
+        Room {
+            places: self.entries,
+        }
+    }
+}
+
+/// The room of an era that was let go: memory that another era fills anew. An era of 4,096 entries has 39 MB.
+#[derive(Drop)]
+pub struct Room {
+    pub(crate) places: Vec<Entry>,
 }

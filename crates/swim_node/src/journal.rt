@@ -133,6 +133,15 @@ impl Journal {
         mem::replace(&mut self.places, Vec::new(alloc))
     }
 
+    /// Fills the places of this room from now on, of which it has those that an era before filled.
+    pub(crate) fn furnish(&mut self, room: Vec<Entry>)
+        requires { self.old.entries ≡ [] }
+        ensures { self.new.entries ≡ [] }
+    {
+        self.clear();
+        self.places = room;
+    }
+
     /// Removes all entries. Their places stay.
     pub(crate) fn clear(&mut self)
         ensures { self.new.entries ≡ [] }

@@ -27,7 +27,7 @@ mod sending;
 pub use base::Base;
 pub use beginning::{BeginFault, Beginning};
 pub use entry::{Entry, Outcome, Reply, Save, Status, Tag};
-pub use era::Era;
+pub use era::{Era, Room};
 pub use fault::{ApplyFault, OpenFault};
 pub use laws::{causes_make_the_entries, listed_are_probed_once, own_numbers_rise};
 pub use link::{Link, LinkFault};

@@ -22,7 +22,7 @@ use crate::entering::enter;
 use crate::journal::Journal;
 use crate::keeping::keep;
 use crate::peers::known_peers;
-use crate::{ApplyFault, Entry, Era, Link, Reply, Status, Tag};
+use crate::{ApplyFault, Entry, Era, Link, Reply, Room, Status, Tag};
 use std::marker::Model;
 use std::mem;
 use swim_disk::Disk;
@@ -324,6 +324,14 @@ impl<D: Disk> Node<D> {
             base: mem::replace(&mut self.base, base),
             entries: self.journal.take(),
         }
+    }
+
+    /// Takes the room of an era that was let go, for the entries of this one, which has none yet.
+    pub fn furnish(&mut self, room: Room)
+        requires empty { self.old.entries ≡ [] }
+        ensures { self.new ≡ self.old }
+    {
+        self.journal.furnish(room.places);
     }
 
     /// Whether a call may be entered: in turn, and while the era has room.

@@ -5,7 +5,7 @@ ghost use Rattle.swim_record.specs.Recording.{recording_text};
 
 use std::alloc::{AllocError, Global};
 use std::marker::Model;
-use swim_node::{Beginning, Era};
+use swim_node::{Beginning, Era, Room};
 use swim_record::recording;
 
 /// An era that ended, with where it began. Contracts see it as an era.
@@ -38,5 +38,10 @@ impl Finished {
             ≡ recording_text self.now.base self.now.entries) }
     {
         recording(alloc, &self.beginning, self.era.journal())
+    }
+
+    /// Its room, for the entries of another era.
+    pub fn into_room(self) -> Room {
+        self.era.into_room()
     }
 }

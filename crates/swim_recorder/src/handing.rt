@@ -6,7 +6,7 @@ ghost use Rattle.swim_recorder.specs.Handing.{begun_at, recorded};
 
 use crate::finished::Finished;
 use swim_disk::Disk;
-use swim_node::{Beginning, Node};
+use swim_node::{Beginning, Node, Room};
 use swim_trace::Trace;
 
 /// Who keeps the eras of a member that ended.
@@ -20,8 +20,9 @@ pub trait Keeper {
     /// Whether it keeps eras. What it is given else is let go.
     fn is_on(&self) -> bool;
 
-    /// Takes an era that ended, of the life that began with this number. It may not hold the member up.
-    fn keep(&mut self, life: u64, era: Finished)
+    /// Takes an era that ended, of the life that began with this number. It may not hold the member up. It may give the room of
+    /// one back that it needs no longer, and the next era fills that.
+    fn keep(&mut self, life: u64, era: Finished) -> Option<Room>
         ensures { given self.new ≡ given self.old ++ era ∷ [] };
 }
 
@@ -58,7 +59,9 @@ pub fn hand_over<D: Disk, K: Keeper>(
     match beginning {
         Some(beginning) => {
             let era = node.end_era();
-            keeper.keep(node.first(), Finished::new(beginning, era));
+            if let Some(room) = keeper.keep(node.first(), Finished::new(beginning, era)) {
+                node.furnish(room);
+            }
         }
         None => node.rebase(),
     }
@@ -88,7 +91,8 @@ impl Keeper for Unkept {
         false
     }
 
-    fn keep(&mut self, _life: u64, era: Finished) {
+    fn keep(&mut self, _life: u64, era: Finished) -> Option<Room> {
         self.given = self.given.and(&era);
+        Some(era.into_room())
     }
 }

@@ -3,7 +3,6 @@
 
 mod beginning;
 mod call;
-mod copies;
 mod fault;
 mod met;
 mod playing;

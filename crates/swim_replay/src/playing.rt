@@ -13,7 +13,6 @@ ghost use Rattle.swim_replay.specs.declared.fault.RecordingReason.TheVariants.{N
 
 use crate::beginning::read_beginning;
 use crate::call::{Call, read_call};
-use crate::copies::copy_beginning;
 use crate::fault::{RecordingFault, RecordingReason};
 use crate::met::Met;
 use std::alloc::Global;
@@ -169,10 +168,7 @@ fn read_front(alloc: Global, text: &[u8]) -> Result<Front<'_>, RecordingFault>
             reason: RecordingReason::NoMemory,
         }),
     };
-    let begun = match read_beginning(&lines) {
-        Ok(begun) => begun,
-        Err(fault) => return Err(fault),
-    };
+    let begun = read_beginning(&lines)?;
     let line = begun.lines.saturating_add(1);
     match after_lines(text, begun.lines) {
         Some(rest) => Ok(Front {
@@ -190,6 +186,7 @@ fn read_front(alloc: Global, text: &[u8]) -> Result<Front<'_>, RecordingFault>
 /// Begins an era with what stands after the first line of its recording.
 fn open(alloc: Global, text: &[u8]) -> Result<Opened<'_>, RecordingFault>
     ensures base { IfOk result (λ opened. opened.era.base ≡ opened.beginning) }
+    ensures sound { IfOk result (λ opened. AreSound opened.beginning.state.settings) }
     ensures back { (b : Bases) (entries : List Entries) → IsRecorded b entries
         → text.now ≡ lines_text (base_lines b) ++ calls_text b.granted entries
         → MatchResult result
@@ -201,16 +198,13 @@ fn open(alloc: Global, text: &[u8]) -> Result<Opened<'_>, RecordingFault>
         beginning,
         line,
         rest,
-    } = match read_front(alloc, text) {
-        Ok(front) => front,
-        Err(fault) => return Err(fault),
-    };
+    } = read_front(alloc, text)?;
     let left = Left {
         text: rest,
         granted: beginning.granted,
         line: line.saturating_add(1),
     };
-    match Replay::begin(alloc, copy_beginning(&beginning)) {
+    match Replay::begin(alloc, beginning.copy()) {
         Ok(era) => Ok(Opened {
             beginning,
             era,
@@ -277,25 +271,20 @@ pub struct Played {
 /// Plays what stands after the first line of a recording.
 fn play_body(alloc: Global, body: &[u8]) -> Result<Played, RecordingFault>
     ensures base { IfOk result (λ played. played.era.base ≡ played.beginning) }
+    ensures sound { IfOk result (λ played. AreSound played.beginning.state.settings) }
     ensures back { (b : Bases) (entries : List Entries) → IsRecorded b entries
         → body.now ≡ lines_text (base_lines b) ++ calls_text b.granted entries
         → MatchResult result
         (λ played. (played.beginning ≡ b) × (played.era.entries ≡ entries))
         (λ fault. fault.reason ≡ NoMemory) }
 {
-    let opened = match open(alloc, body) {
-        Ok(opened) => opened,
-        Err(fault) => return Err(fault),
-    };
     let Opened {
         beginning,
         mut era,
         left,
-    } = opened;
-    match enter_calls(alloc, &mut era, left) {
-        Ok(()) => Ok(Played { beginning, era }),
-        Err(fault) => Err(fault),
-    }
+    } = open(alloc, body)?;
+    enter_calls(alloc, &mut era, left)?;
+    Ok(Played { beginning, era })
 }
 
 /// Whether a line is the first one of a recording.
@@ -322,6 +311,7 @@ pub fn after_first_line(text: &[u8]) -> Option<&[u8]>
 /// recording of that, which is to be the same text: so it needs memory for another one.
 pub fn play_from(alloc: Global, text: &[u8]) -> Result<Played, RecordingFault>
     ensures base { IfOk result (λ played. played.era.base ≡ played.beginning) }
+    ensures sound { IfOk result (λ played. AreSound played.beginning.state.settings) }
     ensures legal { IfOk result (λ played. IsLegal played.era.base played.era.entries) }
     ensures exact { IfOk result (λ played. text.now
         ≡ recording_text played.era.base played.era.entries) }
@@ -337,15 +327,9 @@ pub fn play_from(alloc: Global, text: &[u8]) -> Result<Played, RecordingFault>
             reason: RecordingReason::NoRecording,
         });
     };
-    let played = match play_body(alloc, body) {
-        Ok(played) => played,
-        Err(fault) => return Err(fault),
-    };
-    let Played { beginning, era } = played;
-    match check_text(alloc, &beginning, era.journal(), text) {
-        Ok(()) => Ok(Played { beginning, era }),
-        Err(fault) => Err(fault),
-    }
+    let played = play_body(alloc, body)?;
+    check_text(alloc, &played.beginning, played.era.journal(), text)?;
+    Ok(played)
 }
 
 /// The era of which a text is the recording, played again.
@@ -356,8 +340,5 @@ pub fn play_recording(alloc: Global, text: &[u8]) -> Result<Replay, RecordingFau
         → text.now ≡ recording_text b entries
         → IsPlayed b entries result }
 {
-    match play_from(alloc, text) {
-        Ok(Played { era, .. }) => Ok(era),
-        Err(fault) => Err(fault),
-    }
+    Ok(play_from(alloc, text)?.era)
 }

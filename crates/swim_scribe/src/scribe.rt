@@ -6,6 +6,7 @@ use std::io::ErrorKind;
 use std::sync::Arc;
 use std::sync::atomic::{AtomicBool, Ordering};
 use std::thread::{self, JoinHandle, Threads};
+use swim_node::Room;
 use swim_recorder::{FileName, Finished, Folder, Keeper};
 use swim_trace::Trace;
 
@@ -14,6 +15,24 @@ use swim_trace::Trace;
 struct Named {
     name: FileName,
     era: Finished,
+}
+
+/// An era that was written, or could not be.
+#[derive(Drop)]
+struct Written {
+    ended: Result<(), ErrorKind>,
+    room: Room,
+}
+
+impl Named {
+    /// Writes its recording into a folder.
+    fn write(self, folder: &Folder) -> Written {
+        let ended = folder.record(self.name, &self.era);
+        Written {
+            ended: ended.map_err(|error| error.kind()),
+            room: self.era.into_room(),
+        }
+    }
 }
 
 /// What a thread of its own writes: the era that waited, if one did, and the one that ended now.
@@ -26,22 +45,22 @@ struct Writing {
 }
 
 impl Writing {
-    /// Writes it. An error is why a recording was not written.
-    fn run(self) -> Result<(), ErrorKind> {
-        let waited = match &self.waited {
-            Some(waited) => self.folder.record(waited.name, &waited.era),
-            None => Ok(()),
+    /// Writes it, the era that waited first.
+    fn run(self) -> (Option<Written>, Written) {
+        let waited = match self.waited {
+            Some(waited) => Some(waited.write(&self.folder)),
+            None => None,
         };
-        let last = self.folder.record(self.last.name, &self.last.era);
+        let last = self.last.write(&self.folder);
         self.is_done.store(true, Ordering::SeqCst);
-        waited.and(last).map_err(|error| error.kind())
+        (waited, last)
     }
 }
 
 /// A thread that writes, and whether it is done.
 #[derive(Drop)]
 struct Writer {
-    thread: JoinHandle<Result<(), ErrorKind>>,
+    thread: JoinHandle<(Option<Written>, Written)>,
     is_done: Arc<AtomicBool, Global>,
 }
 
@@ -73,6 +92,8 @@ pub struct Scribe<'a, T> {
     eras: u64,
     writer: Option<Writer>,
     waiting: Option<Named>,
+    /// The rooms of eras that were written or passed over, which are to be filled again.
+    spare: Vec<Room>,
     has_told: bool,
     given: Trace<Finished>,
 }
@@ -87,6 +108,7 @@ impl<'a, T: Threads + Log> Scribe<'a, T> {
             eras: 0,
             writer: None,
             waiting: None,
+            spare: Vec::new(files.alloc()),
             has_told: false,
             given: Trace::new(),
         }
@@ -105,11 +127,20 @@ impl<'a, T: Threads + Log> Scribe<'a, T> {
         }
     }
 
+    /// Takes what was written: it tells how that ended, and keeps the room. Without memory to keep it, the room is let go.
+    fn take(&mut self, written: Written) {
+        self.tell(written.ended);
+        let _ = self.spare.push(written.room);
+    }
+
     /// Waits until what is written now is written.
     fn collect(&mut self) {
         if let Some(writer) = self.writer.take() {
-            let ended = writer.thread.join(self.rt);
-            self.tell(ended);
+            let (waited, last) = writer.thread.join(self.rt);
+            if let Some(waited) = waited {
+                self.take(waited);
+            }
+            self.take(last);
         }
     }
 
@@ -156,6 +187,7 @@ impl<'a, T: Threads + Log> Scribe<'a, T> {
     fn stand_by(&mut self, last: Named) {
         if let Some(passed) = self.waiting.replace(last) {
             let name = passed.name;
+            let _ = self.spare.push(passed.era.into_room());
             warn!(self.rt; "record passed over {name}: the folder is slower than the eras; take a greater `limit` or a faster folder");
         }
     }
@@ -179,7 +211,7 @@ impl<'a, T: Threads + Log> Keeper for Scribe<'a, T> {
         self.folder.is_some()
     }
 
-    fn keep(&mut self, life: u64, era: Finished) {
+    fn keep(&mut self, life: u64, era: Finished) -> Option<Room> {
         let given = self.given.and(&era);
         self.eras = self.eras.saturating_add(1);
         let name = FileName {
@@ -194,5 +226,6 @@ impl<'a, T: Threads + Log> Keeper for Scribe<'a, T> {
             self.start(last);
         }
         self.given = given;
+        self.spare.pop()
     }
 }

@@ -37,6 +37,7 @@ OfConnection ends.Closed = Unit {0}
 OfConnection ends.ReadFault = Unit {0}
 OfConnection ends.WriteFault = Unit {0}
 OfConnection ends.Asked = ⊥
+OfConnection ends.Renewed = ⊥
 OfConnection (ends.Refused why) = ⊥
 
 -- the end of the desk's worker
@@ -45,6 +46,7 @@ OfMember ends.Closed = ⊥
 OfMember ends.ReadFault = ⊥
 OfMember ends.WriteFault = ⊥
 OfMember ends.Asked = Unit {0}
+OfMember ends.Renewed = Unit {0}
 OfMember (ends.Refused why) = Unit {0}
 
 -- the conversation whose turn is next: a new one, or the first of the others

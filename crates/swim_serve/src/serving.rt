@@ -77,7 +77,7 @@ fn by_receiver(end: Option<WorkerEnd>) -> Option<Fault>
     }
 }
 
-/// How the desk ends the member, if it does: neither where it was told to stop, nor where its gate stopped it.
+/// How the desk ends the member, if it does: neither where a line ended the member or the era, nor where its gate stopped it.
 fn by_desk(end: Option<ControlEnd>) -> Option<Fault>
     ensures { result ≡ by_desk end }
 {

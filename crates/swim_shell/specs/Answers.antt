@@ -122,6 +122,8 @@ Answers limit (asked.Join peer) p q refused answer =
 Answers limit asked.Leave p q refused answer =
     Calls limit event.Leave asked.Leave p q refused answer
 Answers limit asked.Stop p q refused answer = Plain p q refused answer (codes "ok stopping\n")
+Answers limit asked.Record p q refused answer =
+    Plain p q refused answer (codes "ok era ends\n")
 Answers limit asked.Unknown p q refused answer =
     Plain p q refused answer (codes "error 1 unknown\n")
 Answers limit asked.Address p q refused answer =
@@ -139,6 +141,7 @@ end_by refusal.Unread = Some (line_end.Refused refusal.Unread)
 abbrev pub end_of : Option Refusal → Request → Option LineEnd
 end_of (Some why) asked = end_by why
 end_of None asked.Stop = Some line_end.Asked
+end_of None asked.Record = Some line_end.Renewed
 end_of None _ = None
 
 -- of what was left to write and these bytes some went to a writer, and the rest is left

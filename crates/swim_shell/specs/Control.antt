@@ -61,9 +61,11 @@ pub record Talks (limit : ℕ) (a : ConversationView) (p : CallerView) (b : Conv
   pub wrote : Gives a.gone b.gone a.left b.left (answers_of heard)
   pub ends : DueAfter before heard due
 
--- an end that stays due with another caller: a refusal was the former one's
+-- an end that stays due with another caller: a refusal was the former one's, and so was the era
+-- that was to end
 abbrev pub carried : Option LineEnd → Option LineEnd
 carried (Some (line_end.Refused why)) = None
+carried (Some line_end.Renewed) = None
 carried due = due
 
 -- an answer was on its way, or a line was heard
@@ -85,6 +87,7 @@ end_by_line ends.Closed due = None
 end_by_line ends.ReadFault due = None
 end_by_line ends.WriteFault due = due
 end_by_line ends.Asked due = Some line_end.Asked
+end_by_line ends.Renewed due = Some line_end.Renewed
 end_by_line (ends.Refused why) due = Some (line_end.Refused why)
 
 -- all answers are written, and no end is due
@@ -99,6 +102,7 @@ EndsAt ends.Closed b = IsSettled b × Lacks 10 b.kept × IsAtEnd b.comes
 EndsAt ends.ReadFault b = IsSettled b × Lacks 10 b.kept
 EndsAt ends.WriteFault b = Unit {0}
 EndsAt ends.Asked b = IsSettled b
+EndsAt ends.Renewed b = IsSettled b
 EndsAt (ends.Refused why) b = IsSettled b
 
 -- the lines that were heard before a conversation ended so

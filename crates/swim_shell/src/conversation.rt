@@ -24,6 +24,9 @@ pub enum ControlEnd {
     /// The line `stop` was answered.
     #[error("Asked")]
     Asked,
+    /// The line `record` was answered: the era is to end, and the connection goes on in the next one.
+    #[error("Renewed")]
+    Renewed,
     /// A read failed.
     #[error("ReadFault")]
     ReadFault,
@@ -40,6 +43,8 @@ pub enum ControlEnd {
 enum LineEnd {
     /// It is `stop`.
     Asked,
+    /// It is `record`.
+    Renewed,
     /// Its call was refused, or there was no status to show.
     Refused(Refusal),
 }
@@ -99,6 +104,7 @@ fn respond<C: Observer>(caller: &mut C, answer: &mut Answer, asked: Request) -> 
         Request::Join(peer) => Event::Join { peer },
         Request::Leave => Event::Leave,
         Request::Stop => return say(answer, "ok stopping\n"),
+        Request::Record => return say(answer, "ok era ends\n"),
         Request::Unknown => return say(answer, "error 1 unknown\n"),
         Request::Address => return say(answer, "error 2 address\n"),
         Request::TooLong => return say(answer, "error 3 too long\n"),
@@ -123,16 +129,17 @@ fn end_of(refused: Option<Refusal>, asked: &Request) -> Option<LineEnd>
         (Some(Refusal::Memory), _) => None,
         (Some(why), _) => Some(LineEnd::Refused(why)),
         (None, Request::Stop) => Some(LineEnd::Asked),
+        (None, Request::Record) => Some(LineEnd::Renewed),
         (None, _) => None,
     }
 }
 
-/// The end that stays due with another caller. That for a call which the former one refused does not.
+/// The end that stays due with another caller. That for a call which the former one refused does not, nor that of its era.
 fn carried(due: Option<LineEnd>) -> Option<LineEnd>
     ensures { result ≡ carried due }
 {
     match due {
-        Some(LineEnd::Refused(_)) => None,
+        Some(LineEnd::Refused(_) | LineEnd::Renewed) => None,
         _ => due,
     }
 }
@@ -209,6 +216,7 @@ impl<Rd: Read + Drop, Wr: Write + Drop> Conversation<Rd, Wr> {
         match self.answers.send() {
             Sent::Out => match self.due.take()? {
                 LineEnd::Asked => Some(ControlEnd::Asked),
+                LineEnd::Renewed => Some(ControlEnd::Renewed),
                 LineEnd::Refused(why) => Some(ControlEnd::Refused(why)),
             },
             Sent::NotYet => None,

@@ -21,6 +21,8 @@ pub enum Request {
     Leave,
     /// To end the workers.
     Stop,
+    /// To end the era, so that it is recorded.
+    Record,
     /// It is none of the lines.
     Unknown,
     /// The word that is to be an endpoint is none.
@@ -36,6 +38,7 @@ fn with_word(text: &[u8]) -> Request
     requires members { text.now ≢ codes "members" }
     requires leave { text.now ≢ codes "leave" }
     requires stop { text.now ≢ codes "stop" }
+    requires renew { text.now ≢ codes "record" }
     ensures { NamesShort text.now result }
 {
     match split_at_byte(text, b' ') {
@@ -73,6 +76,9 @@ fn short(text: &[u8]) -> Request
     }
     if text == b"stop".as_slice() {
         return Request::Stop;
+    }
+    if text == b"record".as_slice() {
+        return Request::Record;
     }
     with_word(text)
 }
