@@ -47,12 +47,18 @@ struct Writing {
 impl Writing {
     /// Writes it, the era that waited first.
     fn run(self) -> (Option<Written>, Written) {
-        let waited = match self.waited {
-            Some(waited) => Some(waited.write(&self.folder)),
+        let Writing {
+            folder,
+            is_done,
+            waited,
+            last,
+        } = self;
+        let waited = match waited {
+            Some(waited) => Some(waited.write(&folder)),
             None => None,
         };
-        let last = self.last.write(&self.folder);
-        self.is_done.store(true, Ordering::SeqCst);
+        let last = last.write(&folder);
+        is_done.store(true, Ordering::SeqCst);
         (waited, last)
     }
 }
