@@ -114,31 +114,18 @@ fn number<'a>(alloc: Global, id: &'a str, help: &'a str) -> Arg<'a> {
         .help(help)
 }
 
-/// A command with these words.
-fn with_words<'a, const N: usize>(
-    command: Command<'a>,
-    words: [Arg<'a>; N],
-) -> Result<Command<'a>, Error> {
-    let mut command = command;
-    for word in words {
-        command = command.arg(word)?;
-    }
-    Ok(command)
-}
-
 /// `swim init FILE --group N --me A [--ceiling N]`.
 fn init_command<'a>(alloc: Global) -> Result<Command<'a>, Error> {
+    let group = number(alloc, "group", "The number of the group").required(true);
+    let me = word(alloc, "me", "A", "The member's endpoint, as 10.0.0.1:7000").long("me");
     let ceiling = number(alloc, "ceiling", "The number above which the member begins");
-    let words = [
-        word(alloc, "file", "FILE", "The state file to make"),
-        number(alloc, "group", "The number of the group").required(true),
-        word(alloc, "me", "A", "The member's endpoint, as 10.0.0.1:7000").long("me"),
-        ceiling.default_value("0"),
-    ];
-    with_words(
-        Command::new(alloc, "init").about("Makes a state file"),
-        words,
-    )
+    let command = Command::new(alloc, "init")
+        .about("Makes a state file")
+        .arg(word(alloc, "file", "FILE", "The state file to make"))?
+        .arg(group)?
+        .arg(me)?
+        .arg(ceiling.default_value("0"))?;
+    Ok(command)
 }
 
 /// The control socket of a member.
@@ -163,58 +150,73 @@ fn json<'a>(alloc: Global) -> Arg<'a> {
 fn show_command<'a>(alloc: Global) -> Result<Command<'a>, Error> {
     let about =
         "Prints what a state file says, and what `swim run` would do with it; it writes nothing";
-    let words = [word(alloc, "file", "FILE", "The state file"), json(alloc)];
-    with_words(Command::new(alloc, "show").about(about), words)
+    let command = Command::new(alloc, "show")
+        .about(about)
+        .arg(word(alloc, "file", "FILE", "The state file"))?
+        .arg(json(alloc))?;
+    Ok(command)
 }
 
 /// `swim explain --member A [--json] FILE..`.
 fn explain_command<'a>(alloc: Global) -> Result<Command<'a>, Error> {
-    let about = "Prints when a member was heard of, suspected, confirmed, and why";
-    let words = [
-        word(alloc, "member", "A", "The member that the story is of").long("member"),
-        json(alloc),
-        word(alloc, "files", "FILE", "Recordings of one member")
-            .num_args(1..)
-            .trailing_var_arg(true),
-    ];
-    with_words(Command::new(alloc, "explain").about(about), words)
+    let member = word(alloc, "member", "A", "The member that the story is of").long("member");
+    let files = word(alloc, "files", "FILE", "Recordings of one member")
+        .num_args(1..)
+        .trailing_var_arg(true);
+    let command = Command::new(alloc, "explain")
+        .about("Prints when a member was heard of, suspected, confirmed, and why")
+        .arg(member)?
+        .arg(json(alloc))?
+        .arg(files)?;
+    Ok(command)
 }
 
 /// `swim members ADDR [--json]`.
 fn members_command<'a>(alloc: Global) -> Result<Command<'a>, Error> {
-    let about = "Prints all members that a member knows";
-    let words = [address(alloc), json(alloc)];
-    with_words(Command::new(alloc, "members").about(about), words)
+    let command = Command::new(alloc, "members")
+        .about("Prints all members that a member knows")
+        .arg(address(alloc))?
+        .arg(json(alloc))?;
+    Ok(command)
 }
 
 /// `swim watch ADDR [--json] [--every N] [--once]`.
 fn watch_command<'a>(alloc: Global) -> Result<Command<'a>, Error> {
-    let about = "Prints what changes of the members, a line a change, until it is stopped";
-    let every = "Milliseconds from one comparison to the next";
-    let words = [
-        address(alloc),
-        json(alloc),
-        number(alloc, "every", every)
-            .value_parser(ValueParser::unsigned(1, EVERY_LIMIT))
-            .default_value("1000"),
-        Arg::new(alloc, "once")
-            .long("once")
-            .action(ArgAction::SetTrue)
-            .help("Ends with status 1 where the member does not answer"),
-    ];
-    with_words(Command::new(alloc, "watch").about(about), words)
+    let every = number(
+        alloc,
+        "every",
+        "Milliseconds from one comparison to the next",
+    )
+    .value_parser(ValueParser::unsigned(1, EVERY_LIMIT))
+    .default_value("1000");
+    let once = Arg::new(alloc, "once")
+        .long("once")
+        .action(ArgAction::SetTrue)
+        .help("Ends with status 1 where the member does not answer");
+    let command = Command::new(alloc, "watch")
+        .about("Prints what changes of the members, a line a change, until it is stopped")
+        .arg(address(alloc))?
+        .arg(json(alloc))?
+        .arg(every)?
+        .arg(once)?;
+    Ok(command)
 }
 
 /// `swim ctl ADDR LINE [--json]`.
 fn ctl_command<'a>(alloc: Global) -> Result<Command<'a>, Error> {
-    let lines = "status, members, members A, join A, leave, record or stop";
-    let words = [
-        address(alloc),
-        word(alloc, "line", "LINE", lines).allow_hyphen_values(true),
-        json(alloc).help("Prints the answer to status as a JSON object"),
-    ];
-    let about = "Sends a control line and prints the answer";
-    with_words(Command::new(alloc, "ctl").about(about), words)
+    let line = word(
+        alloc,
+        "line",
+        "LINE",
+        "status, members, members A, join A, leave, record or stop",
+    );
+    let as_json = json(alloc).help("Prints the answer to status as a JSON object");
+    let command = Command::new(alloc, "ctl")
+        .about("Sends a control line and prints the answer")
+        .arg(address(alloc))?
+        .arg(line.allow_hyphen_values(true))?
+        .arg(as_json)?;
+    Ok(command)
 }
 
 /// A word that may stand after its name.
@@ -224,73 +226,50 @@ fn option<'a>(alloc: Global, id: &'a str, name: &'a str, help: &'a str) -> Arg<'
 
 /// `swim simulate [PLAN] [--seed N] [--runs N] [--csv FILE] [--svg FILE] [--sweep KEY=A..B,..]`.
 fn simulate_command<'a>(alloc: Global) -> Result<Command<'a>, Error> {
+    let seed = number(alloc, "seed", "What all that is drawn comes from").default_value("1");
+    let runs = number(alloc, "runs", "How many runs, each by the next seed")
+        .value_parser(ValueParser::unsigned(1, RUNS_LIMIT))
+        .default_value("1");
     let csv = "A new file for the kills, a line each, or for the table of a sweep";
     let sweep =
         "Plans with each of these numbers, as suspect=20..200,loss=0..30 or suspect=20..200/20";
-    let words = [
-        word(alloc, "plan", "PLAN", "What is simulated, a TOML table").required(false),
-        number(alloc, "seed", "What all that is drawn comes from").default_value("1"),
-        number(alloc, "runs", "How many runs, each by the next seed")
-            .value_parser(ValueParser::unsigned(1, RUNS_LIMIT))
-            .default_value("1"),
-        option(alloc, "csv", "FILE", csv),
-        option(alloc, "svg", "FILE", "A new file for a picture"),
-        option(alloc, "sweep", "KEYS", sweep),
-    ];
-    let about = "Simulates a group, and prints how soon it noticed who was killed";
-    with_words(Command::new(alloc, "simulate").about(about), words)
-}
-
-/// `swim run CONFIG`.
-fn run_command<'a>(alloc: Global) -> Result<Command<'a>, Error> {
-    let words = [word(alloc, "config", "CONFIG", "The settings, a TOML table")];
-    with_words(
-        Command::new(alloc, "run").about("Runs a member until it is stopped"),
-        words,
-    )
-}
-
-/// `swim play`.
-fn play_command<'a>(alloc: Global) -> Result<Command<'a>, Error> {
-    Ok(Command::new(alloc, "play").about("Plays a script from standard input"))
-}
-
-/// `swim check`.
-fn check_command<'a>(alloc: Global) -> Result<Command<'a>, Error> {
-    Ok(Command::new(alloc, "check").about(
-        "Looks in a capture from standard input for a datagram that breaks the law of the group",
-    ))
-}
-
-/// What the program takes before its subcommands.
-fn program<'a>(alloc: Global) -> Result<Command<'a>, Error> {
-    let command = Command::new(alloc, "swim")
-        .version("0.1.0")
-        .about("A member of a SWIM group that survives its own restarts")
-        .bin_name("swim")?;
-    Ok(command.propagate_version(true).subcommand_required(true))
-}
-
-/// A command with one more subcommand, if both could be made.
-fn with_subcommand<'a>(
-    command: Result<Command<'a>, Error>,
-    more: Result<Command<'a>, Error>,
-) -> Result<Command<'a>, Error> {
-    Ok(command?.subcommand(more?)?)
+    let command = Command::new(alloc, "simulate")
+        .about("Simulates a group, and prints how soon it noticed who was killed")
+        .arg(word(alloc, "plan", "PLAN", "What is simulated, a TOML table").required(false))?
+        .arg(seed)?
+        .arg(runs)?
+        .arg(option(alloc, "csv", "FILE", csv))?
+        .arg(option(alloc, "svg", "FILE", "A new file for a picture"))?
+        .arg(option(alloc, "sweep", "KEYS", sweep))?;
+    Ok(command)
 }
 
 /// All that the program takes.
 fn command<'a>(alloc: Global) -> Result<Command<'a>, Error> {
-    let command = with_subcommand(program(alloc), init_command(alloc));
-    let command = with_subcommand(command, run_command(alloc));
-    let command = with_subcommand(command, ctl_command(alloc));
-    let command = with_subcommand(command, members_command(alloc));
-    let command = with_subcommand(command, watch_command(alloc));
-    let command = with_subcommand(command, show_command(alloc));
-    let command = with_subcommand(command, explain_command(alloc));
-    let command = with_subcommand(command, play_command(alloc));
-    let command = with_subcommand(command, check_command(alloc));
-    with_subcommand(command, simulate_command(alloc))
+    let run = Command::new(alloc, "run")
+        .about("Runs a member until it is stopped")
+        .arg(word(alloc, "config", "CONFIG", "The settings, a TOML table"))?;
+    let play = Command::new(alloc, "play").about("Plays a script from standard input");
+    let check = Command::new(alloc, "check").about(
+        "Looks in a capture from standard input for a datagram that breaks the law of the group",
+    );
+    let command = Command::new(alloc, "swim")
+        .version("0.1.0")
+        .about("A member of a SWIM group that survives its own restarts")
+        .bin_name("swim")?
+        .propagate_version(true)
+        .subcommand_required(true)
+        .subcommand(init_command(alloc)?)?
+        .subcommand(run)?
+        .subcommand(ctl_command(alloc)?)?
+        .subcommand(members_command(alloc)?)?
+        .subcommand(watch_command(alloc)?)?
+        .subcommand(show_command(alloc)?)?
+        .subcommand(explain_command(alloc)?)?
+        .subcommand(play)?
+        .subcommand(check)?
+        .subcommand(simulate_command(alloc)?)?;
+    Ok(command)
 }
 
 /// A word that the parser saw to.
