@@ -237,4 +237,3 @@ pub use swim_net::{SocketAlarm, TcpDoors, UdpInbound, UdpLink, Waits, address_of
 pub use arrayvec::ArrayVec;
 pub use rand_chacha::ChaCha20Rng;
 pub use rand_core::SeedableRng;
-
