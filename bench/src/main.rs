@@ -1,10 +1,12 @@
 //! The proved crates beside plain and tight Rust of the same work: nanoseconds, ratios, allocations. `bench/run` builds and
 //! runs it, with the program that saves, the one that calls a shared member and a folder for the state files as its words, and
-//! then a part of the cases' names, if any. Built by `bench/bytes` it counts bytes in place of nanoseconds.
+//! then a part of the cases' names, if any. Built by `bench/bytes` it counts bytes in place of nanoseconds. With `buckets` as its
+//! first word it compares ways to keep what waits (`bench/buckets`).
 
 #![cfg_attr(feature = "bytes", allow(dead_code))]
 
 mod allocations;
+mod buckets;
 #[cfg(feature = "bytes")]
 mod bytes;
 mod cases;
@@ -70,6 +72,9 @@ fn start(words: &[String]) -> ExitCode {
 
 #[cfg(not(feature = "bytes"))]
 fn start(words: &[String]) -> ExitCode {
+    if let Some(("buckets", words)) = words.split_first().map(|(first, rest)| (first.as_str(), rest)) {
+        return buckets::start(words);
+    }
     let (saving, calling, folder, part) = match words {
         [saving, calling, folder] => (saving, calling, folder, ""),
         [saving, calling, folder, part] => (saving, calling, folder, part.as_str()),

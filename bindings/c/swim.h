@@ -23,8 +23,8 @@
  * Handles.    A `struct swim_member` is a block of the caller's: on the stack, static or allocated. It begins with all its
  *             bytes 0, which is closed, and is neither read, written nor copied by the caller while it is open. Each call on
  *             a closed one answers SWIM_CLOSED, a second swim_close too.
- * Memory.     swim_open allocates what a member needs, by malloc, and swim_close frees it. Between them a call allocates
- *             only where it saves the state file, which is where a new own number is taken, and in swim_keep_peers.
+ * Memory.     swim_open allocates what a member needs, by malloc, and swim_close frees it. With `limit` 1 no call between
+ *             them allocates, also where it saves the state file. With more an event may, for the calls that are kept.
  *             The library keeps no pointer that it is given beyond the call.
  * Threads.    A handle is one thread's at a time: calls on it never overlap. It may go from one thread to another where
  *             that is ordered, as by a lock or a join. Two handles share nothing. No call is made from a signal handler,
@@ -210,7 +210,8 @@ int swim_close(struct swim_member *member);
  * SWIM_OK, SWIM_NULL, SWIM_CLOSED, SWIM_WAITING, SWIM_NO_MEMORY, and SWIM_NO_ENDPOINT where one is passed.
  */
 
-/* Time goes on by one tick. `random` is any 64 random bits: they order the probes, and guard no secret. */
+/* Time goes on by one tick. `random` is any 64 random bits: they order the probes, and guard no secret. A tick that ends no
+   period makes the same of all of them. */
 int swim_tick(struct swim_member *member, uint64_t random);
 
 /* Bytes came from there. Any bytes will do; what is no datagram of the group is noted and no more. Past 513 bytes they are

@@ -2,6 +2,7 @@
 //! proved crates do, with nothing counted.
 
 use super::table::ROWS_MAX;
+use super::waits::Waits;
 use super::wire::{Endpoint, UPDATES_MAX, Update, Updates};
 
 const WAITING_MAX: usize = ROWS_MAX + 1;
@@ -24,17 +25,6 @@ pub struct Buckets {
 }
 
 impl Buckets {
-    pub fn new() -> Buckets {
-        Buckets {
-            queue: [Waiting::default(); WAITING_MAX],
-            len: 0,
-        }
-    }
-
-    pub fn len(&self) -> usize {
-        self.len
-    }
-
     /// Looked for from both ends.
     fn place_of(&self, who: Endpoint) -> Option<usize> {
         let queue = &self.queue[..self.len];
@@ -49,22 +39,34 @@ impl Buckets {
         }
         None
     }
+}
 
-    pub fn remove(&mut self, who: Endpoint) {
+impl Waits for Buckets {
+    fn new() -> Buckets {
+        Buckets {
+            queue: [Waiting::default(); WAITING_MAX],
+            len: 0,
+        }
+    }
+
+    fn len(&self) -> usize {
+        self.len
+    }
+
+    fn remove(&mut self, who: Endpoint) {
         if let Some(place) = self.place_of(who) {
             self.queue.copy_within(place + 1..self.len, place);
             self.len -= 1;
         }
     }
 
-    pub fn offer(&mut self, update: Update) {
+    fn offer(&mut self, update: Update) {
         self.remove(update.who);
         self.queue[self.len] = Waiting { update, count: 0 };
         self.len += 1;
     }
 
-    /// The first 30 of those with a count below `limit`, by count, then by who began earlier.
-    pub fn pick(&mut self, limit: u32) -> Updates {
+    fn pick(&mut self, limit: u32) -> Updates {
         let queue = &mut self.queue[..self.len];
         let mut heads = [END; BUCKETS_MAX as usize + 1];
         let mut links = [END; WAITING_MAX];

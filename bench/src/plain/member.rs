@@ -3,6 +3,7 @@
 use super::buffer::Buffer;
 use super::list::List;
 use super::table::{Counts, Heard, ROWS_MAX, Row, Table};
+use super::waits::Waits;
 use super::wire::{Datagram, Endpoint, Kind, NUMBER_MAX, Rules, Update, UpdateKind, WireFault, decode};
 use crate::scene::Deal;
 
@@ -49,8 +50,8 @@ struct Turn {
     place: usize,
 }
 
-/// A member of a group, as far as the cases need it.
-pub struct Member {
+/// A member of a group, as far as the cases need it, with what waits kept in some way.
+pub struct Member<W = Buffer> {
     settings: Settings,
     number: u64,
     time: u64,
@@ -58,12 +59,12 @@ pub struct Member {
     probe: Option<Probe>,
     turn: Turn,
     table: Table,
-    buffer: Buffer,
+    buffer: W,
 }
 
-impl Member {
-    pub fn new(settings: Settings, number: u64) -> Member {
-        let mut buffer = Buffer::new();
+impl<W: Waits> Member<W> {
+    pub fn new(settings: Settings, number: u64) -> Member<W> {
+        let mut buffer = W::new();
         buffer.offer(Update {
             kind: UpdateKind::Alive,
             who: settings.me,

@@ -5,3 +5,4 @@ mod Parts
 pub mod Recorded
 mod Patched
 mod Making
+mod Laid

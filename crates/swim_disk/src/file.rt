@@ -12,17 +12,21 @@ use crate::past::Call;
 use crate::{Disk, DiskFault, MOST_BYTES};
 use std::alloc::{AllocError, Global};
 use std::fs::{File, Files, OpenOptions};
-use std::io;
 use std::marker::Model;
 use std::os::fd::{AsRawFd, OwnedFd};
 use std::os::unix::fs::MetadataExt;
 use std::path::AsPath;
+use std::{io, mem};
 use swim_trace::Trace;
 
 /// A file of the operating system, of which the first [`MOST_BYTES`] bytes are the disk. It is read once, when it is
 /// opened, and then its bytes are kept in memory, so that a read gives what was found and written, whatever the system
 /// does with its own memory. After a failed write or sync it writes again all that it wrote since the last sync that said
 /// Ok, before it syncs anew: the system may have let it go.
+///
+/// A write takes memory for what is past the end, and for its own bytes until a sync has kept them. Their room is then used
+/// again. So where each write is synced before the next one, a write takes none if it is within the bytes that there are and
+/// not longer than an earlier one.
 ///
 /// That a crash leaves an image of its state is the premise of its user: that the system keeps what it has written and
 /// synced with no failure between them, and that nobody else writes the file.
@@ -34,6 +38,7 @@ pub struct FileDisk {
     content: Vec<u8>,
     calls: Trace<Call>,
     unsynced: Vec<Call>,
+    spare: Vec<u8>,
     is_stale: bool,
     failures: Count,
     asked: Count,
@@ -56,6 +61,16 @@ impl Model for FileDisk {
 
     ghost invariant = { λ f. IsFile f.content.items f.unsynced.items
         f.calls f.is_stale (cache_of f.file) };
+}
+
+/// Drops the writes that a sync has kept. The room of the first one's bytes is spare then.
+fn release(unsynced: &mut Vec<Call>, spare: &mut Vec<u8>)
+    ensures { unsynced.new.items ≡ [] }
+{
+    unsynced.truncate(1);
+    if let Some(Call::Write { at: _, bytes }) = unsynced.pop() {
+        *spare = bytes;
+    }
 }
 
 impl FileDisk {
@@ -108,6 +123,7 @@ impl FileDisk {
             content: bytes,
             calls,
             unsynced: Vec::new(alloc),
+            spare: Vec::new(alloc),
             is_stale: false,
             failures: Count::new(),
             asked: Count::new(),
@@ -150,15 +166,16 @@ impl FileDisk {
             })) }
         ensures same { OnErr result (self.new ≡ self.old) }
     {
-        let next = overlay(self.alloc, &self.content, at, bytes)?;
-        let bytes = bytes.to_vec(self.alloc)?;
-        let call = Call::Write { at, bytes };
         self.unsynced.reserve(1)?;
+        self.spare.clear();
+        self.spare.extend_from_slice(bytes)?;
+        overlay(&mut self.content, at, bytes)?;
+        let bytes = mem::replace(&mut self.spare, Vec::new(self.alloc));
+        let call = Call::Write { at, bytes };
         let written = self.file.write(&call);
         self.is_stale |= written.is_err();
         self.calls = self.calls.and(&call);
         self.unsynced.push_reserved(call);
-        self.content = next;
         Ok(written)
     }
 
@@ -175,7 +192,7 @@ impl FileDisk {
         match &settled {
             Ok(()) => {
                 self.calls = self.calls.and(&Call::Sync);
-                self.unsynced.clear();
+                release(&mut self.unsynced, &mut self.spare);
                 self.is_stale = false;
             }
             Err(_) => self.is_stale = true,

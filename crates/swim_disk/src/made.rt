@@ -1,6 +1,6 @@
 //! What writes make of some bytes, read from the writes themselves.
 
-ghost use Rattle.std.specs.Prelude.{◌≡◌, ◌<◌, ◌≤◌, ◌+◌, ◌∷◌, [], ℕ, List, get_or, length, take, drop, replicate, true, IfOk, IfNone, IfSome};
+ghost use Rattle.std.specs.Prelude.{◌≡◌, ◌<◌, ◌≤◌, ◌+◌, ◌∷◌, [], ℕ, List, get_or, length, take, drop, replicate, true, IfOk, IfNone, IfSome, OnOk};
 ghost use Rattle.swim_disk.specs.declared.mem.TheConstants.{MOST_BYTES};
 ghost use Rattle.swim_disk.specs.Disk.{overlaid};
 ghost use Rattle.swim_disk.specs.Machinery.Made.{AreFilled, AreWrites, Covers, IsFilled, made};
@@ -79,15 +79,15 @@ pub(crate) fn read_made(start: &[u8], writes: &[Call], at: usize, buffer: &mut [
     }
 }
 
-/// The bytes after this call.
-fn after(alloc: Global, bytes: Vec<u8>, call: &Call) -> Result<Vec<u8>, AllocError>
-    requires size { length bytes.items ≤ MOST_BYTES }
+/// Does this call to the bytes. Err: there was no memory.
+fn redo(bytes: &mut Vec<u8>, call: &Call) -> Result<(), AllocError>
+    requires size { length bytes.old.items ≤ MOST_BYTES }
     requires room { end_of call.now ≤ MOST_BYTES }
-    ensures { IfOk result (λ v. v.items ≡ made bytes.items (call.now ∷ [])) }
+    ensures { OnOk result (bytes.new.items ≡ made bytes.old.items (call.now ∷ [])) }
 {
     match call {
-        Call::Write { at, bytes: written } => overlay(alloc, &bytes, *at, written),
-        Call::Sync => Ok(bytes),
+        Call::Write { at, bytes: written } => overlay(bytes, *at, written),
+        Call::Sync => Ok(()),
     }
 }
 
@@ -102,7 +102,7 @@ pub(crate) fn bytes_made(
 {
     let mut bytes = start.to_vec(alloc)?;
     for call in writes {
-        bytes = after(alloc, bytes, call)?;
+        redo(&mut bytes, call)?;
     }
     Ok(bytes)
 }

@@ -92,8 +92,9 @@ impl MemDisk {
             at bytes.now) }
         ensures size { IfOk result (λ v. length v.items ≤ MOST_BYTES) }
     {
-        let synced = bytes_made(self.alloc, &self.start, &self.writes[..self.synced])?;
-        overlay(self.alloc, &synced, at, bytes)
+        let mut synced = bytes_made(self.alloc, &self.start, &self.writes[..self.synced])?;
+        overlay(&mut synced, at, bytes)?;
+        Ok(synced)
     }
 
     /// The disk that this one would be if these bytes had stood at this offset from the beginning, and
@@ -199,31 +200,22 @@ fn leave(writes: &mut Vec<Call>, synced: usize, choice: Choice)
     }
 }
 
-/// The content with these bytes at this offset.
-pub(crate) fn overlay(
-    alloc: Global,
-    old: &[u8],
-    at: u64,
-    bytes: &[u8],
-) -> Result<Vec<u8>, AllocError>
+/// Writes these bytes over the content at this offset, in place. A gap before them is filled with zero bytes. Err: there was
+/// no memory for what is past the end, and nothing was done.
+pub(crate) fn overlay(content: &mut Vec<u8>, at: u64, bytes: &[u8]) -> Result<(), AllocError>
     requires room { at + length bytes.now ≤ MOST_BYTES }
-    requires size { length old.now ≤ MOST_BYTES }
-    ensures bytes { IfOk result (λ v. v.items ≡ overlaid old.now at bytes.now) }
-    ensures size { IfOk result (λ v. length v.items ≤ MOST_BYTES) }
+    requires size { length content.old.items ≤ MOST_BYTES }
+    ensures done { OnOk result (content.new.items ≡ overlaid content.old.items at bytes.now) }
+    ensures size { length content.new.items ≤ MOST_BYTES }
+    ensures failed { OnErr result (content.new.items ≡ content.old.items) }
 {
     let at = at as usize;
-    let mut next = Vec::new(alloc);
-    if at <= old.len() {
-        next.extend_from_slice(&old[..at])?;
-    } else {
-        next.extend_from_slice(old)?;
-        next.resize(at, 0)?;
+    let end = at + bytes.len();
+    if content.len() < end {
+        content.resize(end, 0)?;
     }
-    next.extend_from_slice(bytes)?;
-    if at + bytes.len() < old.len() {
-        next.extend_from_slice(&old[at + bytes.len()..])?;
-    }
-    Ok(next)
+    content[at..end].copy_from_slice(bytes);
+    Ok(())
 }
 
 impl Disk for MemDisk {

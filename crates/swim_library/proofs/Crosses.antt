@@ -31,10 +31,13 @@ FileDisk-send = view_send FileInside.the_row _ _ _ _ (recorded_send FileInside.t
           (
             search (sendable, crosses, Call-send) depth 60 fits 20000,
             (
-              search sendable,
+              search (sendable, crosses) depth 60 fits 20000,
               (
-                search (sendable, Trace-send) depth 60 fits 20000,
-                (search (sendable, Trace-send) depth 60 fits 20000, tt),
+                search sendable,
+                (
+                  search (sendable, Trace-send) depth 60 fits 20000,
+                  (search (sendable, Trace-send) depth 60 fits 20000, tt),
+                ),
               ),
             ),
           ),

@@ -1,10 +1,14 @@
 -- What a call does to a member that runs.
-use Rattle.std.specs.Prelude.{◌≡◌, ◌⊎◌, List, [], ◌∷◌, ◌++◌, map, ℕ}
+use Rattle.std.specs.Prelude.{◌≡◌, ◌⊎◌, List, [], ◌∷◌, ◌++◌, false, map, ℕ}
 use Rattle.swim_disk.specs.File.{FileView, file_state}
+use Rattle.swim_member.specs.Deals.{deal_from}
+use Rattle.swim_member.specs.Events.{DealIsOfNoMatter}
+use Rattle.swim_member.specs.Probe.{ends_period}
 use Rattle.swim_member.specs.declared.event.Event.{Event}
+use Rattle.swim_member.specs.declared.event.Event.TheVariants.{Tick}
 use Rattle.swim_node.specs.declared.entry.Entry.{Entry}
 use Rattle.swim_node.specs.declared.entry.Reply.{Reply}
-use Rattle.swim_node.specs.History.{IsLegal, state_after}
+use Rattle.swim_node.specs.History.{IsLegal, state_after, steps}
 use Rattle.swim_node.specs.Lives.{Era, IsLiving, life_of}
 use Rattle.swim_node.specs.Node.{NodeView, next_base}
 use Rattle.swim_node.specs.Peers.{known_peers}
@@ -47,6 +51,14 @@ pub record EntersEvent (old new : Running) (event : Event) : Type 0 where
   pub adds : AddsTo old new event reply
   pub empty : waiting_in old.outbox ≡ []
   pub notes : new.notes ≡ reply.notes
+
+-- A tick was entered that deals these numbers. Unless it ends a period they are 0 to 255 in
+-- order, and with any others the answer would be the same, and so would the next state.
+pub record EntersTick (old new : Running) (numbers : List ℕ) : Type 0 where
+  pub enters : EntersEvent old new (Tick numbers)
+  pub undrawn : ends_period (state_after old.node.base old.node.entries) ≡ false
+      → (numbers ≡ deal_from 0)
+      × DealIsOfNoMatter old.node.base.state (steps old.node.entries)
 
 -- the first datagram that waited goes there, with these bytes, and the others still wait
 pub record Hands (old new : Running) (to : SwimEndpoint) (bytes : List ℕ) : Type 0 where

@@ -2,11 +2,11 @@
 
 ghost use Rattle.std.specs.Prelude.{◌≡◌, ◌≢◌, ◌⊎◌, ◌↔◌, ◌<◌, ◌≤◌, ◌∷◌, [], ℕ, List, length, map, take, Err, IfErr, IfOk, IsErrOf, IsOk, OnErr, OnOk};
 ghost use Rattle.swim_library.specs.Outbox.{waiting_in};
-ghost use Rattle.swim_library.specs.Running.{AddsTo, EntersEvent, Hands, SavesPeers, LivesOn, ShowsRows};
+ghost use Rattle.swim_library.specs.Running.{AddsTo, EntersEvent, EntersTick, Hands, SavesPeers, LivesOn, ShowsRows};
 ghost use Rattle.swim_library.specs.Shapes.{endpoint_as, note_as, row_as, status_as};
 ghost use Rattle.swim_library.specs.declared.refusal.Refusal.TheVariants as why;
 ghost use Rattle.swim_member.specs.declared.answer.TheConstants.{NOTES_MAX};
-ghost use Rattle.swim_member.specs.declared.event.Event.TheVariants.{Members, Tick};
+ghost use Rattle.swim_member.specs.declared.event.Event.TheVariants.{Members};
 ghost use Rattle.swim_node.specs.History.{status_of};
 ghost use Rattle.swim_node.specs.Node.{next_base};
 ghost use Rattle.swim_state.specs.declared.peers.TheConstants.{PEERS_MAX};
@@ -139,26 +139,21 @@ impl Running {
         Ok(())
     }
 
-    /// Time goes on by one tick. A period that ends may begin a new turn list, and its tick draws the order of one. At any
-    /// other tick the member reads no order, and is given the one that takes no drawing.
+    /// Time goes on by one tick. Where it ends a period, it may begin a turn list, and draws the order of one. At any other
+    /// tick the member reads no order, and is given the one that takes no drawing.
     pub(crate) fn tick(&mut self, random: u64) -> Result<(), Refusal>
-        ensures entered { OnOk result ((numbers : List ℕ)
-            × EntersEvent self.old self.new (Tick numbers)) }
+        ensures entered { OnOk result ((numbers : List ℕ) × EntersTick self.old self.new numbers) }
         ensures waits { IsErrOf result why.Waiting ↔ (waiting_in self.old.outbox ≢ []) }
         ensures refused { IfErr result (λ refusal. refusal ≢ why.Waiting
             → refusal ≡ why.NoMemory) }
         ensures same { OnErr result (self.new ≡ self.old) }
     {
-        let ends = self.left <= 1;
-        let left = if ends { self.period } else { self.left - 1 };
-        let deal = if ends {
+        let deal = if self.node.ends_period() {
             deal_of(random)
         } else {
             Deal::from_first(0)
         };
-        self.enter(Event::Tick { deal })?;
-        self.left = left;
-        Ok(())
+        self.enter(Event::Tick { deal })
     }
 
     /// Hands out the next datagram that waits, which then waits no more.

@@ -4,10 +4,10 @@ ghost use Rattle.std.specs.Prelude.{◌≡◌, ◌≢◌, ◌*◌, ◌+◌, ◌�
 ghost use Rattle.swim_library.specs.Codes.{CLOSED, NO_ENDPOINT, NOTHING, OK, WAITING};
 ghost use Rattle.swim_library.specs.Holding.{HandleBecomes, held};
 ghost use Rattle.swim_library.specs.Outbox.{waiting_in};
-ghost use Rattle.swim_library.specs.Running.{EntersEvent, Hands};
+ghost use Rattle.swim_library.specs.Running.{EntersEvent, EntersTick, Hands};
 ghost use Rattle.swim_library.specs.Shapes.{number_of_endpoint};
 ghost use Rattle.swim_library.specs.declared.running.Running.{Running};
-ghost use Rattle.swim_member.specs.declared.event.Event.TheVariants.{Datagram, Join, Leave, ReceiveFailed, SendFailed, Tick};
+ghost use Rattle.swim_member.specs.declared.event.Event.TheVariants.{Datagram, Join, Leave, ReceiveFailed, SendFailed};
 ghost use Rattle.swim_member.specs.declared.event.TheConstants.{RECEIVED_MAX};
 
 use crate::handle::{SwimMember, put, take};
@@ -53,7 +53,7 @@ fn enter(member: &mut SwimMember, spare: SwimMember, event: Event) -> u32
 pub extern "C" fn swim_library_tick(member: &mut SwimMember, spare: SwimMember, random: u64) -> u32
     ensures entered { result ≡ OK → (numbers : List ℕ)
         × HandleBecomes member.old member.new
-        (λ before after. EntersEvent before after (Tick numbers)) }
+        (λ before after. EntersTick before after numbers) }
     ensures refused { result ≢ OK → held member.new ≡ held member.old }
     ensures closed { held member.old ≡ None → result ≡ CLOSED }
     ensures waits { (running : Running) → held member.old ≡ Some running

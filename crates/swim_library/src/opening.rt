@@ -86,15 +86,12 @@ fn running_on(
     ensures { IfOk result (λ running. OpensOn (settings_of given.now) limit running.value) }
 {
     let settings = given.checked()?;
-    let period = settings.period;
     let node = node_on(alloc, fd, settings, limit)?;
     let running = Running {
         node,
         outbox: Outbox::new(),
         notes: ArrayVec::new(),
         limit,
-        period,
-        left: period,
     };
     Box::new(alloc, running).map_err(|_| Refusal::NoMemory)
 }

@@ -17,10 +17,6 @@ pub(crate) struct Running {
     pub(crate) notes: ArrayVec<Note, NOTES_MAX>,
     /// How many entries an era has.
     pub(crate) limit: u32,
-    /// How many ticks a period of probing has.
-    pub(crate) period: u64,
-    /// How many of its ticks are left, the next one too.
-    pub(crate) left: u64,
     ghost limit_is: { node.base.limit ≡ limit },
     ghost has_room: { length node.entries < limit },
 }

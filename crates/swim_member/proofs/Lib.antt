@@ -11,6 +11,7 @@ pub mod Asking
 pub mod Dealing
 pub mod Turning
 pub mod Ticking
+pub mod Undealt
 pub mod Showing
 pub mod Bases
 pub mod Adding

@@ -1,6 +1,6 @@
 -- What a member does at each event, and what a history of events comes to.
 use Rattle.std.specs.List.{find}
-use Rattle.std.specs.Prelude.{ℕ, ◌+◌, ◌==◌, nat_le, List, [], ◌∷◌, ◌++◌, map, if◌then◌else◌}
+use Rattle.std.specs.Prelude.{◌≡◌, ℕ, ◌+◌, ◌==◌, nat_le, List, [], ◌∷◌, ◌++◌, map, if◌then◌else◌}
 use Rattle.std.specs.Prelude.{Option, Some, None, replicate, slice_get, zero, suc}
 use Rattle.swim_member.specs.Checks.{rules_of}
 use Rattle.swim_member.specs.Expiry.{expire_first, forget_first}
@@ -18,6 +18,7 @@ use Rattle.swim_member.specs.Turn.{look}
 use Rattle.swim_member.specs.declared.answer.Answer.{Answer}
 use Rattle.swim_member.specs.declared.answer.Out.{Out}
 use Rattle.swim_member.specs.declared.event.Event.{Event}
+use Rattle.swim_member.specs.declared.event.Event.TheVariants.{Tick}
 use Rattle.swim_member.specs.declared.judge.Judgement.{Judgement}
 use Rattle.swim_member.specs.declared.leave.TheConstants.{BYES_MAX}
 use Rattle.swim_member.specs.declared.note.Note.{Note}
@@ -185,3 +186,14 @@ answer base steps event granted = answer_in (changes_of base (log_of base steps)
 abbrev pub number_after : Option ℕ → ℕ → ℕ → ℕ
 number_after None granted n = n
 number_after (Some w) granted n = if nat_le w granted then w else n
+
+-- a tick with this deal, as a step
+abbrev pub tick_with : List ℕ → ℕ → Step
+tick_with deal granted = record { event = Tick deal; granted = granted }
+
+-- whatever a tick after these steps deals, the answer is the same, and so is the next state
+abbrev pub DealIsOfNoMatter : State → List Step → Type 0
+DealIsOfNoMatter base steps = (a b : List ℕ) (granted : ℕ)
+    → (answer base steps (Tick a) granted ≡ answer base steps (Tick b) granted)
+    × (state_of base (steps ++ tick_with a granted ∷ [])
+    ≡ state_of base (steps ++ tick_with b granted ∷ []))

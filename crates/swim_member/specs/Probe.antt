@@ -1,7 +1,7 @@
 -- The probe: ping, helpers, and the suspicion at its end (SWIM, section 3.1).
 use Rattle.std.specs.List.{filter}
-use Rattle.std.specs.Prelude.{ℕ, ◌%◌, ◌==◌, ◌&&◌, nat_lt, Bool, false, not, List, [], ◌∷◌, ◌++◌}
-use Rattle.std.specs.Prelude.{map, take, if◌then◌else◌, Option, Some, None, slice_get}
+use Rattle.std.specs.Prelude.{ℕ, ◌+◌, ◌%◌, ◌==◌, ◌&&◌, nat_lt, Bool, false, not, List, [], ◌∷◌}
+use Rattle.std.specs.Prelude.{◌++◌, map, take, if◌then◌else◌, Option, Some, None, slice_get}
 use Rattle.swim_member.specs.Hearing.{hear_other}
 use Rattle.swim_member.specs.Member.{eligible, row_name, is_eligible_name}
 use Rattle.swim_member.specs.Send.{send}
@@ -16,6 +16,10 @@ use Rattle.swim_wire.specs.declared.update.UpdateKind.TheVariants.{Alive, Suspec
 -- the moment is this far into a period
 abbrev pub is_at : State → ℕ → Bool
 is_at s moment = s.time % s.settings.period == moment
+
+-- the next tick ends a period: the probe is over then, and the next one begins
+abbrev pub ends_period : State → Bool
+ends_period s = (s.time + 1) % s.settings.period == 0
 
 -- the Suspect about the member of an Alive row
 abbrev pub suspect_of : Row → Update

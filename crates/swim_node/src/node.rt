@@ -6,14 +6,15 @@ ghost use Rattle.swim_state.specs.Alone.{IsBeside, LeavesAlone, target_in};
 ghost use Rattle.swim_state.specs.File.{floor, floor_peers};
 ghost use Rattle.swim_state.specs.Held.{Held, HeldSince, HasPeers, Through, Covers};
 ghost use Rattle.swim_node.specs.declared.opening.TheConstants.{LIMIT_MAX};
-ghost use Rattle.swim_node.specs.History.{calls_by, state_after, status_at, status_of, IsLegal, granted_of};
+ghost use Rattle.swim_node.specs.History.{calls_by, state_after, status_at, steps, status_of, IsLegal, granted_of};
 ghost use Rattle.swim_node.specs.Owns.{owns, AreAtMost, AreAtLeast};
 ghost use Rattle.swim_node.specs.Lives.{EndsEra, GoesOn, MayEnd};
 ghost use Rattle.swim_node.specs.Node.{Added, IsTurn, Refused, base_of, granted_base, next_base};
 ghost use Rattle.swim_node.specs.Peers.{known_peers};
 ghost use Rattle.swim_node.specs.Probing.{GoesInTurns};
 ghost use Rattle.swim_node.specs.Sending.{Sends, HasTexts};
-ghost use Rattle.swim_member.specs.Events.{state_of};
+ghost use Rattle.swim_member.specs.Events.{DealIsOfNoMatter, state_of};
+ghost use Rattle.swim_member.specs.Probe.{ends_period};
 
 use crate::base::Base;
 use crate::copies::copy_reply;
@@ -128,6 +129,16 @@ impl<D: Disk> Node<D> {
         ensures { result ≡ status_of self.now.base self.now.entries }
     {
         status_now(&self.member, self.len())
+    }
+
+    /// Whether the next tick ends a period. Only such a tick may read what it deals.
+    pub fn ends_period(&self) -> bool
+        ensures ends { result ≡ ends_period (state_after self.now.base self.now.entries) }
+        // at any other tick every deal does
+        ensures otherwise { result ≡ false
+            → DealIsOfNoMatter self.now.base.state (steps self.now.entries) }
+    {
+        self.member.ends_period()
     }
 
     /// How many entries of this era a caller, below 16, has.

@@ -2,7 +2,7 @@
 
 ghost use Rattle.std.specs.Prelude.{◌≡◌, ◌∷◌, [], IfOk, IfSome, IsSomeAnd, length};
 ghost use Rattle.swim_node.specs.History.{IsLegal};
-ghost use Rattle.swim_shared.specs.Passes.{IsPass, new_passes};
+ghost use Rattle.swim_shared.specs.Passes.{IsPass, new_pass, new_passes};
 ghost use Rattle.swim_shell.specs.Calls.{NewCalls};
 ghost use Rattle.swim_shell.specs.Ticks.{answers};
 ghost use Rattle.swim_serve.specs.Desks.{Tended, desk_of};
@@ -56,6 +56,57 @@ type Begun<'x, N, D, R> = (
 /// What comes back of the workers of a shared member, and of control.
 type SharedEnds<'x, N, D, R, I, M, E> = Attended<'x, Share<'x, N, D, R>, R, I, RingLink<N, M>, E>;
 
+/// The passes of an era's workers.
+#[derive(Drop)]
+struct Passes<N: Name> {
+    receiver: Pass<N>,
+    ticker: Pass<N>,
+    sender: Pass<N>,
+    control: Pass<N>,
+}
+
+impl<N: Name> Passes<N> {
+    /// The new ones, out of their list; none where it has too few.
+    fn out_of(list: &mut Vec<Pass<N>>) -> Option<Passes<N>>
+        requires { list.old.items ≡ new_passes CALLERS }
+        ensures receiver { IfSome result (λ passes. passes.receiver ≡ new_pass 0) }
+        ensures ticker { IfSome result (λ passes. passes.ticker ≡ new_pass 1) }
+        ensures sender { IfSome result (λ passes. passes.sender ≡ new_pass 2) }
+        ensures control { IfSome result (λ passes. passes.control ≡ new_pass 3) }
+        ensures all { IfSome result (λ _. list.new.items ≡ []) }
+    {
+        let control = list.pop()?;
+        let sender = list.pop()?;
+        let ticker = list.pop()?;
+        let receiver = list.pop()?;
+        Some(Passes {
+            receiver,
+            ticker,
+            sender,
+            control,
+        })
+    }
+
+    /// All of them in this list, which is empty; none where it cannot take them.
+    fn into_list(self, mut room: Vec<Pass<N>>) -> Option<Vec<Pass<N>>>
+        requires { room.items ≡ [] }
+        ensures { IfSome result (λ all. all.items
+            ≡ self.receiver ∷ self.ticker ∷ self.sender ∷ self.control ∷ []) }
+    {
+        let Passes {
+            receiver,
+            ticker,
+            sender,
+            control,
+        } = self;
+        room.push(receiver).ok()?;
+        room.push(ticker).ok()?;
+        room.push(sender).ok()?;
+        room.push(control).ok()?;
+        Some(room)
+    }
+}
+
 /// Gives each worker what it calls by; none where there are too few passes or watches.
 fn callers_of<'x, N: Name, D: Disk, R: Wait + Log + Clock + Drop>(
     rt: &'x R,
@@ -75,17 +126,16 @@ fn callers_of<'x, N: Name, D: Disk, R: Wait + Log + Clock + Drop>(
         × (c.0.receiver.caller.notes ≡ logs.now.receiver) × (c.0.ticker.notes ≡ logs.now.ticker)
         × (c.0.sender.notes ≡ logs.now.sender) × (c.1.handle.notes ≡ logs.now.control)) }
 {
-    let control = Handle::new(rt, shared, passes.pop()?, logs.control);
-    let control = Observing::new(control, watches.pop()?);
-    let sender = Handle::new(rt, shared, passes.pop()?, logs.sender);
-    let ticker = Handle::new(rt, shared, passes.pop()?, logs.ticker);
-    let receiver = Handle::new(rt, shared, passes.pop()?, logs.receiver);
+    let passes = Passes::out_of(passes)?;
+    let watch = watches.pop()?;
+    let receiver = Handle::new(rt, shared, passes.receiver, logs.receiver);
     let callers = Callers {
         receiver: Minding::new(rt, pace, receiver, logs.numbers),
-        ticker,
-        sender,
+        ticker: Handle::new(rt, shared, passes.ticker, logs.ticker),
+        sender: Handle::new(rt, shared, passes.sender, logs.sender),
     };
-    Some((callers, control))
+    let control = Handle::new(rt, shared, passes.control, logs.control);
+    Some((callers, Observing::new(control, watch)))
 }
 
 /// Tells what the era before lost and told in no call.
@@ -154,36 +204,6 @@ pub struct EraEnds {
     pub sender: Option<Refusal>,
     /// The worker that answers control lines and joins members.
     pub control: Option<ControlEnd>,
-}
-
-/// The passes that came back of an era's workers.
-#[derive(Drop)]
-struct Passes<N: Name> {
-    receiver: Pass<N>,
-    ticker: Pass<N>,
-    sender: Pass<N>,
-    control: Pass<N>,
-}
-
-impl<N: Name> Passes<N> {
-    /// All of them in this list, which is empty; none where it cannot take them.
-    fn into_list(self, mut room: Vec<Pass<N>>) -> Option<Vec<Pass<N>>>
-        requires { room.items ≡ [] }
-        ensures { IfSome result (λ all. all.items
-            ≡ self.receiver ∷ self.ticker ∷ self.sender ∷ self.control ∷ []) }
-    {
-        let Passes {
-            receiver,
-            ticker,
-            sender,
-            control,
-        } = self;
-        room.push(receiver).ok()?;
-        room.push(ticker).ok()?;
-        room.push(sender).ok()?;
-        room.push(control).ok()?;
-        Some(room)
-    }
 }
 
 /// What comes back of an era's workers.

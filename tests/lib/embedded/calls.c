@@ -4,7 +4,8 @@
  *
  *     calls misuse              each wrong call answers its code
  *     calls refuse              each allocation of an opening is refused once, and nothing is left
- *     calls fail                each write and sync of a life is failed once, and no life says a number of an earlier one
+ *     calls fail                each write and sync of a life is failed once: no life says a number of an earlier one, and none
+ *                               allocates after its opening
  *     calls order               each turn probes each other member once, in an order that the random words give
  *     calls random SEED COUNT   random calls with random bytes
  */
@@ -248,10 +249,11 @@ static void misuse(void) {
     for (uint64_t i = 0; i < 1000; i++)
         if (swim_tick(&m, i) != SWIM_OK || swim_receive(&m, peer, noise, i % 600) != SWIM_OK)
             holds(0, "ticks and noise are taken");
-    holds(allocations == before, "no event that saves nothing allocates");
     size_t length = suspicion(bytes, 1);
     want("suspicion", swim_receive(&m, peer, bytes, length), SWIM_OK);
     holds(take_all(&m) == 2, "it says 2 of itself");
+    want("keep peers", swim_keep_peers(&m), SWIM_OK);
+    holds(allocations == before, "no call after the opening allocates, saves among them");
     want("leave", swim_leave(&m), SWIM_OK);
     take_all(&m);
     want("status after", swim_get_status(&m, &status), SWIM_OK);
@@ -313,6 +315,7 @@ static uint64_t live_once(const char *path, uint64_t said) {
     }
     want("status", swim_get_status(&m, &status), SWIM_OK);
     holds(status.first > said, "a life begins above all that was said");
+    long before = allocations;
     for (int i = 0; i < 3; i++) {
         uint8_t bytes[SWIM_DATAGRAM_MAX];
         uint64_t now;
@@ -323,6 +326,7 @@ static uint64_t live_once(const char *path, uint64_t said) {
         code = swim_keep_peers(&m);
         holds(code == SWIM_OK || code == SWIM_KEEP_DEVICE || code == SWIM_KEEP_CHANGED, swim_name(code));
     }
+    holds(allocations == before, "no save allocates, nor one that fails");
     want("close", swim_close(&m), SWIM_OK);
     return said;
 }

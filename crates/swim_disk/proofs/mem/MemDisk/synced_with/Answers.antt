@@ -13,4 +13,4 @@ pub overlay-requires-clause-size : goal.overlay-requires-clause-size
 overlay-requires-clause-size c =
     let self = c.args.self.now in
     let same = made_same self.start.items c.deref.result.now (take self.synced self.writes.items) (take self.synced c.deref-2.result.now) c.deref.ensures.value (ap (λ (l : List Call). take self.synced l) c.deref-2.ensures.value) in
-    omega (arith, ap (λ (l : List ℕ). length l) (c.deref-3.ensures.value ∙ c.in_ok-synced.ensures ∙ same), first_shorter self.start.items self.writes.items self.synced, self.size)
+    omega (arith, ap (λ (l : List ℕ). length l) (c.in_ok-synced.ensures ∙ same), first_shorter self.start.items self.writes.items self.synced, self.size)
