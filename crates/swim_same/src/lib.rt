@@ -4,7 +4,7 @@
 
 ghost use Rattle.std.specs.Prelude.{◌≡◌, true};
 
-use std::fmt::Debug;
+use std::fmt::{Debug, Display};
 use std::process::Abort;
 
 /// Stops the test with both values unless they are equal.
@@ -29,4 +29,10 @@ pub fn holds_at<R: Debug>(rt: &impl Abort, row: &R, is: bool)
     ensures { is ≡ true }
 {
     assert!(rt; is, "{row:?}");
+}
+
+/// Stops the test unless this is printed so.
+pub fn prints<R: Abort + AllocGlobal, T: Display>(rt: &R, value: &T, want: &str) {
+    let text = format!(in rt.alloc(); "{value}").ok().expect(rt, "memory");
+    assert_eq!(rt; text.as_str(), want);
 }

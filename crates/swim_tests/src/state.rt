@@ -7,7 +7,7 @@ use std::fs;
 use std::process::Abort;
 use std::test::Fail;
 use swim_disk::{Choice, Disk, DiskFault, FaultDisk, FileDisk, MemDisk, Plan};
-use swim_same::{holds, holds_at, same, same_at};
+use swim_same::{holds, holds_at, prints, same, same_at};
 use swim_state::{
     InitFault, Owner, Peers, Reading, RecoverFault, SPARE_MAX, SaveFault, Saved, Slots, init,
     recover, slots_in,
@@ -601,7 +601,7 @@ fn real_file(rt: HostRuntime) -> Result<(), Fail> {
 }
 
 #[test]
-fn faults_print_number_and_name(rt: HostRuntime) -> Result<(), Fail> {
+fn faults_print_number_and_name(rt: HostRuntime) {
     for (fault, want) in [
         (RecoverFault::Device, "1 Device"),
         (RecoverFault::NotState, "2 NotState"),
@@ -610,21 +610,20 @@ fn faults_print_number_and_name(rt: HostRuntime) -> Result<(), Fail> {
         (RecoverFault::Damaged, "5 Damaged"),
         (RecoverFault::Exhausted, "6 Exhausted"),
     ] {
-        same(&rt, format!(in rt.alloc(); "{fault}")?.as_str(), want);
+        prints(&rt, &fault, want);
     }
     for (fault, want) in [
         (InitFault::NotEmpty, "1 NotEmpty"),
         (InitFault::Device, "2 Device"),
         (InitFault::Range, "3 Range"),
     ] {
-        same(&rt, format!(in rt.alloc(); "{fault}")?.as_str(), want);
+        prints(&rt, &fault, want);
     }
     for (fault, want) in [
         (SaveFault::Device, "1 Device"),
         (SaveFault::Changed, "2 Changed"),
         (SaveFault::Exhausted, "3 Exhausted"),
     ] {
-        same(&rt, format!(in rt.alloc(); "{fault}")?.as_str(), want);
+        prints(&rt, &fault, want);
     }
-    Ok(())
 }
