@@ -1,7 +1,7 @@
 //! A member of a SWIM group that no restart harms, for programs that embed one: every name that such a program needs, from the
 //! crates that have them. Their contracts say what is promised; docs/NODE.md has the rules of a call, of eras and of lives.
 //!
-//! The code below stands in `src/tests`, where it is compiled and run, but for the last program.
+//! The code below stands in `crates/swim_thread_tests/src/embedded`, where it is compiled and run, but for the last program.
 //!
 //! # Driven by hand
 //!
@@ -237,6 +237,3 @@ pub use swim_net::{SocketAlarm, TcpDoors, UdpInbound, UdpLink, Waits, address_of
 pub use arrayvec::ArrayVec;
 pub use rand_chacha::ChaCha20Rng;
 pub use rand_core::SeedableRng;
-
-#[cfg(test)]
-mod tests;

@@ -14,7 +14,7 @@ const EVERY_LIMIT: u64 = 3_600_000;
 const RUNS_LIMIT: u64 = 100_000;
 
 /// What the words ask for.
-#[derive(Clone, Copy, Debug, PartialEq, Eq)]
+#[derive(Clone, Copy, Debug)]
 pub enum Subcommand<'a> {
     /// A new state file.
     Init {
@@ -313,56 +313,83 @@ fn last_words<'a>(words: &'a [String], matches: &ArgMatches<'a>) -> Option<&'a [
     words.get(first..)
 }
 
+/// What the words after `init` ask for.
+fn init<'a>(words: &ArgMatches<'a>) -> Option<Subcommand<'a>> {
+    let group = words.get_one::<u64>("group")?;
+    let ceiling = words.get_one::<u64>("ceiling")?;
+    Some(Subcommand::Init {
+        file: text(words, "file"),
+        group,
+        me: text(words, "me"),
+        ceiling,
+    })
+}
+
+/// What the words after `watch` ask for.
+fn watch<'a>(words: &ArgMatches<'a>) -> Option<Subcommand<'a>> {
+    let every = words.get_one::<u64>("every")?;
+    Some(Subcommand::Watch {
+        to: text(words, "addr"),
+        as_json: words.get_flag("json"),
+        every,
+        once: words.get_flag("once"),
+    })
+}
+
+/// What the words after `explain` ask for, which are among all words.
+fn explain<'a>(words: &ArgMatches<'a>, all: &'a [String]) -> Option<Subcommand<'a>> {
+    let files = last_words(all, words)?;
+    Some(Subcommand::Explain {
+        member: text(words, "member"),
+        files,
+        as_json: words.get_flag("json"),
+    })
+}
+
+/// What the words after `simulate` ask for.
+fn simulate<'a>(words: &ArgMatches<'a>) -> Option<Subcommand<'a>> {
+    let seed = words.get_one::<u64>("seed")?;
+    let runs = words.get_one::<u64>("runs")?;
+    Some(Subcommand::Simulate {
+        plan: words.get_str("plan"),
+        seed,
+        runs,
+        csv: words.get_str("csv"),
+        svg: words.get_str("svg"),
+        sweep: words.get_str("sweep"),
+    })
+}
+
 /// What the matched words ask for.
 fn chosen<'a>(matches: &ArgMatches<'a>, all: &'a [String]) -> Option<Subcommand<'a>> {
-    match matches.subcommand()? {
-        ("init", words) => Some(Subcommand::Init {
-            file: text(words, "file"),
-            group: words.get_one::<u64>("group")?,
-            me: text(words, "me"),
-            ceiling: words.get_one::<u64>("ceiling")?,
-        }),
-        ("run", words) => Some(Subcommand::Run {
+    let (name, words) = matches.subcommand()?;
+    match name {
+        "init" => init(words),
+        "run" => Some(Subcommand::Run {
             config: text(words, "config"),
         }),
-        ("ctl", words) => Some(Subcommand::Ctl {
+        "ctl" => Some(Subcommand::Ctl {
             to: text(words, "addr"),
             line: text(words, "line"),
             as_json: words.get_flag("json"),
         }),
-        ("members", words) => Some(Subcommand::Members {
+        "members" => Some(Subcommand::Members {
             to: text(words, "addr"),
             as_json: words.get_flag("json"),
         }),
-        ("watch", words) => Some(Subcommand::Watch {
-            to: text(words, "addr"),
-            as_json: words.get_flag("json"),
-            every: words.get_one::<u64>("every")?,
-            once: words.get_flag("once"),
-        }),
-        ("web", words) => Some(Subcommand::Web {
+        "watch" => watch(words),
+        "web" => Some(Subcommand::Web {
             of: text(words, "of"),
             listen: text(words, "listen"),
         }),
-        ("show", words) => Some(Subcommand::Show {
+        "show" => Some(Subcommand::Show {
             file: text(words, "file"),
             as_json: words.get_flag("json"),
         }),
-        ("explain", words) => Some(Subcommand::Explain {
-            member: text(words, "member"),
-            files: last_words(all, words)?,
-            as_json: words.get_flag("json"),
-        }),
-        ("play", _) => Some(Subcommand::Play),
-        ("check", _) => Some(Subcommand::Check),
-        ("simulate", words) => Some(Subcommand::Simulate {
-            plan: words.get_str("plan"),
-            seed: words.get_one::<u64>("seed")?,
-            runs: words.get_one::<u64>("runs")?,
-            csv: words.get_str("csv"),
-            svg: words.get_str("svg"),
-            sweep: words.get_str("sweep"),
-        }),
+        "explain" => explain(words, all),
+        "play" => Some(Subcommand::Play),
+        "check" => Some(Subcommand::Check),
+        "simulate" => simulate(words),
         _ => None,
     }
 }

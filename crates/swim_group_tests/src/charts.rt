@@ -4,6 +4,7 @@ use std::test::Fail;
 use swim_charts::{
     Curve, Drawing, Spread, Tally, Thousandths, Tiles, Views, of_hundred, spread_of,
 };
+use swim_same::{holds_at, same, same_at};
 
 #[test]
 fn ranks_are_the_nearest(rt: HostRuntime) {
@@ -19,9 +20,9 @@ fn ranks_are_the_nearest(rt: HostRuntime) {
     ];
     for (percent, value) in rows {
         let found = of_hundred(&[10, 20, 30, 40], percent);
-        assert_eq!(rt; found, Some(value), "{percent}");
+        same_at(&rt, &percent, found, Some(value));
     }
-    assert_eq!(rt; of_hundred(&[], 50), None);
+    same(&rt, of_hundred(&[], 50), None);
 }
 
 #[test]
@@ -32,15 +33,15 @@ fn a_spread_has_its_ends_and_its_middle(rt: HostRuntime) -> Result<(), Fail> {
         median: 4,
         greatest: 9,
     };
-    assert_eq!(rt; spread_of(values)?, Some(found));
-    assert_eq!(rt; spread_of(Vec::new(rt.alloc()))?, None);
+    same(&rt, spread_of(values)?, Some(found));
+    same(&rt, spread_of(Vec::new(rt.alloc()))?, None);
     Ok(())
 }
 
 #[test]
 fn thousandths_have_three_decimals(rt: HostRuntime) -> Result<(), Fail> {
     let text = format!(in rt.alloc(); "{} {}", Thousandths(7), Thousandths(12_340))?;
-    assert_eq!(rt; text.as_str(), "0.007 12.340");
+    same(&rt, text.as_str(), "0.007 12.340");
     Ok(())
 }
 
@@ -73,7 +74,7 @@ fn views_are_rectangles_as_long_as_they_last(rt: HostRuntime) -> Result<(), Fail
         "<text class=\"mid\" x=\"980\" y=\"60\">3 s</text>\n",
     ];
     for row in rows {
-        assert!(rt; text.as_str().contains(row), "{text}");
+        holds_at(&rt, &text, text.as_str().contains(row));
     }
     Ok(())
 }
@@ -88,7 +89,7 @@ fn curves_go_up_at_their_values(rt: HostRuntime) -> Result<(), Fail> {
     drawing.curves(rt.alloc(), &[curve])?;
     let text = drawing.end(rt.alloc())?;
     // half of them at half of the way
-    assert!(rt; text.as_str().contains("H530V130H980V128"), "{text}");
+    holds_at(&rt, &text, text.as_str().contains("H530V130H980V128"));
     Ok(())
 }
 
@@ -107,7 +108,7 @@ fn the_greatest_tile_is_the_deepest(rt: HostRuntime) -> Result<(), Fail> {
     drawing.tiles(alloc, &tiles)?;
     let text = drawing.end(alloc)?;
     for row in ["\"0.35\"", "\"0.70\"", ">0.500<", ">1.000<"] {
-        assert!(rt; text.as_str().contains(row), "{text}");
+        holds_at(&rt, &text, text.as_str().contains(row));
     }
     Ok(())
 }

@@ -4,6 +4,7 @@ use std::alloc::{AllocError, Global};
 use std::process::Abort;
 use swim_check::{LineFault, Stop, check};
 use swim_group::Breach;
+use swim_same::{same, same_at};
 use swim_wire::{Endpoint, Update, UpdateKind, WireFault};
 
 /// 10.0.0.1:7000 pings 10.0.0.2:7000, and says Alive of itself with the number 3.
@@ -44,15 +45,16 @@ fn keeps_or_breaks_the_law(rt: HostRuntime) {
         number: 3,
         ..passed
     };
-    assert_eq!(rt; says(rt.alloc(), &[]), Some(Ok(0)));
-    assert_eq!(rt; says(rt.alloc(), &[TELLS, REPEATS, TELLS]), Some(Ok(3)));
+    same(&rt, says(rt.alloc(), &[]), Some(Ok(0)));
+    same(&rt, says(rt.alloc(), &[TELLS, REPEATS, TELLS]), Some(Ok(3)));
     let broken = Stop::Broken(3, passed, Breach::Passed);
-    assert_eq!(rt;
+    same(
+        &rt,
         says(rt.alloc(), &[TELLS, REPEATS, PASSES]),
-        Some(Err(broken))
+        Some(Err(broken)),
     );
     let early = Stop::Broken(1, repeated, Breach::Passed);
-    assert_eq!(rt; says(rt.alloc(), &[REPEATS, TELLS]), Some(Err(early)));
+    same(&rt, says(rt.alloc(), &[REPEATS, TELLS]), Some(Err(early)));
 }
 
 #[test]
@@ -68,15 +70,16 @@ fn refuses_lines(rt: HostRuntime) {
         ),
     ];
     for (line, fault) in rows {
-        assert_eq!(rt;
+        same_at(
+            &rt,
+            &line,
             says(rt.alloc(), &[TELLS, line]),
             Some(Err(Stop::Line(2, fault))),
-            "{line}"
         );
     }
     // its datagram is by 10.0.0.1:7000
     let other =
         "10.0.0.3:7000 5357494d010101000000000000000007000000010a0000011b580a0000021b5801000a0000011b580000000000000003\n";
     let sender = Stop::Line(1, LineFault::Sender);
-    assert_eq!(rt; says(rt.alloc(), &[other]), Some(Err(sender)));
+    same(&rt, says(rt.alloc(), &[other]), Some(Err(sender)));
 }

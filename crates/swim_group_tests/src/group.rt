@@ -8,6 +8,7 @@ use swim_disk::Choice;
 use swim_group::{Breach, CheckFault, Checker, Failure, Group, GroupFault, Nodes, NodesFault};
 use swim_member::{Deal, Event, Out, Settings, SettingsFault};
 use swim_node::Save;
+use swim_same::{holds, same, same_at};
 use swim_wire::{Datagram, Endpoint, Update, UpdateKind};
 
 /// The endpoint 10.0.0.`last`:7000.
@@ -117,10 +118,10 @@ fn begins_anew_and_is_believed(rt: HostRuntime) {
         (Lose { datagram: 4 }, 4, Some(2), Some(2)),
     ];
     for (happening, kept, second, first) in rows {
-        assert_eq!(rt; apply(&mut group, happening), Ok(()), "{happening:?}");
-        assert_eq!(rt; group.kept().len(), kept, "{happening:?}");
-        assert_eq!(rt; number(&group, 1), second, "{happening:?}");
-        assert_eq!(rt; row(&group, 0), first, "{happening:?}");
+        same_at(&rt, &happening, apply(&mut group, happening), Ok(()));
+        same_at(&rt, &happening, group.kept().len(), kept);
+        same_at(&rt, &happening, number(&group, 1), second);
+        same_at(&rt, &happening, row(&group, 0), first);
     }
 }
 
@@ -148,22 +149,23 @@ fn refuses(rt: HostRuntime) {
         (Lose { datagram: 0 }, GroupFault::NoDatagram),
     ];
     for (happening, fault) in rows {
-        assert_eq!(rt; apply(&mut group, happening), Err(fault), "{happening:?}");
+        same_at(&rt, &happening, apply(&mut group, happening), Err(fault));
     }
 }
 
 #[test]
 fn begins_with_sound_settings_and_names_apart(rt: HostRuntime) {
     let twice = [settings(1), settings(2), settings(1)];
-    assert_eq!(rt;
+    same(
+        &rt,
         Group::new(rt.alloc(), &twice, 8).err(),
-        Some(GroupFault::SameName)
+        Some(GroupFault::SameName),
     );
     let mut odd = [settings(1), settings(2)];
     odd[1].suspect = 0;
     let unsound = GroupFault::Unsound(SettingsFault::Suspect);
-    assert_eq!(rt; Group::new(rt.alloc(), &odd, 8).err(), Some(unsound));
-    assert!(rt; Group::new(rt.alloc(), &[], 8).is_ok());
+    same(&rt, Group::new(rt.alloc(), &odd, 8).err(), Some(unsound));
+    holds(&rt, Group::new(rt.alloc(), &[], 8).is_ok());
 }
 
 /// The first number of a node's life.
@@ -185,23 +187,29 @@ fn a_node_crashes_and_is_opened_anew(rt: HostRuntime) {
     let mut group = Nodes::new(rt.alloc(), &both, 8, 8)
         .ok()
         .expect(&rt, "memory");
-    assert_eq!(rt; shown(&group, 1), Some((1, 0)));
-    assert!(rt; group.step(1, Event::Join { peer: endpoint(1) }).is_ok());
-    assert!(rt; group.deliver(0, 0).is_ok());
-    assert_eq!(rt; shown(&group, 0), Some((1, 1)));
+    same(&rt, shown(&group, 1), Some((1, 0)));
+    holds(
+        &rt,
+        group.step(1, Event::Join { peer: endpoint(1) }).is_ok(),
+    );
+    holds(&rt, group.deliver(0, 0).is_ok());
+    same(&rt, shown(&group, 0), Some((1, 1)));
     let born = first(&group, 1);
     for choice in [Choice::Keep, Choice::Drop, Choice::Fill(7)] {
         let before = first(&group, 1);
-        assert_eq!(rt; group.crash(1, choice), Ok(()));
-        assert!(rt; before < first(&group, 1));
+        same(&rt, group.crash(1, choice), Ok(()));
+        holds(&rt, before < first(&group, 1));
     }
-    assert!(rt; born < first(&group, 1));
+    holds(&rt, born < first(&group, 1));
     // it knows nobody, and says its new number, which the other takes
-    assert!(rt; group.step(1, Event::Join { peer: endpoint(1) }).is_ok());
+    holds(
+        &rt,
+        group.step(1, Event::Join { peer: endpoint(1) }).is_ok(),
+    );
     let last = group.kept().len();
-    assert!(rt; last > 0);
-    assert!(rt; group.deliver(0, last - 1).is_ok());
-    assert_eq!(rt; shown(&group, 0), Some((1, 1)));
+    holds(&rt, last > 0);
+    holds(&rt, group.deliver(0, last - 1).is_ok());
+    same(&rt, shown(&group, 0), Some((1, 1)));
 }
 
 #[test]
@@ -210,14 +218,18 @@ fn nodes_refuse(rt: HostRuntime) {
     let mut group = Nodes::new(rt.alloc(), &both, 1, 8)
         .ok()
         .expect(&rt, "memory");
-    assert_eq!(rt; group.step(2, Event::Leave).err(), Some(NodesFault::NoNode));
-    assert_eq!(rt; group.deliver(0, 0).err(), Some(NodesFault::NoDatagram));
-    assert_eq!(rt; group.crash(2, Choice::Keep), Err(NodesFault::NoNode));
-    assert!(rt; group.step(0, Event::Leave).is_ok());
+    same(
+        &rt,
+        group.step(2, Event::Leave).err(),
+        Some(NodesFault::NoNode),
+    );
+    same(&rt, group.deliver(0, 0).err(), Some(NodesFault::NoDatagram));
+    same(&rt, group.crash(2, Choice::Keep), Err(NodesFault::NoNode));
+    holds(&rt, group.step(0, Event::Leave).is_ok());
     // the era has its one entry
-    assert!(rt; group.step(0, Event::Leave).is_err());
-    assert_eq!(rt; group.end_era(0), Ok(()));
-    assert!(rt; group.step(0, Event::Leave).is_ok());
+    holds(&rt, group.step(0, Event::Leave).is_err());
+    same(&rt, group.end_era(0), Ok(()));
+    holds(&rt, group.step(0, Event::Leave).is_ok());
 }
 
 /// What became of the ceiling at the last event of a node, if it had any.
@@ -250,10 +262,13 @@ fn a_planned_sync_fails_once(rt: HostRuntime) {
         .ok()
         .expect(&rt, "memory");
     let sync = Failure::Sync(1);
-    assert_eq!(rt; group.plan_failure(2, sync), Err(NodesFault::NoNode));
-    assert!(rt; group.step(1, Event::Join { peer: endpoint(1) }).is_ok());
-    assert!(rt; group.deliver(0, 0).is_ok());
-    assert_eq!(rt; group.plan_failure(1, sync), Ok(()));
+    same(&rt, group.plan_failure(2, sync), Err(NodesFault::NoNode));
+    holds(
+        &rt,
+        group.step(1, Event::Join { peer: endpoint(1) }).is_ok(),
+    );
+    holds(&rt, group.deliver(0, 0).is_ok());
+    same(&rt, group.plan_failure(1, sync), Ok(()));
     // who is suspected wants to save a greater number, again and again until it has
     let (mut failed, mut done) = (0_u32, 0_u32);
     for _ in 0..40 {
@@ -267,7 +282,7 @@ fn a_planned_sync_fails_once(rt: HostRuntime) {
             break;
         }
     }
-    assert_eq!(rt; (failed, done), (1, 1));
+    same(&rt, (failed, done), (1, 1));
 }
 
 #[test]
@@ -282,10 +297,10 @@ fn after_a_crash_nothing_is_planned(rt: HostRuntime) {
         Failure::TornWrite(1),
         Failure::Sync(1),
     ] {
-        assert_eq!(rt; group.plan_failure(0, failure), Ok(()));
-        assert_eq!(rt; group.crash(0, Choice::Keep), Ok(()));
+        same(&rt, group.plan_failure(0, failure), Ok(()));
+        same(&rt, group.crash(0, Choice::Keep), Ok(()));
     }
-    assert!(rt; born < first(&group, 0));
+    holds(&rt, born < first(&group, 0));
 }
 
 /// A datagram of 10.0.0.`sender`:7000 that says this.
@@ -330,10 +345,11 @@ fn checks(rt: HostRuntime) {
             number,
         };
         let datagram = says(sender % 200, &update);
-        assert_eq!(rt;
+        same_at(
+            &rt,
+            &(sender, about, number),
             checker.check(&datagram),
             answer(&update, breach),
-            "{sender} {about} {number}"
         );
     }
 }

@@ -1,5 +1,5 @@
-//! The tests of groups, of their checker, of simulations and of what these draw, each in a file that is named as its crate, over
-//! public calls alone.
+//! The tests of groups, of their checker, of simulations, of what these draw and of what `swim simulate` prints, each in a file that
+//! is named as its crate, over public calls alone.
 #![tactic(auto)]
 
 #[cfg(test)]
@@ -10,3 +10,5 @@ mod check;
 mod group;
 #[cfg(test)]
 mod simulate;
+#[cfg(test)]
+mod survey;

@@ -5,6 +5,7 @@ ghost use Rattle.std.specs.Prelude.{◌<◌};
 use arrayvec::ArrayVec;
 use std::alloc::{AllocError, Global};
 use std::test::Fail;
+use swim_same::{holds, holds_at, same, same_at};
 use swim_simulate::{Counts, Key, Law, Plan, endpoint_of, simulate};
 use swim_wire::{Cursor, Datagram, Kind, Rules, Update, UpdateKind};
 
@@ -36,7 +37,7 @@ fn plans_are_refused_by_key(rt: HostRuntime) -> Result<(), Fail> {
     ];
     for (text, refusal) in rows {
         let found = refusal_of(rt.alloc(), text)?;
-        assert_eq!(rt; found.as_str(), refusal, "{text}");
+        same_at(&rt, &text, found.as_str(), refusal);
     }
     Ok(())
 }
@@ -44,23 +45,24 @@ fn plans_are_refused_by_key(rt: HostRuntime) -> Result<(), Fail> {
 #[test]
 fn a_default_plan_has_fifty_members(rt: HostRuntime) {
     let plan = Plan::default();
-    assert_eq!(rt; plan.get(Key::Members), 50);
-    assert_eq!(rt; plan.get(Key::Loss), 2);
-    assert_eq!(rt; plan.ticks(), 6000);
-    assert_eq!(rt; plan.kill_tick(0), 1500);
-    assert_eq!(rt; plan.kill_tick(2), 4500);
+    same(&rt, plan.get(Key::Members), 50);
+    same(&rt, plan.get(Key::Loss), 2);
+    same(&rt, plan.ticks(), 6000);
+    same(&rt, plan.kill_tick(0), 1500);
+    same(&rt, plan.kill_tick(2), 4500);
 }
 
 #[test]
 fn a_plan_takes_another_number_in_its_range(rt: HostRuntime) {
     let plan = Plan::default();
     let with = |key, number| plan.with(key, number).map(|plan| plan.get(key));
-    assert_eq!(rt; with(Key::Loss, 100), Some(100));
-    assert_eq!(rt; with(Key::Loss, 101), None);
-    assert_eq!(rt; with(Key::Members, 0), None);
-    assert_eq!(rt;
+    same(&rt, with(Key::Loss, 100), Some(100));
+    same(&rt, with(Key::Loss, 101), None);
+    same(&rt, with(Key::Members, 0), None);
+    same(
+        &rt,
         plan.with(Key::Loss, 9).map(|plan| plan.get(Key::Members)),
-        Some(50)
+        Some(50),
     );
 }
 
@@ -69,16 +71,16 @@ fn who_is_killed_is_confirmed(rt: HostRuntime) -> Result<(), Fail> {
     let text = b"members = 5\nminutes = 1\nloss = 0\nkills = 1\n";
     let plan = Plan::read(rt.alloc(), text)?;
     let measures = simulate(rt.alloc(), &plan, 1, 0)?.measures;
-    assert_eq!(rt; measures.kills.len(), 1);
-    assert_eq!(rt; measures.counts.lost, 0);
-    assert_eq!(rt; measures.counts.suspicions, 0);
+    same(&rt, measures.kills.len(), 1);
+    same(&rt, measures.counts.lost, 0);
+    same(&rt, measures.counts.suspicions, 0);
     for kill in measures.kills.as_slice() {
-        assert_eq!(rt; kill.tick, 300);
+        same(&rt, kill.tick, 300);
         // it is suspected within a round of probes, and confirmed 50 ticks later
         let suspected = kill.suspected.unwrap_or(0);
-        assert!(rt; 300 < suspected && suspected <= 340, "{suspected}");
-        assert_eq!(rt; kill.confirmed, Some(suspected + 50));
-        assert!(rt; kill.known >= kill.confirmed);
+        holds_at(&rt, &suspected, 300 < suspected && suspected <= 340);
+        same(&rt, kill.confirmed, Some(suspected + 50));
+        holds(&rt, kill.known >= kill.confirmed);
     }
     Ok(())
 }
@@ -88,13 +90,13 @@ fn who_is_opened_again_is_agreed_on(rt: HostRuntime) -> Result<(), Fail> {
     let text = b"members = 5\nminutes = 1\nloss = 0\nkills = 1\nrules = 2\nrestart_after = 100\n";
     let plan = Plan::read(rt.alloc(), text)?;
     let done = simulate(rt.alloc(), &plan, 1, 60)?;
-    assert_eq!(rt; done.stop, None);
+    same(&rt, done.stop, None);
     // sixty moments of five members
-    assert_eq!(rt; done.history.len(), 300);
+    same(&rt, done.history.len(), 300);
     for kill in done.measures.kills.as_slice() {
-        assert_eq!(rt; kill.back, Some(400));
-        assert!(rt; kill.known.is_some() && kill.known < kill.back, "{kill:?}");
-        assert!(rt; kill.alive > kill.back, "{kill:?}");
+        same(&rt, kill.back, Some(400));
+        holds_at(&rt, &kill, kill.known.is_some() && kill.known < kill.back);
+        holds_at(&rt, &kill, kill.alive > kill.back);
     }
     Ok(())
 }
@@ -104,10 +106,10 @@ fn who_is_paused_is_suspected_and_comes_back(rt: HostRuntime) -> Result<(), Fail
     let text = b"members = 5\nminutes = 1\nloss = 0\nkills = 0\npauses = 1\npause_for = 20\n";
     let plan = Plan::read(rt.alloc(), text)?;
     let counts = simulate(rt.alloc(), &plan, 1, 0)?.measures.counts;
-    assert_eq!(rt; counts.pauses, 1);
-    assert!(rt; counts.suspicions > 0 && counts.confirms == 0, "{counts:?}");
+    same(&rt, counts.pauses, 1);
+    holds_at(&rt, &counts, counts.suspicions > 0 && counts.confirms == 0);
     // of 600 ticks of five members each began at most nine late, and one missed twenty
-    assert!(rt; counts.ticks > 2900 && counts.ticks <= 2980, "{counts:?}");
+    holds_at(&rt, &counts, counts.ticks > 2900 && counts.ticks <= 2980);
     Ok(())
 }
 
@@ -136,14 +138,14 @@ fn ping_that_says(who: usize, number: u64) -> Datagram
 fn a_number_that_nobody_told_breaks_the_law(rt: HostRuntime) -> Result<(), Fail> {
     let mut law = Law::new(rt.alloc());
     law.look(6, &ping_that_says(0, 5))?;
-    assert_eq!(rt; law.stop(), None);
+    same(&rt, law.stop(), None);
     law.look(7, &ping_that_says(1, 5))?;
     law.look(8, &ping_that_says(2, 5))?;
     // the first one counts
     let found = law
         .stop()
         .map(|stop| (stop.tick, stop.sender, stop.update.who));
-    assert_eq!(rt; found, Some((7, endpoint_of(0), endpoint_of(1))));
+    same(&rt, found, Some((7, endpoint_of(0), endpoint_of(1))));
     Ok(())
 }
 
@@ -158,10 +160,10 @@ fn with_failing(alloc: Global, failing: u64) -> Result<Counts, Fail> {
 #[test]
 fn saves_fail_as_the_plan_says(rt: HostRuntime) -> Result<(), Fail> {
     let none = with_failing(rt.alloc(), 0)?;
-    assert!(rt; none.saves > 0 && none.failed_saves == 0, "{none:?}");
+    holds_at(&rt, &none, none.saves > 0 && none.failed_saves == 0);
     let all = with_failing(rt.alloc(), 100)?;
-    assert!(rt; all.saves == 0 && all.failed_saves > 0, "{all:?}");
+    holds_at(&rt, &all, all.saves == 0 && all.failed_saves > 0);
     let some = with_failing(rt.alloc(), 50)?;
-    assert!(rt; some.saves > 0 && some.failed_saves > 0, "{some:?}");
+    holds_at(&rt, &some, some.saves > 0 && some.failed_saves > 0);
     Ok(())
 }

@@ -142,7 +142,7 @@ pub(crate) fn brings_nothing(kind: ErrorKind) -> bool
 
 /// What a receive of the system says, whose bytes are kept if they come from an endpoint. Whoever can send a datagram can
 /// send one from port 0, so that is no failed receive, and neither is one that a signal cut short.
-pub(crate) fn take(
+pub fn take(
     received: io::Result<(usize, SocketAddr)>,
     bytes: &[u8],
     into: &mut ArrayVec<u8, RECEIVED_MAX>,

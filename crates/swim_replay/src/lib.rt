@@ -6,8 +6,6 @@ mod call;
 mod fault;
 mod met;
 mod playing;
-#[cfg(test)]
-mod tests;
 mod told;
 
 pub use fault::{RecordingFault, RecordingReason};

@@ -81,12 +81,7 @@ fn script_that_shows(
 }
 
 /// What a run did, as comments, and then the script in which one member shows where it broke the law, or else its plan.
-pub(crate) fn told(
-    alloc: Global,
-    plan: &Plan,
-    seed: u64,
-    done: &Done,
-) -> Result<String, AskedFault> {
+pub fn told(alloc: Global, plan: &Plan, seed: u64, done: &Done) -> Result<String, AskedFault> {
     let script = match &done.stop {
         Some(stop) => script_that_shows(alloc, plan, seed, stop)?,
         None => None,

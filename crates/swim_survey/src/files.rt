@@ -7,7 +7,7 @@ use std::rt::Files;
 
 /// The new files that are asked for.
 #[derive(Drop)]
-pub(crate) struct Made {
+pub struct Made {
     /// For lines.
     csv: Option<File>,
     /// For a picture.
@@ -32,7 +32,7 @@ fn write(file: &mut Option<File>, text: &str) -> Result<(), AskedFault> {
 
 impl Made {
     /// No file.
-    pub(crate) fn none() -> Made {
+    pub fn none() -> Made {
         Made {
             csv: None,
             svg: None,

@@ -6,9 +6,9 @@ use swim_simulate::{Counts, Kill, Measures};
 
 /// What was measured in some runs, together. Times are in milliseconds.
 #[derive(Drop)]
-pub(crate) struct Gathered {
+pub struct Gathered {
     /// How many kills.
-    pub(crate) kills: u64,
+    pub kills: u64,
     /// What was counted.
     pub(crate) counts: Counts,
     /// Milliseconds of members, all together.
@@ -37,7 +37,7 @@ fn times(
 
 impl Gathered {
     /// No run yet.
-    pub(crate) fn none(alloc: Global) -> Gathered {
+    pub fn none(alloc: Global) -> Gathered {
         Gathered {
             kills: 0,
             counts: Counts::zero(),
@@ -50,11 +50,7 @@ impl Gathered {
     }
 
     /// What was measured in a run, with ticks of so many milliseconds.
-    pub(crate) fn of(
-        alloc: Global,
-        measures: &Measures,
-        tick_ms: u64,
-    ) -> Result<Gathered, AllocError> {
+    pub fn of(alloc: Global, measures: &Measures, tick_ms: u64) -> Result<Gathered, AllocError> {
         let kills = measures.kills.as_slice();
         Ok(Gathered {
             kills: kills.len() as u64,
@@ -68,7 +64,7 @@ impl Gathered {
     }
 
     /// Adds what was measured in other runs.
-    pub(crate) fn add(&mut self, other: &Gathered) -> Result<(), AllocError> {
+    pub fn add(&mut self, other: &Gathered) -> Result<(), AllocError> {
         self.kills = self.kills.saturating_add(other.kills);
         self.counts.add(&other.counts);
         self.time = self.time.saturating_add(other.time);
@@ -91,7 +87,7 @@ impl Gathered {
     }
 
     /// How long a stage took, the shortest first.
-    pub(crate) fn sorted(&self, alloc: Global, stage: Stage) -> Result<Vec<u64>, AllocError> {
+    pub fn sorted(&self, alloc: Global, stage: Stage) -> Result<Vec<u64>, AllocError> {
         let mut sorted = Vec::new(alloc);
         sorted.extend_from_slice(self.times(stage))?;
         sorted.sort()?;

@@ -18,11 +18,17 @@ mod stage;
 mod sweep;
 mod sweeping;
 mod table;
-#[cfg(test)]
-mod tests;
 
 pub use asking::{Asked, answer};
+pub use broken::told;
 pub use fault::AskedFault;
-pub use placed::PlacedRefusal;
-pub use shrink::{Trial, shrunk};
-pub use sweep::{Axis, Sweep};
+pub use files::Made;
+pub use gathered::Gathered;
+pub use pictures::{draw_runs, draw_sweep};
+pub use placed::{PlacedRefusal, placed};
+pub use runs::{Runs, run_all};
+pub use shrink::{Trial, shrunk, write_plan};
+pub use stage::Stage;
+pub use sweep::{Axis, Span, Sweep, numbers_of, read_span};
+pub use sweeping::run_sweep;
+pub use table::report;

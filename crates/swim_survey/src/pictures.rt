@@ -23,12 +23,7 @@ fn curves(alloc: Global, runs: &Runs) -> Result<Vec<Curve>, AllocError> {
 }
 
 /// What was held of each member in the first run, and how long the stages took in all.
-pub(crate) fn draw_runs(
-    alloc: Global,
-    plan: &Plan,
-    seed: u64,
-    runs: Runs,
-) -> Result<String, AllocError> {
+pub fn draw_runs(alloc: Global, plan: &Plan, seed: u64, runs: Runs) -> Result<String, AllocError> {
     let mut drawing = Drawing::new(alloc);
     let mut subject = String::new(alloc);
     write_subject(&mut subject, plan, seed, 1)?;
@@ -102,7 +97,7 @@ fn cells_of(
 }
 
 /// A table of tiles for each figure. The numbers are those of the sweep, plan by plan, and of each plan figure by figure.
-pub(crate) fn draw_sweep(
+pub fn draw_sweep(
     alloc: Global,
     sweep: &Sweep,
     cells: &[Option<u64>],

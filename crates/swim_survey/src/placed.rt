@@ -42,7 +42,7 @@ fn line_of(text: &[u8], key: &str) -> Option<usize> {
 }
 
 /// A refusal of this text, with its line.
-pub(crate) fn placed(text: &[u8], refusal: PlanRefusal) -> PlacedRefusal {
+pub fn placed(text: &[u8], refusal: PlanRefusal) -> PlacedRefusal {
     let line = match &refusal {
         PlanRefusal::Key(key) => line_of(text, key.text()),
         PlanRefusal::Text(Refusal::Unknown(key)) => line_of(text, key.as_str()),

@@ -15,7 +15,7 @@ const MOMENTS: u64 = 300;
 
 /// What was measured in runs of one plan.
 #[derive(Drop)]
-pub(crate) struct Runs {
+pub struct Runs {
     /// How many runs.
     pub(crate) count: u64,
     /// All of them together.
@@ -71,7 +71,7 @@ fn one(alloc: Global, plan: &Plan, seed: u64, moments: u64) -> Result<Done, Aske
 }
 
 /// So many runs of a plan, the first one by this seed. The lines of a run go into the file when it is over.
-pub(crate) fn run_all(
+pub fn run_all(
     alloc: Global,
     plan: &Plan,
     seed: u64,

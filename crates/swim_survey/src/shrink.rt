@@ -72,7 +72,7 @@ pub fn shrunk<T: Trial>(trial: &mut T, plan: &Plan) -> Result<Plan, SimulateFaul
 }
 
 /// A plan as its text, with the keys that have another number than their default.
-pub(crate) fn write_plan(text: &mut String, plan: &Plan) -> Result<(), AllocError> {
+pub fn write_plan(text: &mut String, plan: &Plan) -> Result<(), AllocError> {
     for key in Key::ALL {
         let number = plan.get(key);
         if number != key.range().default {

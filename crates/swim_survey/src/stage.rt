@@ -4,7 +4,7 @@ use swim_simulate::Kill;
 
 /// What others notice of a kill.
 #[derive(Clone, Copy, Debug, PartialEq, Eq)]
-pub(crate) enum Stage {
+pub enum Stage {
     /// The first suspects the killed member.
     Suspected,
     /// The first holds it for failed.
@@ -35,7 +35,7 @@ impl Stage {
     }
 
     /// Ticks until it came, if it did: from the kill, or from the opening again.
-    pub(crate) fn ticks(self, kill: &Kill) -> Option<u64> {
+    pub fn ticks(self, kill: &Kill) -> Option<u64> {
         let (from, to) = match self {
             Stage::Suspected => (kill.tick, kill.suspected?),
             Stage::Confirmed => (kill.tick, kill.confirmed?),

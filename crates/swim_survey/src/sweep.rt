@@ -29,14 +29,17 @@ pub struct Sweep {
 
 /// A row of numbers: the ends, and the step, if it is said.
 #[derive(Clone, Copy, Debug, PartialEq, Eq)]
-pub(crate) struct Span {
-    pub(crate) least: u64,
-    pub(crate) most: u64,
-    pub(crate) step: Option<u64>,
+pub struct Span {
+    /// The least number.
+    pub least: u64,
+    /// The greatest one.
+    pub most: u64,
+    /// From a number to the next.
+    pub step: Option<u64>,
 }
 
 /// The row that is said by `A..B` or `A..B/STEP`, in the range of a key.
-pub(crate) fn read_span(text: &[u8], range: Range) -> Option<Span> {
+pub fn read_span(text: &[u8], range: Range) -> Option<Span> {
     let (least, rest) = split_at_byte(text, b'.')?;
     let rest = rest.strip_prefix(b".")?;
     let (most, step) = match split_at_byte(rest, b'/') {
@@ -78,7 +81,7 @@ fn parted(alloc: Global, span: Span) -> Result<Vec<u64>, AllocError> {
 }
 
 /// The numbers of a row.
-pub(crate) fn numbers_of(alloc: Global, span: Span) -> Result<Vec<u64>, AllocError> {
+pub fn numbers_of(alloc: Global, span: Span) -> Result<Vec<u64>, AllocError> {
     match span.step {
         Some(step) => stepped(alloc, span, step),
         None => parted(alloc, span),

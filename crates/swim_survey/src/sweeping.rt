@@ -75,7 +75,7 @@ fn run_choice(
 }
 
 /// So many runs of each plan of a sweep, and their table, a line a plan. A line goes into the file as soon as it is known.
-pub(crate) fn run_sweep(
+pub fn run_sweep(
     alloc: Global,
     plan: &Plan,
     sweep: &Sweep,

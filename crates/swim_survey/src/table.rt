@@ -134,12 +134,7 @@ pub(crate) fn write_subject(
 }
 
 /// The table of what was measured in so many runs by a plan, the first one with this seed.
-pub(crate) fn report(
-    alloc: Global,
-    plan: &Plan,
-    seed: u64,
-    runs: &Runs,
-) -> Result<String, AllocError> {
+pub fn report(alloc: Global, plan: &Plan, seed: u64, runs: &Runs) -> Result<String, AllocError> {
     let mut text = String::new(alloc);
     write_subject(&mut text, plan, seed, runs.count)?;
     writeln!(text)?;

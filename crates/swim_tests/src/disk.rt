@@ -5,6 +5,7 @@ use std::process::Abort;
 use std::test::Fail;
 use std::{fs, thread};
 use swim_disk::{Choice, Disk, DiskFault, FaultDisk, FileDisk, MOST_BYTES, MemDisk, Plan};
+use swim_same::{holds, same, same_at};
 
 /// The bytes 1 to 4, synced, and then a write of 8 and 9 at offset 3.
 fn written(alloc: Global) -> Result<MemDisk, Fail> {
@@ -23,7 +24,7 @@ fn crash_leaves_what_was_chosen(rt: HostRuntime) -> Result<(), Fail> {
         (Choice::Fill(0xa5), [1, 2, 3, 0xa5, 0xa5].as_slice()),
     ] {
         let left = written(rt.alloc())?.crash(choice);
-        assert_eq!(rt; left.bytes()?.as_slice(), want, "{choice:?}");
+        same_at(&rt, &choice, left.bytes()?.as_slice(), want);
     }
     Ok(())
 }
@@ -36,14 +37,14 @@ fn memory_ends(rt: HostRuntime) -> Result<(), Fail> {
         (4, Err(DiskFault::PastEnd)),
         (u64::MAX, Err(DiskFault::PastEnd)),
     ] {
-        assert_eq!(rt; disk.read_at(at, &mut [0; 2]), want, "at {at}");
+        same_at(&rt, &at, disk.read_at(at, &mut [0; 2]), want);
     }
     for (at, want) in [
         (MOST_BYTES - 1, Ok(())),
         (MOST_BYTES, Err(DiskFault::NoRoom)),
         (u64::MAX, Err(DiskFault::NoRoom)),
     ] {
-        assert_eq!(rt; disk.write_at(at, &[1]), want, "at {at}");
+        same_at(&rt, &at, disk.write_at(at, &[1]), want);
     }
     Ok(())
 }
@@ -56,17 +57,19 @@ fn later_writes_hide_earlier_ones(rt: HostRuntime) -> Result<(), Fail> {
         disk.write_at(u64::from(at), &[at])?;
         disk.sync()?;
     }
-    assert_eq!(rt; disk.bytes()?.as_slice(), [0, 1, 2, 3, 4].as_slice());
+    same(&rt, disk.bytes()?.as_slice(), [0, 1, 2, 3, 4].as_slice());
     disk.write_at(1, &[7, 7, 7])?;
     disk.sync()?;
     disk.write_at(8, &[9])?;
-    assert_eq!(rt;
+    same(
+        &rt,
         disk.bytes()?.as_slice(),
-        [0, 7, 7, 7, 4, 0, 0, 0, 9].as_slice()
+        [0, 7, 7, 7, 4, 0, 0, 0, 9].as_slice(),
     );
-    assert_eq!(rt;
+    same(
+        &rt,
         disk.crash(Choice::Drop).bytes()?.as_slice(),
-        [0, 7, 7, 7, 4].as_slice()
+        [0, 7, 7, 7, 4].as_slice(),
     );
     Ok(())
 }
@@ -80,7 +83,7 @@ fn overwritten_bytes_stand(rt: HostRuntime) -> Result<(), Fail> {
         (Choice::Fill(0xa5), [1, 2, 3, 7, 0xa5].as_slice()),
     ] {
         let disk = written(rt.alloc())?.overwritten(3, &[7])?;
-        assert_eq!(rt; disk.crash(choice).bytes()?.as_slice(), want, "{choice:?}");
+        same_at(&rt, &choice, disk.crash(choice).bytes()?.as_slice(), want);
     }
     Ok(())
 }
@@ -123,8 +126,8 @@ fn fails_by_plan(rt: HostRuntime) -> Result<(), Fail> {
         let (mut disk, plan) = planned(&rt, rt.alloc());
         trouble(&plan, k);
         let want = want.map(|fails| fails == 1);
-        assert_eq!(rt; failing(&mut disk), want, "{k}");
-        assert_eq!(rt; plan.calls(), 8);
+        same_at(&rt, &k, failing(&mut disk), want);
+        same(&rt, plan.calls(), 8);
     }
     Ok(())
 }
@@ -135,9 +138,9 @@ fn tears_in_the_middle(rt: HostRuntime) -> Result<(), Fail> {
     for (count, want) in [(1, 1), (2, 1), (3, 2), (16, 8)] {
         let (mut disk, plan) = planned(&rt, rt.alloc());
         plan.tear_write(1);
-        assert!(rt; count <= 16);
-        assert!(rt; disk.write_at(0, &[7; 16][..count]).is_err());
-        assert_eq!(rt; disk.inner().bytes()?.as_slice(), &[7; 16][..want]);
+        holds(&rt, count <= 16);
+        holds(&rt, disk.write_at(0, &[7; 16][..count]).is_err());
+        same(&rt, disk.inner().bytes()?.as_slice(), &[7; 16][..want]);
     }
     Ok(())
 }
@@ -148,7 +151,7 @@ fn holds_a_sync_for_its_turns(rt: HostRuntime) -> Result<(), Fail> {
     let (mut disk, plan) = planned(&rt, rt.alloc());
     plan.hold_sync();
     disk.sync()?;
-    assert!(rt; !plan.is_held());
+    holds(&rt, !plan.is_held());
     Ok(())
 }
 
@@ -172,7 +175,7 @@ fn another_thread_lets_a_sync_go_on(rt: HostRuntime) -> Result<(), Fail> {
         .ok()
         .expect(&rt, "a thread");
     disk.sync()?;
-    assert!(rt; other.join(&rt));
+    holds(&rt, other.join(&rt));
     Ok(())
 }
 
@@ -185,9 +188,9 @@ fn file_reads_back(rt: HostRuntime) -> Result<(), Fail> {
     let mut again = FileDisk::open(rt.alloc(), &rt, "disk")?;
     let mut bytes = [1; 5];
     again.read_at(0, &mut bytes)?;
-    assert_eq!(rt; bytes, [0, 0, 0, 8, 9]);
-    assert_eq!(rt; again.len()?, 5);
-    assert_eq!(rt; again.read_at(4, &mut bytes), Err(DiskFault::PastEnd));
+    same(&rt, bytes, [0, 0, 0, 8, 9]);
+    same(&rt, again.len()?, 5);
+    same(&rt, again.read_at(4, &mut bytes), Err(DiskFault::PastEnd));
     fs::remove_file(&rt, "disk")?;
     Ok(())
 }

@@ -3,6 +3,7 @@
 use arrayvec::ArrayVec;
 use std::process::Abort;
 use swim_gossip::{BUCKETS_MAX, Buffer, Visits, WAITING_MAX};
+use swim_same::{holds, same};
 use swim_wire::{Endpoint, UPDATES_MAX, Update, UpdateKind};
 
 mod drawn;
@@ -21,7 +22,7 @@ fn alive(last: u16) -> Update {
 
 /// Lets an update begin to wait, where there is room for one more.
 pub(crate) fn begin(rt: &impl Abort, buffer: &mut Buffer, update: Update) {
-    assert!(rt; buffer.len() < WAITING_MAX);
+    holds(rt, buffer.len() < WAITING_MAX);
     buffer.offer(update, &mut Visits::new());
 }
 
@@ -32,10 +33,10 @@ pub(crate) fn pick(
     limit: u32,
     room: usize,
 ) -> ArrayVec<Update, UPDATES_MAX> {
-    assert!(rt; room <= UPDATES_MAX && limit <= buffer.most());
+    holds(rt, room <= UPDATES_MAX && limit <= buffer.most());
     let mut visits = Visits::new();
     let updates = buffer.pick(limit, room, &mut visits);
-    assert!(rt; visits.made() <= 975);
+    holds(rt, visits.made() <= 975);
     updates
 }
 
@@ -82,9 +83,24 @@ fn ten_pings(rt: HostRuntime) {
             begin(&rt, &mut buffer, update(kind, 3, number));
         }
         let picked = pick(&rt, &mut buffer, limit, UPDATES_MAX);
-        assert!(rt; picked.len() <= 2);
-        assert_eq!(rt; [at(&picked, 0), at(&picked, 1)], wanted);
+        holds(&rt, picked.len() <= 2);
+        same(&rt, [at(&picked, 0), at(&picked, 1)], wanted);
     }
+}
+
+/// Whether these say that 10.0.0.1 is alive, and then 10.0.1.1 and those after it.
+fn are_in_order(updates: &[Update]) -> bool {
+    for (place, update) in updates.iter().enumerate() {
+        let last = if place == 0 {
+            1
+        } else {
+            256 + (place % 256) as u16
+        };
+        if *update != alive(last) {
+            return false;
+        }
+    }
+    true
 }
 
 #[test]
@@ -93,19 +109,15 @@ fn thirty_updates(rt: HostRuntime) {
     for last in 257..287u16 {
         begin(&rt, &mut buffer, alive(last));
     }
-    assert_eq!(rt; buffer.len(), 31);
+    same(&rt, buffer.len(), 31);
     let first = pick(&rt, &mut buffer, 10, UPDATES_MAX);
+    holds(&rt, first.is_full() && are_in_order(&first));
     let second = pick(&rt, &mut buffer, 10, UPDATES_MAX);
-    let mut last = 256u16;
-    for update in first.as_slice() {
-        let wanted = if last == 256 { alive(1) } else { alive(last) };
-        assert_eq!(rt; *update, wanted);
-        last = last.wrapping_add(1);
-    }
-    assert_eq!(rt; last, 286);
-    assert_eq!(rt; second.len(), UPDATES_MAX);
-    assert_eq!(rt; &second[..3], [alive(286), alive(1), alive(257)].as_slice());
-    assert_eq!(rt; second[29], alive(284));
+    let is_second = match second.as_slice() {
+        [left, rest @ ..] => *left == alive(286) && are_in_order(rest),
+        [] => false,
+    };
+    holds(&rt, second.is_full() && is_second);
 }
 
 #[test]
@@ -113,14 +125,16 @@ fn removed(rt: HostRuntime) {
     let mut buffer = waiting(&rt, &[alive(1), alive(3), alive(4)]);
     buffer.remove(alive(3).who, &mut Visits::new());
     buffer.remove(alive(3).who, &mut Visits::new());
-    assert_eq!(rt; buffer.len(), 2);
-    assert_eq!(rt; pick(&rt, &mut buffer, 9, 0).len(), 0);
-    assert_eq!(rt;
+    same(&rt, buffer.len(), 2);
+    same(&rt, pick(&rt, &mut buffer, 9, 0).len(), 0);
+    same(
+        &rt,
         pick(&rt, &mut buffer, 9, 1).as_slice(),
-        [alive(1)].as_slice()
+        [alive(1)].as_slice(),
     );
-    assert_eq!(rt;
+    same(
+        &rt,
         pick(&rt, &mut buffer, 9, 30).as_slice(),
-        [alive(4), alive(1)].as_slice()
+        [alive(4), alive(1)].as_slice(),
     );
 }

@@ -4,7 +4,8 @@ ghost use Rattle.swim_member.specs.Checks.{AreSound};
 
 use arrayvec::ArrayVec;
 use std::test::Fail;
-use swim_member::{Deal, Event, Member, Phase, RECEIVED_MAX, Settings};
+use swim_member::{Deal, Event, Member, Out, Phase, RECEIVED_MAX, Settings};
+use swim_same::{holds, holds_at, same};
 use swim_wire::{Cursor, Endpoint, Kind, encode};
 
 /// 10.0.0.1:7000, the member itself.
@@ -93,24 +94,26 @@ fn settings() -> Settings
 /// What is sent in a row: to whom, and the datagram.
 type Sent = (u8, Text);
 
+/// Whether this is what is wanted, byte by byte.
+fn is_this(out: &Out, wanted: &Sent) -> bool {
+    let (to, text) = wanted;
+    if !out.datagram.is_encodable() {
+        return false;
+    }
+    let bytes = encode(&out.datagram);
+    out.to == endpoint(*to) && bytes.as_slice() == bytes_of(text).as_slice()
+}
+
 /// Takes an event with the ceiling that it wants, and says whether it sends just this, and no more
 /// than one datagram.
 fn sends(member: &mut Member, event: &Event, wanted: Option<&Sent>) -> bool {
     let granted = member.number().max(member.plan(event).unwrap_or(0));
     let answer = member.step(event, granted);
-    let Some((to, text)) = wanted else {
-        return answer.outs.is_empty();
-    };
-    let mut as_wanted = answer.outs.len() == 1;
-    for out in &answer.outs {
-        if out.datagram.is_encodable() {
-            let bytes = encode(&out.datagram);
-            as_wanted = as_wanted
-                && out.to == endpoint(*to)
-                && bytes.as_slice() == bytes_of(text).as_slice();
-        }
+    match (answer.outs.as_slice(), wanted) {
+        ([], None) => true,
+        ([out], Some(wanted)) => is_this(out, wanted),
+        _ => false,
     }
-    as_wanted
 }
 
 /// The event that a datagram came from a member.
@@ -153,7 +156,7 @@ fn pings(rt: HostRuntime) {
         for (text, wanted) in row {
             let sent = wanted.map(|text| (P, text));
             let is_sent = sends(&mut member, &received(P, text), sent.as_ref());
-            assert!(rt; is_sent, "{text:?}");
+            holds_at(&rt, &text, is_sent);
         }
     }
 }
@@ -186,7 +189,10 @@ fn a_probe(rt: HostRuntime) {
         ME,
         &[(ALIVE, ME, 1), (ALIVE, P, 1), (ALIVE, Q, 1)],
     );
-    assert!(rt; sends(&mut member, &received(P, &ping), Some(&(P, ack))));
+    holds(
+        &rt,
+        sends(&mut member, &received(P, &ping), Some(&(P, ack))),
+    );
     // The probe of P, the ping-req about it, and the next probe, after which P is suspected.
     let rows: [(usize, Sent); 3] = [
         (
@@ -218,16 +224,16 @@ fn a_probe(rt: HostRuntime) {
         ),
     ];
     for (count, wanted) in rows {
-        assert!(rt; ticks(&mut member, count, &wanted), "{wanted:?}");
+        holds_at(&rt, &wanted, ticks(&mut member, count, &wanted));
     }
-    assert_eq!(rt; member.counts().alive, 1);
-    assert_eq!(rt; member.counts().suspect, 1);
+    same(&rt, member.counts().alive, 1);
+    same(&rt, member.counts().suspect, 1);
     for _ in 0..8 {
         let granted = member.number();
         member.step(&tick(0), granted);
     }
-    assert_eq!(rt; member.counts().suspect, 1);
-    assert_eq!(rt; member.counts().confirmed, 1);
+    same(&rt, member.counts().suspect, 1);
+    same(&rt, member.counts().confirmed, 1);
 }
 
 /// Whom the member pings at an event, if anybody.
@@ -252,18 +258,19 @@ fn turns(rt: HostRuntime) {
         let mut member = Member::new(settings(), 1);
         let both = received(P, &(1, 1, P, ME, &[(ALIVE, P, 1), (ALIVE, Q, 1)]));
         let newcomer = received(P, &(1, 1, P, ME, &[(ALIVE, R, 1)]));
-        assert!(rt; pinged(&mut member, &both).is_none());
+        holds(&rt, pinged(&mut member, &both).is_none());
         for (turn, target) in wanted.iter().enumerate() {
             for _ in 0..3 {
-                assert!(rt; pinged(&mut member, &tick(0)).is_none());
+                holds(&rt, pinged(&mut member, &tick(0)).is_none());
             }
             let deal = if turn == 2 { first } else { 0 };
-            assert!(rt;
+            holds_at(
+                &rt,
+                &(first, turn),
                 pinged(&mut member, &tick(deal)) == Some(endpoint(*target)),
-                "{first} {turn}"
             );
             if turn == 0 {
-                assert!(rt; pinged(&mut member, &newcomer).is_none());
+                holds(&rt, pinged(&mut member, &newcomer).is_none());
             }
         }
     }
@@ -275,12 +282,12 @@ fn deals(rt: HostRuntime) {
     for place in 0..=255 {
         numbers[place as usize] = 255 - place;
     }
-    assert!(rt; Deal::new(numbers).is_some());
+    holds(&rt, Deal::new(numbers).is_some());
     // 0 twice, and no 255
     numbers[0] = 0;
-    assert!(rt; Deal::new(numbers).is_none());
+    holds(&rt, Deal::new(numbers).is_none());
     let deal = Deal::from_first(254);
-    assert_eq!(rt; deal.numbers()[..4], *[254, 255, 0, 1].as_slice());
+    same(&rt, &deal.numbers()[..4], [254, 255, 0, 1].as_slice());
 }
 
 #[test]
@@ -301,9 +308,10 @@ fn asked_and_asking(rt: HostRuntime) {
         (Q, (3, 1, Q, Q, &[]), None),
     ];
     for (from, text, wanted) in rows {
-        assert!(rt;
+        holds_at(
+            &rt,
+            &text,
             sends(&mut member, &received(from, &text), wanted.as_ref()),
-            "{text:?}"
         );
     }
     // A join, its page, and a leave.
@@ -320,9 +328,9 @@ fn asked_and_asking(rt: HostRuntime) {
         ),
     ];
     for (event, wanted) in rows {
-        assert!(rt; sends(&mut member, &event, wanted.as_ref()));
+        holds(&rt, sends(&mut member, &event, wanted.as_ref()));
     }
-    assert_eq!(rt; member.phase(), Phase::Left);
+    same(&rt, member.phase(), Phase::Left);
 }
 
 #[test]
@@ -342,11 +350,11 @@ fn refused_and_shown(rt: HostRuntime) {
         (Event::ReceiveFailed, 1),
     ];
     for (event, wanted) in rows {
-        assert_eq!(rt; member.plan(&event).unwrap_or(1), wanted);
+        same(&rt, member.plan(&event).unwrap_or(1), wanted);
         let granted = member.number();
         let answer = member.step(&event, granted);
-        assert_eq!(rt; answer.notes.len(), 1);
-        assert_eq!(rt; member.number(), 1);
+        same(&rt, answer.notes.len(), 1);
+        same(&rt, member.number(), 1);
     }
     let granted = member.number();
     let answer = member.step(
@@ -355,73 +363,55 @@ fn refused_and_shown(rt: HostRuntime) {
         },
         granted,
     );
-    assert_eq!(rt; answer.page.len(), 1);
-    assert!(rt; member.eligible(0).is_none());
-    assert_eq!(rt; member.settings(), settings());
+    same(&rt, answer.page.len(), 1);
+    holds(&rt, member.eligible(0).is_none());
+    same(&rt, member.settings(), settings());
+}
+
+/// Changes of settings: each of the setting whose fault has this number, to this value.
+type Changes = &'static [(u8, u32)];
+
+/// The settings with these changes.
+fn settings_with(changes: Changes) -> Settings {
+    let mut settings = settings();
+    for (number, value) in changes {
+        match number {
+            1 => settings.lambda = *value,
+            2 => settings.period = u64::from(*value),
+            3 => settings.direct = u64::from(*value),
+            4 => settings.suspect = u64::from(*value),
+            5 => settings.forget = u64::from(*value),
+            6 => settings.helpers = *value as usize,
+            7 => settings.block = u64::from(*value),
+            _ => settings.rules = *value,
+        }
+    }
+    settings
 }
 
 #[test]
 fn checked(rt: HostRuntime) -> Result<(), Fail> {
-    let good = settings();
-    let rows = [
-        (good, ""),
-        (
-            Settings {
-                lambda: 17,
-                period: 1,
-                ..good
-            },
-            "1 Lambda",
-        ),
-        (
-            Settings {
-                period: 1001,
-                ..good
-            },
-            "2 Period",
-        ),
-        (Settings { direct: 4, ..good }, "3 Direct"),
-        (Settings { suspect: 0, ..good }, "4 Suspect"),
-        (
-            Settings {
-                forget: 1_000_001,
-                ..good
-            },
-            "5 Forget",
-        ),
-        (
-            Settings {
-                helpers: 9,
-                block: 0,
-                ..good
-            },
-            "6 Helpers",
-        ),
-        (Settings { block: 0, ..good }, "7 Block"),
-        (
-            Settings {
-                block: 1024,
-                ..good
-            },
-            "",
-        ),
-        (
-            Settings {
-                block: 1025,
-                rules: 0,
-                ..good
-            },
-            "7 Block",
-        ),
-        (Settings { rules: 0, ..good }, "8 Rules"),
-        (Settings { rules: 2, ..good }, ""),
-        (Settings { rules: 3, ..good }, "8 Rules"),
+    let rows: [(Changes, &str); 13] = [
+        (&[], ""),
+        (&[(1, 17), (2, 1)], "1 Lambda"),
+        (&[(2, 1001)], "2 Period"),
+        (&[(3, 4)], "3 Direct"),
+        (&[(4, 0)], "4 Suspect"),
+        (&[(5, 1_000_001)], "5 Forget"),
+        (&[(6, 9), (7, 0)], "6 Helpers"),
+        (&[(7, 0)], "7 Block"),
+        (&[(7, 1024)], ""),
+        (&[(7, 1025), (8, 0)], "7 Block"),
+        (&[(8, 0)], "8 Rules"),
+        (&[(8, 2)], ""),
+        (&[(8, 3)], "8 Rules"),
     ];
-    for (settings, wanted) in rows {
-        match settings.check() {
-            Ok(()) => assert_eq!(rt; wanted, ""),
-            Err(fault) => assert_eq!(rt; fault.to_string(rt.alloc())?.as_str(), wanted),
-        }
+    for (changes, wanted) in rows {
+        let found = match settings_with(changes).check() {
+            Ok(()) => String::new(rt.alloc()),
+            Err(fault) => fault.to_string(rt.alloc())?,
+        };
+        same(&rt, found.as_str(), wanted);
     }
     Ok(())
 }

@@ -1,7 +1,7 @@
 //! Changes between lists of rows, and their texts, which are those of docs/OPERATIONS.md.
 
-use std::test::Fail;
 use swim_news::{Change, ChangeJson, Changes, RowJson, Rows, compare};
+use swim_same::{holds, prints, same};
 use swim_wire::{Endpoint, Update, UpdateKind};
 
 /// The row of 10.0.0.1:7000 and this number more.
@@ -20,7 +20,7 @@ fn rows_of(given: &[Update]) -> Rows {
 }
 
 #[test]
-fn gone_new_and_changed(rt: HostRuntime) -> Result<(), Fail> {
+fn gone_new_and_changed(rt: HostRuntime) {
     let old = rows_of(&[
         row(0, UpdateKind::Alive, 1),
         row(1, UpdateKind::Suspect, 2),
@@ -43,40 +43,36 @@ fn gone_new_and_changed(rt: HostRuntime) -> Result<(), Fail> {
         "member 10.0.0.6:7000 alive 2, was alive 1",
         "member 10.0.0.7:7000 suspect 9, was unknown",
     ];
-    assert_eq!(rt; changes.len(), want.len());
+    same(&rt, changes.len(), want.len());
     for (change, want) in changes.as_slice().iter().zip(want) {
-        let text = format!(in rt.alloc(); "{change}")?;
-        assert_eq!(rt; text.as_str(), want);
+        prints(&rt, change, want);
     }
-    Ok(())
 }
 
 #[test]
-fn nothing_changed(rt: HostRuntime) -> Result<(), Fail> {
+fn nothing_changed(rt: HostRuntime) {
     let rows = rows_of(&[row(0, UpdateKind::Alive, 1), row(4, UpdateKind::Suspect, 2)]);
     let mut changes = Changes::new();
     compare(&Rows::new(), &rows, &mut changes);
-    assert_eq!(rt; changes.len(), 2);
+    same(&rt, changes.len(), 2);
     compare(&rows, &rows, &mut changes);
-    assert_eq!(rt; changes.len(), 0);
+    same(&rt, changes.len(), 0);
     compare(&rows, &Rows::new(), &mut changes);
-    assert_eq!(rt; changes.len(), 2);
-    Ok(())
+    same(&rt, changes.len(), 2);
 }
 
 #[test]
-fn rows_that_are_refused(rt: HostRuntime) -> Result<(), Fail> {
+fn rows_that_are_refused(rt: HostRuntime) {
     let mut rows = rows_of(&[row(4, UpdateKind::Alive, 1)]);
     for place in [3, 4] {
-        assert!(rt; !rows.add(row(place, UpdateKind::Alive, 1)));
+        holds(&rt, !rows.add(row(place, UpdateKind::Alive, 1)));
     }
-    assert_eq!(rt; rows.as_slice().len(), 1);
-    assert_eq!(rt; rows.last(), Endpoint::new(0x0a00_0005, 7000));
-    Ok(())
+    same(&rt, rows.as_slice().len(), 1);
+    same(&rt, rows.last(), Endpoint::new(0x0a00_0005, 7000));
 }
 
 #[test]
-fn as_json(rt: HostRuntime) -> Result<(), Fail> {
+fn as_json(rt: HostRuntime) {
     for (change, want) in [
         (
             Change::Changed {
@@ -94,15 +90,9 @@ fn as_json(rt: HostRuntime) -> Result<(), Fail> {
             r#"{"member":"10.0.0.2:7000","now":null,"was":{"kind":"suspect","number":2}}"#,
         ),
     ] {
-        let json = ChangeJson(change);
-        let text = format!(in rt.alloc(); "{json}")?;
-        assert_eq!(rt; text.as_str(), want);
+        prints(&rt, &ChangeJson(change), want);
     }
     let json = RowJson(row(1, UpdateKind::Alive, 3));
-    let text = format!(in rt.alloc(); "{json}")?;
-    assert_eq!(rt;
-        text.as_str(),
-        r#"{"member":"10.0.0.2:7000","kind":"alive","number":3}"#
-    );
-    Ok(())
+    let want = r#"{"member":"10.0.0.2:7000","kind":"alive","number":3}"#;
+    prints(&rt, &json, want);
 }

@@ -8,6 +8,7 @@ use std::process::Abort;
 use swim_disk::{FaultDisk, MemDisk, Plan};
 use swim_member::{Deal, Event, Settings};
 use swim_node::{ApplyFault, MemoryLink, Node, OpenFault, Save, Tag, listed_are_probed_once, run};
+use swim_same::{holds, same, same_at};
 use swim_state::{Owner, RecoverFault, init};
 use swim_wire::{Cursor, Datagram, Endpoint, Kind, NUMBER_MAX, Rules, Update, UpdateKind, encode};
 
@@ -15,7 +16,7 @@ type Device = FaultDisk<MemDisk>;
 
 /// The endpoint 10.0.0.LAST:7000.
 fn endpoint(rt: &impl Abort, last: u32) -> Endpoint {
-    assert!(rt; last < 256);
+    holds(rt, last < 256);
     Endpoint::new(0x0a00_0000 + last, 7000).expect(rt, "a port")
 }
 
@@ -38,7 +39,7 @@ fn made(rt: &impl Abort, alloc: Global) -> (Device, Plan) {
         group: 7,
         me: endpoint(rt, 1),
     };
-    assert!(rt; init(&mut disk, owner, 0).is_ok());
+    holds(rt, init(&mut disk, owner, 0).is_ok());
     (disk, plan)
 }
 
@@ -61,7 +62,7 @@ fn opened(rt: &impl Abort, alloc: Global, limit: u32) -> (Node<Device>, Plan) {
 fn ping(rt: &impl Abort, seq: u32, updates: &[Update]) -> Event {
     let from = endpoint(rt, 2);
     let mut carried = ArrayVec::new();
-    assert!(rt; carried.try_extend_from_slice(updates).is_ok());
+    holds(rt, carried.try_extend_from_slice(updates).is_ok());
     let datagram = Datagram {
         version: Rules::One,
         kind: Kind::Ping,
@@ -71,9 +72,9 @@ fn ping(rt: &impl Abort, seq: u32, updates: &[Update]) -> Event {
         subject: Cursor::at(endpoint(rt, 1)),
         updates: carried,
     };
-    assert!(rt; datagram.is_encodable());
+    holds(rt, datagram.is_encodable());
     let mut bytes = ArrayVec::new();
-    assert!(rt; bytes.try_extend_from_slice(&encode(&datagram)).is_ok());
+    holds(rt, bytes.try_extend_from_slice(&encode(&datagram)).is_ok());
     Event::Datagram { from, bytes }
 }
 
@@ -91,7 +92,7 @@ fn refused_opens(rt: HostRuntime) {
         let (_, fault) = Node::open(rt.alloc(), disk, settings, limit)
             .err()
             .expect(&rt, "a refusal");
-        assert_eq!(rt; fault, want);
+        same(&rt, fault, want);
     }
 }
 
@@ -106,9 +107,9 @@ fn three_pings_into_an_era_of_two(rt: HostRuntime) {
         (Tag { caller: 0, turn: 3 }, ping(&rt, 3, &[])),
     ];
     let ran = run(&mut node, &mut link, &calls);
-    assert_eq!(rt; ran, Err((2, ApplyFault::EraFull)));
-    assert_eq!(rt; node.len(), 2);
-    assert_eq!(rt; link.taken().len(), 2);
+    same(&rt, ran, Err((2, ApplyFault::EraFull)));
+    same(&rt, node.len(), 2);
+    same(&rt, link.taken().len(), 2);
 }
 
 /// The ack of 10.0.0.1:7000, with its own update, to 10.0.0.2:7000. The one before was lost.
@@ -122,13 +123,14 @@ fn an_ack_lost_and_one_taken(rt: HostRuntime) {
             .apply(&mut link, Tag { caller: 0, turn }, ping(&rt, turn, &[]))
             .ok()
             .expect(&rt, "an entry");
-        assert_eq!(rt; (reply.sent, reply.lost), want);
+        same(&rt, (reply.sent, reply.lost), want);
     }
     let taken = link.taken().first().expect(&rt, "a datagram");
-    assert_eq!(rt; taken.to, endpoint(&rt, 2));
-    assert_eq!(rt;
+    same(&rt, taken.to, endpoint(&rt, 2));
+    same(
+        &rt,
         taken.bytes.as_slice(),
-        b"SWIM\x01\x03\x01\0\0\0\0\0\0\0\0\x07\0\0\0\x02\x0a\0\0\x01\x1b\x58\x0a\0\0\x01\x1b\x58\x01\0\x0a\0\0\x01\x1b\x58\0\0\0\0\0\0\0\x01".as_slice()
+        b"SWIM\x01\x03\x01\0\0\0\0\0\0\0\0\x07\0\0\0\x02\x0a\0\0\x01\x1b\x58\x0a\0\0\x01\x1b\x58\x01\0\x0a\0\0\x01\x1b\x58\0\0\0\0\0\0\0\x01".as_slice(),
     );
 }
 
@@ -150,11 +152,11 @@ fn a_full_era_and_a_rebase(rt: HostRuntime) {
         if rebases {
             node.rebase();
         }
-        assert!(rt; caller < 16);
+        holds(&rt, caller < 16);
         let got = node
             .apply(&mut link, Tag { caller, turn }, Event::ReceiveFailed)
             .map(|reply| reply.status.length);
-        assert_eq!(rt; got, want, "turn {turn} of caller {caller}");
+        same_at(&rt, &(turn, caller), got, want);
     }
 }
 
@@ -165,10 +167,17 @@ fn an_era_that_ends(rt: HostRuntime) {
     let mut link = MemoryLink::new(rt.alloc(), 1);
     for turn in 1..3 {
         let tag = Tag { caller: 0, turn };
-        assert!(rt; node.apply(&mut link, tag, Event::ReceiveFailed).is_ok());
+        holds(
+            &rt,
+            node.apply(&mut link, tag, Event::ReceiveFailed).is_ok(),
+        );
     }
     let era = node.end_era();
-    assert_eq!(rt; (era.journal().len(), node.len(), node.first()), (2, 0, 1));
+    same(
+        &rt,
+        (era.journal().len(), node.len(), node.first()),
+        (2, 0, 1),
+    );
 }
 
 /// The first save fails at its last sync, once 2 stands in the file. The second one finds that 2 and fails at its
@@ -198,13 +207,13 @@ fn refutations_on_a_broken_store(rt: HostRuntime) {
             .ok()
             .expect(&rt, "an entry");
         let entry = node.journal().last().expect(&rt, "an entry");
-        assert_eq!(rt; (entry.save, entry.granted, reply.status.number), want);
+        same(&rt, (entry.save, entry.granted, reply.status.number), want);
     }
 }
 
 /// That 10.0.0.LAST:7000 is alive with this number.
 fn alive(rt: &impl Abort, last: u32, number: u64) -> Update {
-    assert!(rt; number <= NUMBER_MAX);
+    holds(rt, number <= NUMBER_MAX);
     Update {
         kind: UpdateKind::Alive,
         who: endpoint(rt, last),
@@ -218,19 +227,21 @@ fn peers_that_are_kept(rt: HostRuntime) {
     let (mut node, _) = opened(&rt, rt.alloc(), 2);
     let mut link = MemoryLink::new(rt.alloc(), 1);
     let heard = ping(&rt, 1, &[alive(&rt, 3, 1), alive(&rt, 2, 1)]);
-    assert!(rt;
+    holds(
+        &rt,
         node.apply(&mut link, Tag { caller: 0, turn: 1 }, heard)
-            .is_ok()
+            .is_ok(),
     );
-    assert!(rt; node.peers().as_slice().is_empty());
+    holds(&rt, node.peers().as_slice().is_empty());
     node.rebase();
-    assert_eq!(rt; node.keep_peers(), Ok(()));
+    same(&rt, node.keep_peers(), Ok(()));
     let known = [endpoint(&rt, 2), endpoint(&rt, 3)];
-    assert_eq!(rt; node.peers().as_slice(), known.as_slice());
+    same(&rt, node.peers().as_slice(), known.as_slice());
     let node = open_on(&rt, rt.alloc(), node.into_disk(), 2);
-    assert_eq!(rt;
+    same(
+        &rt,
         (node.first(), node.peers().as_slice()),
-        (3, known.as_slice())
+        (3, known.as_slice()),
     );
 }
 
@@ -247,25 +258,26 @@ fn peers_that_are_kept_by_a_broken_store(rt: HostRuntime) {
     };
     plan.fail_sync(3);
     let heard = ping(&rt, 1, &[suspect, alive(&rt, 2, 1)]);
-    assert!(rt;
+    holds(
+        &rt,
         node.apply(&mut link, Tag { caller: 0, turn: 1 }, heard)
-            .is_ok()
+            .is_ok(),
     );
     node.rebase();
-    assert_eq!(rt; node.keep_peers(), Ok(()));
-    assert_eq!(rt; node.peers().as_slice(), [endpoint(&rt, 2)].as_slice());
+    same(&rt, node.keep_peers(), Ok(()));
+    same(&rt, node.peers().as_slice(), [endpoint(&rt, 2)].as_slice());
     let node = open_on(&rt, rt.alloc(), node.into_disk(), 2);
-    assert_eq!(rt; node.first(), 4);
+    same(&rt, node.first(), 4);
 }
 
 /// A period of ticks, from this turn of a caller on.
 fn tick_a_period(rt: &impl Abort, node: &mut Node<Device>, link: &mut MemoryLink, first: u32) {
-    assert!(rt; first < 3);
+    holds(rt, first < 3);
     for turn in first..first + 10 {
         let tick = Event::Tick {
             deal: Deal::from_first(0),
         };
-        assert!(rt; node.apply(link, Tag { caller: 0, turn }, tick).is_ok());
+        holds(rt, node.apply(link, Tag { caller: 0, turn }, tick).is_ok());
     }
 }
 
@@ -276,16 +288,17 @@ fn a_turn_of_probing_over_two_eras(rt: HostRuntime) {
     let (mut node, _) = opened(&rt, rt.alloc(), 11);
     let mut link = MemoryLink::new(rt.alloc(), 1);
     let heard = ping(&rt, 1, &[alive(&rt, 2, 1), alive(&rt, 3, 1)]);
-    assert!(rt;
+    holds(
+        &rt,
         node.apply(&mut link, Tag { caller: 0, turn: 1 }, heard)
-            .is_ok()
+            .is_ok(),
     );
     tick_a_period(&rt, &mut node, &mut link, 2);
     node.rebase();
     listed_are_probed_once();
     tick_a_period(&rt, &mut node, &mut link, 1);
-    assert_eq!(rt; link.taken().len(), 4);
+    same(&rt, link.taken().len(), 4);
     for (taken, last) in link.taken().iter().zip([2, 2, 3, 3]) {
-        assert_eq!(rt; taken.to, endpoint(&rt, last));
+        same(&rt, taken.to, endpoint(&rt, last));
     }
 }

@@ -2,6 +2,7 @@
 
 use std::alloc::Global;
 use swim_play::play;
+use swim_same::{holds, same, same_at};
 
 /// Whether the script has this transcript.
 fn plays(alloc: Global, script: &str, transcript: &str) -> bool {
@@ -36,7 +37,7 @@ fn first_ping(rt: HostRuntime) {
         "start 1\nrecv 10.0.0.2:7000 5357494d010100000000000000000007000000010a0000021b580a0000011b58\n";
     let transcript =
         "start ok number 1\nevent 1 save none number 1 phase running\nsend 10.0.0.2:7000 taken 5357494d010301000000000000000007000000010a0000011b580a0000011b5801000a0000011b580000000000000001\n";
-    assert!(rt; plays(rt.alloc(), script, transcript));
+    holds(&rt, plays(rt.alloc(), script, transcript));
 }
 
 #[test]
@@ -45,8 +46,8 @@ fn bad_senders(rt: HostRuntime) {
         "start 1\nrecv 10.0.0.2:7000 -\nrecv 10.0.0.3:7000 5357494d010100000000000000000007000000010a0000021b580a0000011b58\n";
     let transcript =
         "start ok number 1\nevent 1 save none number 1 phase running\nnote 1 BadDatagram 1 TooShort\nevent 2 save none number 1 phase running\nnote 3 NotSender\n";
-    assert!(rt; plays(rt.alloc(), script, transcript));
-    assert_eq!(rt; counts_of(rt.alloc(), script), (1, 1, 0, 2));
+    holds(&rt, plays(rt.alloc(), script, transcript));
+    same(&rt, counts_of(rt.alloc(), script), (1, 1, 0, 2));
 }
 
 /// Lines that make or overwrite a disk or name an owner part the lives; kills, crashes and refused openings do not.
@@ -74,6 +75,6 @@ fn runs_of_lives(rt: HostRuntime) {
         ),
     ];
     for (script, counts) in table {
-        assert_eq!(rt; counts_of(rt.alloc(), script), counts, "{script:?}");
+        same_at(&rt, &script, counts_of(rt.alloc(), script), counts);
     }
 }

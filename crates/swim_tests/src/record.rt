@@ -3,6 +3,7 @@
 use swim_member::Event;
 use swim_node::{MemoryLink, Tag};
 use swim_record::recording;
+use swim_same::{holds, same};
 use swim_scenes::{endpoint, opened_by_plan, ping, suspicion, update};
 use swim_wire::UpdateKind;
 
@@ -35,7 +36,7 @@ fn an_era_is_written(rt: HostRuntime) {
     let third = update(UpdateKind::Alive, 3, 1).expect(&rt, "a port");
     let heard = ping(1, &[second, third]).expect(&rt, "a text");
     let first = Tag { caller: 0, turn: 1 };
-    assert!(rt; node.apply(&mut link, first, heard).is_ok());
+    holds(&rt, node.apply(&mut link, first, heard).is_ok());
     let beginning = node.beginning();
     node.rebase();
     let suspected = suspicion(1).expect(&rt, "a text");
@@ -46,14 +47,17 @@ fn an_era_is_written(rt: HostRuntime) {
         (3, 1, 0, Event::Join { peer }),
         (3, 2, 1, Event::Leave),
     ] {
-        assert!(rt; caller < 16);
+        holds(&rt, caller < 16);
         if lose > 0 {
             link.lose(lose);
         }
-        assert!(rt; node.apply(&mut link, Tag { caller, turn }, event).is_ok());
+        holds(
+            &rt,
+            node.apply(&mut link, Tag { caller, turn }, event).is_ok(),
+        );
     }
     let text = recording(rt.alloc(), &beginning, node.journal())
         .ok()
         .expect(&rt, "memory");
-    assert_eq!(rt; text.as_str(), WANT);
+    same(&rt, text.as_str(), WANT);
 }

@@ -4,6 +4,7 @@ ghost use Rattle.std.specs.Prelude.{◌≡◌, ◌+◌, ◌*◌, ◌<◌};
 
 use std::process::Abort;
 use swim_rules::{Heard, ROWS_MAX, Table, order_is_of_no_matter, overrides, rows_are_tops};
+use swim_same::{holds_at, same, same_at};
 use swim_wire::{Cursor, Endpoint, Rules, Update, UpdateKind};
 
 /// The member 10.0.0.0 plus `last`, at port 7000.
@@ -96,7 +97,7 @@ fn shows(table: &Table, last: u32, wanted: Option<(UpdateKind, u64, u64)>) -> bo
 fn run(rt: &impl Abort, rules: Rules, calls: &[(u64, Call)]) {
     let mut own = OwnTable::new(rules);
     for (now, call) in calls {
-        assert!(rt; answers(&mut own, *now, *call), "{call:?} at {now}");
+        holds_at(rt, &(call, now), answers(&mut own, *now, *call));
     }
 }
 
@@ -196,8 +197,8 @@ fn counted_again(rt: HostRuntime) {
         (Suspect, 11, 1),
     ];
     for (kind, number, count) in heard {
-        assert_eq!(rt; own.hear(kind, 3, number, 0), Some(Accepted));
-        assert_eq!(rt; own.table.count(), count, "{kind:?} {number}");
+        same(&rt, own.hear(kind, 3, number, 0), Some(Accepted));
+        same_at(&rt, &(kind, number), own.table.count(), count);
     }
 }
 
@@ -233,7 +234,7 @@ fn suspected_too_long(rt: HostRuntime) {
 fn a_full_table(rt: HostRuntime) {
     let mut full = OwnTable::new(Rules::One);
     for last in 256..512 {
-        assert_eq!(rt; full.hear(Alive, last, 1, 0), Some(Accepted));
+        same(&rt, full.hear(Alive, last, 1, 0), Some(Accepted));
     }
     let calls = [
         (1, Hear(Alive, 2, 1, Full)),
@@ -245,26 +246,27 @@ fn a_full_table(rt: HostRuntime) {
         (1, Get(2, None)),
     ];
     for (now, call) in calls {
-        assert!(rt; answers(&mut full, now, call), "{call:?}");
+        holds_at(&rt, &call, answers(&mut full, now, call));
     }
-    assert_eq!(rt; full.table.rows().len(), ROWS_MAX);
+    same(&rt, full.table.rows().len(), ROWS_MAX);
 }
 
 #[test]
 fn readers(rt: HostRuntime) {
     let mut three = OwnTable::new(Rules::One);
     for (kind, last) in [(Alive, 5), (Suspect, 3), (Alive, 4), (Confirm, 4)] {
-        assert_eq!(rt; three.hear(kind, last, 1, 0), Some(Accepted));
+        same(&rt, three.hear(kind, last, 1, 0), Some(Accepted));
     }
     let table = &three.table;
-    assert_eq!(rt; table.count(), 2);
+    same(&rt, table.count(), 2);
     for kind in [Alive, Suspect, Confirm] {
-        assert_eq!(rt; table.count_of(kind), 1, "{kind:?}");
+        same_at(&rt, &kind, table.count_of(kind), 1);
     }
     for (number, wanted) in [(0, Some(3)), (1, Some(5)), (2, None)] {
-        assert_eq!(rt;
+        same(
+            &rt,
             table.eligible(number).map(|row| last_of(row.update.who)),
-            wanted
+            wanted,
         );
     }
     let after = [
@@ -273,9 +275,10 @@ fn readers(rt: HostRuntime) {
         (Cursor::at(member(5)), None),
     ];
     for (cursor, wanted) in after {
-        assert_eq!(rt;
+        same(
+            &rt,
             table.row_after(cursor).map(|row| last_of(row.update.who)),
-            wanted
+            wanted,
         );
     }
 }
@@ -313,10 +316,11 @@ fn which_overrides_which(rt: HostRuntime) {
             number: old_number,
         };
         for (rules, wanted) in [(Rules::One, by_one), (Rules::Two, by_two)] {
-            assert_eq!(rt;
+            same_at(
+                &rt,
+                &(new, old, rules),
                 overrides(&new, &old, rules),
                 wanted,
-                "{new:?} over {old:?} by {rules:?}"
             );
         }
     }

@@ -3,6 +3,7 @@
 use std::alloc::Global;
 use std::test::Fail;
 use swim_member::Event;
+use swim_same::{same, same_at};
 use swim_script::{Command, FaultKind, read_script};
 
 /// The line and the kind of the script's fault.
@@ -52,7 +53,7 @@ fn faulty_lines(rt: HostRuntime) {
         ("slots a", FaultKind::Argument),
     ];
     for (script, kind) in table {
-        assert_eq!(rt; fault_of(rt.alloc(), script), Some((1, kind)), "{script:?}");
+        same_at(&rt, &script, fault_of(rt.alloc(), script), Some((1, kind)));
     }
 }
 
@@ -71,10 +72,11 @@ fn faulty_endpoints_and_hex(rt: HostRuntime) {
         "recv 10.0.0.1:1 0g",
     ];
     for script in table {
-        assert_eq!(rt;
+        same_at(
+            &rt,
+            &script,
             fault_of(rt.alloc(), script),
             Some((1, FaultKind::Argument)),
-            "{script:?}"
         );
     }
 }
@@ -82,8 +84,12 @@ fn faulty_endpoints_and_hex(rt: HostRuntime) {
 #[test]
 fn first_faulty_line(rt: HostRuntime) {
     let script = "start 1\n\n# frob\nfrob\nstart 0\n";
-    assert_eq!(rt; fault_of(rt.alloc(), script), Some((4, FaultKind::Command)));
-    assert_eq!(rt; fault_of(rt.alloc(), ""), None);
+    same(
+        &rt,
+        fault_of(rt.alloc(), script),
+        Some((4, FaultKind::Command)),
+    );
+    same(&rt, fault_of(rt.alloc(), ""), None);
 }
 
 /// A tick's deal begins with its number, and goes up cyclically.
@@ -101,8 +107,8 @@ fn deals_of_ticks(rt: HostRuntime) -> Result<(), Fail> {
         let Some(Command::Happen(Event::Tick { deal })) = commands.first() else {
             return Err("a tick".into());
         };
-        assert_eq!(&rt; deal.numbers().first(), Some(&first), "{script}");
-        assert_eq!(&rt; deal.numbers().last(), Some(&last), "{script}");
+        same_at(&rt, &script, deal.numbers().first(), Some(&first));
+        same_at(&rt, &script, deal.numbers().last(), Some(&last));
     }
     Ok(())
 }

@@ -2,26 +2,135 @@
 
 use std::alloc::{AllocError, Global};
 use std::test::Fail;
-use swim_settings::{Key, RunSettings, read_settings};
+use swim_same::{holds, same, same_at};
+use swim_settings::{RunSettings, read_settings};
 use swim_wire::Endpoint;
 
 /// What a file has to have at least, the first lines of each file below.
-const LEAST: [(Key, &str); 4] = [
-    (Key::File, "file = 's'\n"),
-    (Key::Group, "group = 7\n"),
-    (Key::Me, "me = '10.0.0.1:7000'\n"),
-    (Key::Control, "control = '127.0.0.1:8000'\n"),
-];
+const LEAST: &str = "file = 's'
+group = 7
+me = '10.0.0.1:7000'
+control = '127.0.0.1:8000'
+";
 
-/// A file of the least keys, of which this one has other lines.
-fn file_with(alloc: Global, key: Key, lines: &str) -> Result<String, AllocError> {
+/// Lines that are taken, each after its key. Two lines of a file are parted by a semicolon.
+const TAKEN: &str = "group: group = 0
+group: group = 9223372036854775807
+tick_ms: tick_ms = 1
+tick_ms: tick_ms = 60000
+lambda: lambda = 1
+lambda: lambda = 16
+period: period = 2; direct = 1
+period: period = 1000; direct = 999
+suspect: suspect = 1
+suspect: suspect = 100000
+forget: forget = 1
+forget: forget = 1000000
+helpers: helpers = 0
+helpers: helpers = 8
+limit: limit = 1
+limit: limit = 65536
+block: block = 1
+block: block = 1024
+rules: rules = 1
+rules: rules = 2
+rejoin: rejoin = 0
+rejoin: rejoin = 1000000
+record_eras: record_eras = 1
+record_eras: record_eras = 1000
+expelled: expelled = 'stay'
+expelled: expelled = 'end'
+join: join = []
+join: join = ['1.1.1.1:1', '1.1.1.1:2', '1.1.1.1:3', '1.1.1.1:4', '1.1.1.1:5', '1.1.1.1:6', '1.1.1.1:7', '1.1.1.1:8']";
+
+/// Lines that are refused, each after the key that is named. With a key alone the file has no line of it.
+const REFUSED: &str = "file
+file: file = 1
+group
+group: group = -1
+group: group = '7'
+me
+me: me = '10.0.0.1:0'
+me: me = '10.0.0.1:07000'
+me: me = '[::1]:7000'
+control
+control: control = 8000
+control: control = 'localhost:8000'
+tick_ms: tick_ms = 0
+tick_ms: tick_ms = 60001
+tick_ms: tick_ms = 1.0
+lambda: lambda = 0
+lambda: lambda = 17
+period: period = 1
+period: period = 1001
+direct: direct = 0
+direct: direct = 10
+direct: period = 3
+suspect: suspect = 0
+suspect: suspect = 100001
+forget: forget = 0
+forget: forget = 1000001
+helpers: helpers = -1
+helpers: helpers = 9
+limit: limit = 0
+limit: limit = 65537
+block: block = 0
+block: block = 1025
+block: block = '1'
+rules: rules = 0
+rules: rules = 3
+rules: rules = 'two'
+random_key: random_key = ''
+random_key: random_key = 'zz'
+random_key: random_key = 32
+rejoin: rejoin = -1
+rejoin: rejoin = 1000001
+rejoin: rejoin = '300'
+expelled: expelled = ''
+expelled: expelled = 'End'
+expelled: expelled = true
+record: record = ''
+record: record = 8
+record_eras: record_eras = 0
+record_eras: record_eras = 1001
+join: join = '10.0.0.2:7000'
+join: join = [7000]
+join: join = ['10.0.0.2']
+join: join = ['1.1.1.1:1', '1.1.1.1:2', '1.1.1.1:3', '1.1.1.1:4', '1.1.1.1:5', '1.1.1.1:6', '1.1.1.1:7', '1.1.1.1:8', '1.1.1.1:9']";
+
+/// Lines of which several can be refused, after the first of them.
+const FIRST_REFUSED: &str = "lambda: limit = 0; lambda = 0
+limit: block = 0; limit = 0
+block: rules = 0; block = 0
+rules: random_key = 0; rules = 0
+join: rejoin = -1; join = 0
+rejoin: expelled = 0; rejoin = -1
+expelled: alpha = 1; expelled = 0
+alpha: beta = 1; alpha = 1
+table: [table]
+gamma: gamma.delta = 1
+lambda_2-x: lambda_2-x = 1
+\"\": '' = 1
+\"a b\": 'a b' = 1
+\"a\\nb\": \"a\\nb\" = 1
+\"\\u{1b}\\0\": \"\\u001b\\u0000\" = 1
+toml: tick_ms = 1; tick_ms = 1
+toml: tick_ms
+toml: tick_ms = 9223372036854775808";
+
+/// A file of the least lines, and of these, which have that of this key.
+fn file_with(alloc: Global, key: &str, lines: &str) -> Result<String, AllocError> {
     let mut text = String::new(alloc);
-    for (other, least) in LEAST {
-        if other != key {
-            text.push_str(least)?;
+    for line in LEAST.lines() {
+        if line.split(' ').next() != Some(key) {
+            text.push_str(line)?;
+            text.push('\n')?;
         }
     }
-    text.push_str(lines)?;
+    for line in lines.split("; ") {
+        text.push_str(line)?;
+        text.push('\n')?;
+    }
     Ok(text)
 }
 
@@ -33,9 +142,16 @@ fn refusal_of(alloc: Global, bytes: &[u8]) -> Result<String, AllocError> {
     }
 }
 
+/// What the file of a row above is refused for.
+fn refusal_in(alloc: Global, row: &str) -> Result<String, AllocError> {
+    let (key, lines) = row.split_once(": ").unwrap_or((row, ""));
+    let text = file_with(alloc, key, lines)?;
+    refusal_of(alloc, text.as_bytes())
+}
+
 #[test]
 fn defaults(rt: HostRuntime) -> Result<(), Fail> {
-    let text = file_with(rt.alloc(), Key::Join, "")?;
+    let text = file_with(rt.alloc(), "join", "")?;
     let RunSettings {
         file,
         settings,
@@ -49,26 +165,26 @@ fn defaults(rt: HostRuntime) -> Result<(), Fail> {
         record_folder,
         record_eras,
     } = read_settings(rt.alloc(), text.as_bytes())?;
-    assert_eq!(rt; file.as_str(), "s");
-    assert_eq!(rt; settings.group, 7);
-    assert_eq!(rt; Some(settings.me), Endpoint::new(0x0a00_0001, 7000));
-    assert_eq!(rt; Some(control), Endpoint::new(0x7f00_0001, 8000));
-    assert_eq!(rt; tick_ms, 100);
-    assert_eq!(rt; settings.lambda, 3);
-    assert_eq!(rt; settings.period, 10);
-    assert_eq!(rt; settings.direct, 3);
-    assert_eq!(rt; settings.suspect, 50);
-    assert_eq!(rt; settings.forget, 6000);
-    assert_eq!(rt; settings.helpers, 3);
-    assert_eq!(rt; limit, 4096);
-    assert_eq!(rt; settings.block, 1);
-    assert_eq!(rt; settings.rules, 1);
-    assert!(rt; random_key.is_none());
-    assert_eq!(rt; join.len(), 0);
-    assert_eq!(rt; rejoin, 300);
-    assert!(rt; !ends_expelled);
-    assert!(rt; record_folder.is_none());
-    assert_eq!(rt; record_eras, 8);
+    same(&rt, file.as_str(), "s");
+    same(&rt, settings.group, 7);
+    same(&rt, Some(settings.me), Endpoint::new(0x0a00_0001, 7000));
+    same(&rt, Some(control), Endpoint::new(0x7f00_0001, 8000));
+    same(&rt, tick_ms, 100);
+    same(&rt, settings.lambda, 3);
+    same(&rt, settings.period, 10);
+    same(&rt, settings.direct, 3);
+    same(&rt, settings.suspect, 50);
+    same(&rt, settings.forget, 6000);
+    same(&rt, settings.helpers, 3);
+    same(&rt, limit, 4096);
+    same(&rt, settings.block, 1);
+    same(&rt, settings.rules, 1);
+    holds(&rt, random_key.is_none());
+    same(&rt, join.len(), 0);
+    same(&rt, rejoin, 300);
+    holds(&rt, !ends_expelled);
+    holds(&rt, record_folder.is_none());
+    same(&rt, record_eras, 8);
     Ok(())
 }
 
@@ -79,177 +195,68 @@ helpers = 0\nlimit = 20\nblock = 64\nrules = 2\nrejoin = 90\nexpelled = 'end'
 record = 'eras'\nrecord_eras = 3
 join = ['10.0.0.2:7000', '10.0.0.3:7001']
 random_key = '000102030405060708090a0b0c0d0e0f101112131415161718191A1B1C1D1E1F'\n";
-    let text = file_with(rt.alloc(), Key::Join, lines)?;
+    let text = file_with(rt.alloc(), "join", lines)?;
     let run = read_settings(rt.alloc(), text.as_bytes())?;
-    assert_eq!(rt; run.tick_ms, 20);
-    assert_eq!(rt; run.settings.lambda, 5);
-    assert_eq!(rt; run.settings.period, 8);
-    assert_eq!(rt; run.settings.direct, 7);
-    assert_eq!(rt; run.settings.suspect, 90);
-    assert_eq!(rt; run.settings.forget, 400);
-    assert_eq!(rt; run.settings.helpers, 0);
-    assert_eq!(rt; run.limit, 20);
-    assert_eq!(rt; run.settings.block, 64);
-    assert_eq!(rt; run.settings.rules, 2);
+    same(&rt, run.tick_ms, 20);
+    same(&rt, run.settings.lambda, 5);
+    same(&rt, run.settings.period, 8);
+    same(&rt, run.settings.direct, 7);
+    same(&rt, run.settings.suspect, 90);
+    same(&rt, run.settings.forget, 400);
+    same(&rt, run.settings.helpers, 0);
+    same(&rt, run.limit, 20);
+    same(&rt, run.settings.block, 64);
+    same(&rt, run.settings.rules, 2);
     let peers = [
         Endpoint::new(0x0a00_0002, 7000),
         Endpoint::new(0x0a00_0003, 7001),
     ];
-    assert_eq!(rt; run.rejoin, 90);
-    assert!(rt; run.ends_expelled);
-    assert_eq!(rt; run.record_eras, 3);
+    same(&rt, run.rejoin, 90);
+    holds(&rt, run.ends_expelled);
+    same(&rt, run.record_eras, 3);
     let folder = run.record_folder.unwrap_or(String::new(rt.alloc()));
-    assert_eq!(rt; folder.as_str(), "eras");
-    assert_eq!(rt; run.join.len(), 2);
+    same(&rt, folder.as_str(), "eras");
+    same(&rt, run.join.len(), 2);
     for (peer, want) in run.join.as_slice().iter().zip(peers) {
-        assert_eq!(rt; Some(*peer), want);
+        same(&rt, Some(*peer), want);
     }
     let bytes = run.random_key.unwrap_or([0; 32]);
     for (index, byte) in bytes.iter().enumerate() {
-        assert_eq!(rt; usize::from(*byte), index);
+        same(&rt, usize::from(*byte), index);
     }
     Ok(())
 }
 
 #[test]
 fn taken_values(rt: HostRuntime) -> Result<(), Fail> {
-    for (key, lines) in [
-        (Key::Group, "group = 0"),
-        (Key::Group, "group = 9223372036854775807"),
-        (Key::TickMs, "tick_ms = 1"),
-        (Key::TickMs, "tick_ms = 60000"),
-        (Key::Lambda, "lambda = 1"),
-        (Key::Lambda, "lambda = 16"),
-        (Key::Period, "period = 2\ndirect = 1"),
-        (Key::Period, "period = 1000\ndirect = 999"),
-        (Key::Suspect, "suspect = 1"),
-        (Key::Suspect, "suspect = 100000"),
-        (Key::Forget, "forget = 1"),
-        (Key::Forget, "forget = 1000000"),
-        (Key::Helpers, "helpers = 0"),
-        (Key::Helpers, "helpers = 8"),
-        (Key::Limit, "limit = 1"),
-        (Key::Limit, "limit = 65536"),
-        (Key::Block, "block = 1"),
-        (Key::Block, "block = 1024"),
-        (Key::Rules, "rules = 1"),
-        (Key::Rules, "rules = 2"),
-        (Key::Rejoin, "rejoin = 0"),
-        (Key::Rejoin, "rejoin = 1000000"),
-        (Key::RecordEras, "record_eras = 1"),
-        (Key::RecordEras, "record_eras = 1000"),
-        (Key::Expelled, "expelled = 'stay'"),
-        (Key::Expelled, "expelled = 'end'"),
-        (Key::Join, "join = []"),
-        (
-            Key::Join,
-            "join = ['1.1.1.1:1', '1.1.1.1:2', '1.1.1.1:3', '1.1.1.1:4',
-'1.1.1.1:5', '1.1.1.1:6', '1.1.1.1:7', '1.1.1.1:8']",
-        ),
-    ] {
-        let text = file_with(rt.alloc(), key, lines)?;
-        let refusal = refusal_of(rt.alloc(), text.as_bytes())?;
-        assert_eq!(rt; refusal.as_str(), "", "{lines}");
+    for row in TAKEN.lines() {
+        let refusal = refusal_in(rt.alloc(), row)?;
+        same_at(&rt, &row, refusal.as_str(), "");
     }
     Ok(())
+}
+
+/// The key that a row names.
+fn key_of(row: &str) -> &str {
+    row.split_once(": ").map_or(row, |parts| parts.0)
 }
 
 #[test]
 fn refused_values(rt: HostRuntime) -> Result<(), Fail> {
-    for (key, lines) in [
-        (Key::File, ""),
-        (Key::File, "file = 1"),
-        (Key::Group, ""),
-        (Key::Group, "group = -1"),
-        (Key::Group, "group = '7'"),
-        (Key::Me, ""),
-        (Key::Me, "me = '10.0.0.1:0'"),
-        (Key::Me, "me = '10.0.0.1:07000'"),
-        (Key::Me, "me = '[::1]:7000'"),
-        (Key::Control, ""),
-        (Key::Control, "control = 8000"),
-        (Key::Control, "control = 'localhost:8000'"),
-        (Key::TickMs, "tick_ms = 0"),
-        (Key::TickMs, "tick_ms = 60001"),
-        (Key::TickMs, "tick_ms = 1.0"),
-        (Key::Lambda, "lambda = 0"),
-        (Key::Lambda, "lambda = 17"),
-        (Key::Period, "period = 1"),
-        (Key::Period, "period = 1001"),
-        (Key::Direct, "direct = 0"),
-        (Key::Direct, "direct = 10"),
-        (Key::Direct, "period = 3"),
-        (Key::Suspect, "suspect = 0"),
-        (Key::Suspect, "suspect = 100001"),
-        (Key::Forget, "forget = 0"),
-        (Key::Forget, "forget = 1000001"),
-        (Key::Helpers, "helpers = -1"),
-        (Key::Helpers, "helpers = 9"),
-        (Key::Limit, "limit = 0"),
-        (Key::Limit, "limit = 65537"),
-        (Key::Block, "block = 0"),
-        (Key::Block, "block = 1025"),
-        (Key::Block, "block = '1'"),
-        (Key::Rules, "rules = 0"),
-        (Key::Rules, "rules = 3"),
-        (Key::Rules, "rules = 'two'"),
-        (Key::RandomKey, "random_key = ''"),
-        (Key::RandomKey, "random_key = 'zz'"),
-        (Key::RandomKey, "random_key = 32"),
-        (Key::Rejoin, "rejoin = -1"),
-        (Key::Rejoin, "rejoin = 1000001"),
-        (Key::Rejoin, "rejoin = '300'"),
-        (Key::Expelled, "expelled = ''"),
-        (Key::Expelled, "expelled = 'End'"),
-        (Key::Expelled, "expelled = true"),
-        (Key::Record, "record = ''"),
-        (Key::Record, "record = 8"),
-        (Key::RecordEras, "record_eras = 0"),
-        (Key::RecordEras, "record_eras = 1001"),
-        (Key::Join, "join = '10.0.0.2:7000'"),
-        (Key::Join, "join = [7000]"),
-        (Key::Join, "join = ['10.0.0.2']"),
-        (
-            Key::Join,
-            "join = ['1.1.1.1:1', '1.1.1.1:2', '1.1.1.1:3', '1.1.1.1:4',
-'1.1.1.1:5', '1.1.1.1:6', '1.1.1.1:7', '1.1.1.1:8', '1.1.1.1:9']",
-        ),
-    ] {
-        let text = file_with(rt.alloc(), key, lines)?;
-        let refusal = refusal_of(rt.alloc(), text.as_bytes())?;
-        assert_eq!(rt; refusal.as_str(), key.text(), "{lines}");
+    for rows in [REFUSED, FIRST_REFUSED] {
+        for row in rows.lines() {
+            let refusal = refusal_in(rt.alloc(), row)?;
+            same_at(&rt, &row, refusal.as_str(), key_of(row));
+        }
     }
     Ok(())
 }
 
 #[test]
-fn first_refused(rt: HostRuntime) -> Result<(), Fail> {
-    for (lines, want) in [
-        ("limit = 0\nlambda = 0", "lambda"),
-        ("block = 0\nlimit = 0", "limit"),
-        ("rules = 0\nblock = 0", "block"),
-        ("random_key = 0\nrules = 0", "rules"),
-        ("rejoin = -1\njoin = 0", "join"),
-        ("expelled = 0\nrejoin = -1", "rejoin"),
-        ("alpha = 1\nexpelled = 0", "expelled"),
-        ("beta = 1\nalpha = 1", "alpha"),
-        ("[table]", "table"),
-        ("gamma.delta = 1", "gamma"),
-        ("lambda_2-x = 1", "lambda_2-x"),
-        ("'' = 1", "\"\""),
-        ("'a b' = 1", "\"a b\""),
-        ("\"a\\nb\" = 1", "\"a\\nb\""),
-        ("\"\\u001b\\u0000\" = 1", "\"\\u{1b}\\0\""),
-        ("tick_ms = 1\ntick_ms = 1", "toml"),
-        ("tick_ms", "toml"),
-        ("tick_ms = 9223372036854775808", "toml"),
-    ] {
-        let text = file_with(rt.alloc(), Key::TickMs, lines)?;
-        let refusal = refusal_of(rt.alloc(), text.as_bytes())?;
-        assert_eq!(rt; refusal.as_str(), want, "{lines}");
-    }
-    for (bytes, want) in [(b"".as_slice(), "file"), (b"\xff\xfe".as_slice(), "toml")] {
-        assert_eq!(rt; refusal_of(rt.alloc(), bytes)?.as_str(), want);
-    }
+fn files_without_a_line_that_is_read(rt: HostRuntime) -> Result<(), Fail> {
+    let empty = refusal_of(rt.alloc(), b"")?;
+    same(&rt, empty.as_str(), "file");
+    let no_text = refusal_of(rt.alloc(), b"\xff\xfe")?;
+    same(&rt, no_text.as_str(), "toml");
     Ok(())
 }

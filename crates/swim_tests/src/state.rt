@@ -7,6 +7,7 @@ use std::fs;
 use std::process::Abort;
 use std::test::Fail;
 use swim_disk::{Choice, Disk, DiskFault, FaultDisk, FileDisk, MemDisk, Plan};
+use swim_same::{holds, holds_at, prints, same, same_at};
 use swim_state::{
     InitFault, Owner, Peers, Reading, RecoverFault, SPARE_MAX, SaveFault, Saved, Slots, init,
     recover, slots_in,
@@ -17,7 +18,7 @@ type Device = FaultDisk<MemDisk>;
 
 /// The member of group 7 at 10.0.0.LAST:7000.
 fn member(rt: &impl Abort, last: u32) -> Owner {
-    assert!(rt; last < 256);
+    holds(rt, last < 256);
     Owner {
         group: 7,
         me: Endpoint::new(0x0a00_0000 + last, 7000).expect(rt, "a port"),
@@ -33,7 +34,7 @@ fn empty(rt: &impl Abort, alloc: Global) -> (Device, Plan) {
 /// A disk after `init` with ceiling 0, and its plan.
 fn made(rt: &impl Abort, alloc: Global) -> (Device, Plan) {
     let (mut disk, plan) = empty(rt, alloc);
-    assert!(rt; init(&mut disk, member(rt, 1), 0).is_ok());
+    holds(rt, init(&mut disk, member(rt, 1), 0).is_ok());
     (disk, plan)
 }
 
@@ -59,7 +60,7 @@ fn crashed(rt: &impl Abort, alloc: Global, disk: Device, choice: Choice) -> Devi
 fn init_file(rt: HostRuntime) {
     let (disk, _) = made(&rt, rt.alloc());
     let bytes = disk.inner().bytes().expect(&rt, "memory");
-    assert_eq!(rt; bytes.len(), 16_385);
+    same(&rt, bytes.len(), 16_385);
     for (at, want) in [
         (
             0,
@@ -72,7 +73,7 @@ fn init_file(rt: HostRuntime) {
         (8192, b"\xa5".as_slice()),
         (16_384, b"\0".as_slice()),
     ] {
-        assert_eq!(rt; bytes.get(at..at + want.len()), Some(want), "at {at}");
+        same_at(&rt, &at, bytes.get(at..at + want.len()), Some(want));
     }
 }
 
@@ -80,7 +81,7 @@ fn init_file(rt: HostRuntime) {
 fn init_refuses(rt: HostRuntime) {
     let (mut disk, _) = made(&rt, rt.alloc());
     for (ceiling, want) in [(0, InitFault::NotEmpty), (NUMBER_MAX + 1, InitFault::Range)] {
-        assert_eq!(rt; init(&mut disk, member(&rt, 1), ceiling), Err(want));
+        same(&rt, init(&mut disk, member(&rt, 1), ceiling), Err(want));
     }
 }
 
@@ -99,7 +100,7 @@ fn refused_opens(rt: HostRuntime) -> Result<(), Fail> {
         let (mut disk, _) = made(&rt, rt.alloc());
         disk.write_at(at, &[byte])?;
         let (got, _) = open(disk, member(&rt, last));
-        assert_eq!(rt; got, want, "byte {at}");
+        same_at(&rt, &at, got, want);
     }
     Ok(())
 }
@@ -110,9 +111,9 @@ fn refused_open_of_a_device(rt: HostRuntime) {
     let (disk, plan) = made(&rt, rt.alloc());
     plan.halt(1);
     let (got, disk) = open(disk, member(&rt, 1));
-    assert_eq!(rt; got, Err(RecoverFault::Device));
+    same(&rt, got, Err(RecoverFault::Device));
     let disk = crashed(&rt, rt.alloc(), disk, Choice::Keep);
-    assert_eq!(rt; open(disk, member(&rt, 1)).0, Ok(1));
+    same(&rt, open(disk, member(&rt, 1)).0, Ok(1));
 }
 
 /// What a failed opening saved without an answer isn't used again.
@@ -121,8 +122,8 @@ fn recovered_twice(rt: HostRuntime) {
     let (disk, plan) = made(&rt, rt.alloc());
     plan.fail_sync(3);
     let (got, disk) = open(disk, member(&rt, 1));
-    assert_eq!(rt; got, Err(RecoverFault::Device));
-    assert_eq!(rt; open(disk, member(&rt, 1)).0, Ok(2));
+    same(&rt, got, Err(RecoverFault::Device));
+    same(&rt, open(disk, member(&rt, 1)).0, Ok(2));
 }
 
 /// A call of a device: its letter, and its offset where it has one.
@@ -191,7 +192,7 @@ fn are_calls(disk: &Recorded, from: usize, want: &[Call]) -> bool {
 /// A disk after `init` with this ceiling, whose calls are forgotten.
 fn made_recorded(rt: &impl Abort, alloc: Global, ceiling: u64) -> Recorded {
     let mut disk = Recorded::new(alloc);
-    assert!(rt; init(&mut disk, member(rt, 1), ceiling).is_ok());
+    holds(rt, init(&mut disk, member(rt, 1), ceiling).is_ok());
     disk.count = 0;
     disk
 }
@@ -210,7 +211,7 @@ const INIT: [Call; 7] = [
 fn init_calls_the_device(rt: HostRuntime) -> Result<(), Fail> {
     let mut disk = Recorded::new(rt.alloc());
     init(&mut disk, member(&rt, 1), 0)?;
-    assert!(rt; are_calls(&disk, 0, &INIT));
+    holds(&rt, are_calls(&disk, 0, &INIT));
     Ok(())
 }
 
@@ -263,14 +264,14 @@ const RAISE: [Call; 6] = [
 fn lives_call_the_device(rt: HostRuntime) -> Result<(), Fail> {
     let disk = made_recorded(&rt, rt.alloc(), 0);
     let store = recover(disk, member(&rt, 1)).ok().expect(&rt, "an opening");
-    assert!(rt; are_calls(store.disk(), 0, &MIGRATION));
+    holds(&rt, are_calls(store.disk(), 0, &MIGRATION));
     let mut disk = store.into_disk();
     disk.count = 0;
     let mut store = recover(disk, member(&rt, 1)).ok().expect(&rt, "an opening");
-    assert!(rt; are_calls(store.disk(), 0, &OPENING));
-    assert!(rt; store.ceiling() == 2);
+    holds(&rt, are_calls(store.disk(), 0, &OPENING));
+    holds(&rt, store.ceiling() == 2);
     store.raise(3, 0, &[])?;
-    assert!(rt; are_calls(store.disk(), 13, &RAISE));
+    holds(&rt, are_calls(store.disk(), 13, &RAISE));
     Ok(())
 }
 
@@ -279,16 +280,16 @@ fn lives_call_the_device(rt: HostRuntime) -> Result<(), Fail> {
 fn peers_come_back(rt: HostRuntime) -> Result<(), Fail> {
     let (disk, _) = made(&rt, rt.alloc());
     let mut store = recover(disk, member(&rt, 1)).ok().expect(&rt, "an opening");
-    assert!(rt; store.peers().as_slice().is_empty());
-    assert!(rt; store.ceiling() == 1);
+    holds(&rt, store.peers().as_slice().is_empty());
+    holds(&rt, store.ceiling() == 1);
     let known = [member(&rt, 2).me];
     store.raise(2, 0, &known)?;
     let mut disk = store.into_disk();
     for next in 3..6 {
         disk = crashed(&rt, rt.alloc(), disk, Choice::Drop);
         let store = recover(disk, member(&rt, 1)).ok().expect(&rt, "an opening");
-        assert_eq!(rt; store.ceiling(), next);
-        assert_eq!(rt; store.peers().as_slice(), known.as_slice());
+        same(&rt, store.ceiling(), next);
+        same(&rt, store.peers().as_slice(), known.as_slice());
         disk = store.into_disk();
     }
     Ok(())
@@ -313,7 +314,7 @@ fn refused_opens_of_version_2(rt: HostRuntime) -> Result<(), Fail> {
         let (_, mut disk) = open(disk, member(&rt, 1));
         disk.write_at(at, &[byte])?;
         let (got, _) = open(disk, member(&rt, 1));
-        assert_eq!(rt; got, want, "byte {at}");
+        same_at(&rt, &at, got, want);
     }
     Ok(())
 }
@@ -322,8 +323,8 @@ fn refused_opens_of_version_2(rt: HostRuntime) -> Result<(), Fail> {
 fn last_number(rt: HostRuntime) {
     let disk = made_recorded(&rt, rt.alloc(), NUMBER_MAX);
     let (disk, fault) = recover(disk, member(&rt, 1)).err().expect(&rt, "a refusal");
-    assert_eq!(rt; fault, RecoverFault::Exhausted);
-    assert!(rt; are_calls(&disk, 0, &MIGRATION[..8]));
+    same(&rt, fault, RecoverFault::Exhausted);
+    holds(&rt, are_calls(&disk, 0, &MIGRATION[..8]));
 }
 
 /// What goes wrong at some call of the device.
@@ -401,13 +402,13 @@ fn raise_in_trouble(rt: HostRuntime) {
         let (disk, plan) = made(&rt, rt.alloc());
         let mut store = recover(disk, member(&rt, 1)).ok().expect(&rt, "an opening");
         trouble.begin(&plan, k);
-        assert!(rt; store.ceiling() == 1);
+        holds(&rt, store.ceiling() == 1);
         let raised = store.raise(2, 0, &[]);
-        assert_eq!(rt; raised.is_ok(), k == 6);
+        same(&rt, raised.is_ok(), k == 6);
         let disk = crashed(&rt, rt.alloc(), store.into_disk(), choice);
         let bytes = disk.inner().bytes().expect(&rt, "memory");
-        assert_eq!(rt; slots_in(&bytes), left, "{trouble:?}");
-        assert_eq!(rt; open(disk, member(&rt, 1)).0, Ok(next), "{trouble:?}");
+        same_at(&rt, &trouble, slots_in(&bytes), left);
+        same_at(&rt, &trouble, open(disk, member(&rt, 1)).0, Ok(next));
     }
 }
 
@@ -418,10 +419,10 @@ fn raise_again(rt: HostRuntime) {
     let mut store = recover(disk, member(&rt, 1)).ok().expect(&rt, "an opening");
     plan.fail_write(2);
     for want in [Err(SaveFault::Device), Ok(())] {
-        assert!(rt; store.ceiling() == 1);
-        assert_eq!(rt; store.raise(2, 0, &[]), want);
+        holds(&rt, store.ceiling() == 1);
+        same(&rt, store.raise(2, 0, &[]), want);
     }
-    assert_eq!(rt; store.ceiling(), 2);
+    same(&rt, store.ceiling(), 2);
 }
 
 /// One save reserves more numbers than it is asked for, and the next opening is above them all.
@@ -429,26 +430,26 @@ fn raise_again(rt: HostRuntime) {
 fn raise_reserves(rt: HostRuntime) {
     let (disk, _) = made(&rt, rt.alloc());
     let mut store = recover(disk, member(&rt, 1)).ok().expect(&rt, "an opening");
-    assert!(rt; store.ceiling() == 1);
-    assert_eq!(rt; store.raise(2, 3, &[]), Ok(()));
-    assert_eq!(rt; store.ceiling(), 5);
+    holds(&rt, store.ceiling() == 1);
+    same(&rt, store.raise(2, 3, &[]), Ok(()));
+    same(&rt, store.ceiling(), 5);
     let disk = crashed(&rt, rt.alloc(), store.into_disk(), Choice::Drop);
     let bytes = disk.inner().bytes().expect(&rt, "memory");
-    assert_eq!(rt; slots_in(&bytes), slots(Some(1), Some(5)));
-    assert_eq!(rt; open(disk, member(&rt, 1)).0, Ok(6));
+    same(&rt, slots_in(&bytes), slots(Some(1), Some(5)));
+    same(&rt, open(disk, member(&rt, 1)).0, Ok(6));
 }
 
 /// As many numbers are reserved as there are.
 #[test]
 fn raise_reserves_the_last(rt: HostRuntime) {
     let (mut disk, _) = empty(&rt, rt.alloc());
-    assert!(rt; init(&mut disk, member(&rt, 1), NUMBER_MAX - 3).is_ok());
+    holds(&rt, init(&mut disk, member(&rt, 1), NUMBER_MAX - 3).is_ok());
     let mut store = recover(disk, member(&rt, 1)).ok().expect(&rt, "an opening");
-    assert!(rt; store.ceiling() == NUMBER_MAX - 2);
-    assert_eq!(rt; store.raise(NUMBER_MAX - 1, SPARE_MAX, &[]), Ok(()));
-    assert_eq!(rt; store.ceiling(), NUMBER_MAX);
+    holds(&rt, store.ceiling() == NUMBER_MAX - 2);
+    same(&rt, store.raise(NUMBER_MAX - 1, SPARE_MAX, &[]), Ok(()));
+    same(&rt, store.ceiling(), NUMBER_MAX);
     let (got, _) = open(store.into_disk(), member(&rt, 1));
-    assert_eq!(rt; got, Err(RecoverFault::Exhausted));
+    same(&rt, got, Err(RecoverFault::Exhausted));
 }
 
 /// What a raise that failed reserved is the ceiling of the next one, which writes nothing.
@@ -457,12 +458,12 @@ fn raise_finds_what_it_reserved(rt: HostRuntime) {
     let (disk, plan) = made(&rt, rt.alloc());
     let mut store = recover(disk, member(&rt, 1)).ok().expect(&rt, "an opening");
     plan.fail_sync(3);
-    assert!(rt; store.ceiling() == 1);
-    assert_eq!(rt; store.raise(2, 3, &[]), Err(SaveFault::Device));
+    holds(&rt, store.ceiling() == 1);
+    same(&rt, store.raise(2, 3, &[]), Err(SaveFault::Device));
     plan.fail_write(1);
-    assert!(rt; store.ceiling() == 1);
-    assert_eq!(rt; store.raise(2, 0, &[]), Ok(()));
-    assert_eq!(rt; store.ceiling(), 5);
+    holds(&rt, store.ceiling() == 1);
+    same(&rt, store.raise(2, 0, &[]), Ok(()));
+    same(&rt, store.ceiling(), 5);
 }
 
 /// The greatest ceiling that an opening and a raise with spare granted, which is tried twice, or 0; and
@@ -493,7 +494,7 @@ fn numbers_rise_whatever_fails(rt: HostRuntime) {
                 let disk = crashed(&rt, rt.alloc(), disk, choice);
                 let (next, _) = open(disk, member(&rt, 1));
                 let is_above = next.is_ok_and(|next| next > most);
-                assert!(rt; is_above, "{trouble:?} {k} {choice:?}");
+                holds_at(&rt, &(trouble, k, choice), is_above);
             }
         }
     }
@@ -519,9 +520,9 @@ fn old_file(rt: &impl Abort, alloc: Global) -> (Device, Plan) {
         ),
         (16_384, b"\xa5".as_slice()),
     ] {
-        assert!(rt; disk.write_at(at, part).is_ok());
+        holds(rt, disk.write_at(at, part).is_ok());
     }
-    assert!(rt; disk.sync().is_ok());
+    holds(rt, disk.sync().is_ok());
     (disk, plan)
 }
 
@@ -557,10 +558,7 @@ fn old_file_in_trouble(rt: HostRuntime) {
                 let most = got.unwrap_or(7);
                 let disk = ended(&rt, rt.alloc(), disk, end);
                 let (next, _) = open(disk, member(&rt, 1));
-                assert!(rt;
-                    next.is_ok_and(|next| next > most),
-                    "{trouble:?} {k} {end:?}"
-                );
+                holds_at(&rt, &(trouble, k, end), next.is_ok_and(|next| next > most));
             }
         }
     }
@@ -579,7 +577,7 @@ fn init_fails_at_each_call(rt: HostRuntime) {
                 let disk = crashed(&rt, rt.alloc(), disk, choice);
                 let (got, _) = open(disk, member(&rt, 1));
                 let is_first = got == Ok(1) || (made.is_err() && got.is_err());
-                assert!(rt; is_first, "{trouble:?} {k} {choice:?}");
+                holds_at(&rt, &(trouble, k, choice), is_first);
             }
         }
     }
@@ -594,8 +592,8 @@ fn real_file(rt: HostRuntime) -> Result<(), Fail> {
     for want in [1, 3] {
         let disk = FileDisk::open(rt.alloc(), &rt, "state")?;
         let mut store = recover(disk, member(&rt, 1)).ok().expect(&rt, "an opening");
-        assert!(rt; store.ceiling() == want);
-        assert!(rt; want < NUMBER_MAX);
+        holds(&rt, store.ceiling() == want);
+        holds(&rt, want < NUMBER_MAX);
         store.raise(want + 1, 0, &[])?;
     }
     fs::remove_file(&rt, "state")?;
@@ -603,7 +601,7 @@ fn real_file(rt: HostRuntime) -> Result<(), Fail> {
 }
 
 #[test]
-fn faults_print_number_and_name(rt: HostRuntime) -> Result<(), Fail> {
+fn faults_print_number_and_name(rt: HostRuntime) {
     for (fault, want) in [
         (RecoverFault::Device, "1 Device"),
         (RecoverFault::NotState, "2 NotState"),
@@ -612,21 +610,20 @@ fn faults_print_number_and_name(rt: HostRuntime) -> Result<(), Fail> {
         (RecoverFault::Damaged, "5 Damaged"),
         (RecoverFault::Exhausted, "6 Exhausted"),
     ] {
-        assert_eq!(rt; format!(in rt.alloc(); "{fault}")?.as_str(), want);
+        prints(&rt, &fault, want);
     }
     for (fault, want) in [
         (InitFault::NotEmpty, "1 NotEmpty"),
         (InitFault::Device, "2 Device"),
         (InitFault::Range, "3 Range"),
     ] {
-        assert_eq!(rt; format!(in rt.alloc(); "{fault}")?.as_str(), want);
+        prints(&rt, &fault, want);
     }
     for (fault, want) in [
         (SaveFault::Device, "1 Device"),
         (SaveFault::Changed, "2 Changed"),
         (SaveFault::Exhausted, "3 Exhausted"),
     ] {
-        assert_eq!(rt; format!(in rt.alloc(); "{fault}")?.as_str(), want);
+        prints(&rt, &fault, want);
     }
-    Ok(())
 }

@@ -2,6 +2,7 @@
 
 use arrayvec::ArrayVec;
 use std::test::Fail;
+use swim_same::{holds, same, same_at};
 use swim_wire::{
     Cursor, Endpoint, Kind, Rules, Update, UpdateKind, WireFault, datagram_has_one_text, decode,
     encode, own_numbers_of_spelled, spelled_or_faulty, text_spells_one_datagram,
@@ -105,18 +106,14 @@ fn refusals(rt: HostRuntime) {
     ];
     for (len, changes, wanted) in rows {
         let bytes = changed(len, changes);
-        assert_eq!(rt;
-            answer(bytes.as_slice()),
-            wanted,
-            "{len} bytes with {changes:?}"
-        );
+        same_at(&rt, &(len, changes), answer(bytes.as_slice()), wanted);
     }
 }
 
 #[test]
 fn a_full_datagram_cut(rt: HostRuntime) {
     let bytes = full();
-    assert_eq!(rt; bytes.len(), 513);
+    same(&rt, bytes.len(), 513);
     for len in 0..514usize {
         let wanted = if len < 32 {
             1
@@ -128,9 +125,9 @@ fn a_full_datagram_cut(rt: HostRuntime) {
             2
         };
         if len <= bytes.len() {
-            assert_eq!(rt; answer(&bytes.as_slice()[..len]), wanted, "{len} bytes");
+            same_at(&rt, &len, answer(&bytes.as_slice()[..len]), wanted);
             let is_good = is_written_again(&bytes.as_slice()[..len]);
-            assert_eq!(rt; is_good, len == 512, "{len} bytes");
+            same_at(&rt, &len, is_good, len == 512);
         }
     }
 }
@@ -148,20 +145,20 @@ fn one_byte_ff(rt: HostRuntime) {
             7 => 7,
             _ => 0,
         };
-        assert_eq!(rt; answer(&bytes), wanted, "byte {at}");
+        same_at(&rt, &at, answer(&bytes), wanted);
     }
 }
 
 #[test]
 fn a_ping(rt: HostRuntime) -> Result<(), Fail> {
     let ping = decode(&PING).ok().ok_or("the ping is read")?;
-    assert_eq!(rt; ping.version, Rules::One);
-    assert_eq!(rt; ping.kind, Kind::Ping);
-    assert_eq!(rt; ping.group, 7);
-    assert_eq!(rt; ping.seq, 1);
-    assert_eq!(rt; ping.sender.number(), 0x0a00_0002_1b58);
-    assert_eq!(rt; ping.subject.number(), 0x0a00_0001_1b58);
-    assert_eq!(rt; ping.updates.len(), 0);
+    same(&rt, ping.version, Rules::One);
+    same(&rt, ping.kind, Kind::Ping);
+    same(&rt, ping.group, 7);
+    same(&rt, ping.seq, 1);
+    same(&rt, ping.sender.number(), 0x0a00_0002_1b58);
+    same(&rt, ping.subject.number(), 0x0a00_0001_1b58);
+    same(&rt, ping.updates.len(), 0);
     Ok(())
 }
 
@@ -170,49 +167,50 @@ fn a_ping_of_version_two(rt: HostRuntime) -> Result<(), Fail> {
     let mut bytes = PING;
     bytes[4] = 2;
     let ping = decode(&bytes).ok().ok_or("the ping is read")?;
-    assert_eq!(rt; ping.version, Rules::Two);
-    assert_eq!(rt; ping.kind, Kind::Ping);
-    assert!(rt; is_written_again(&bytes));
+    same(&rt, ping.version, Rules::Two);
+    same(&rt, ping.kind, Kind::Ping);
+    holds(&rt, is_written_again(&bytes));
     Ok(())
 }
 
 #[test]
 fn an_ack(rt: HostRuntime) -> Result<(), Fail> {
     let ack = decode(&ACK).ok().ok_or("the ack is read")?;
-    assert_eq!(rt; ack.kind, Kind::Ack);
-    assert_eq!(rt; ack.updates.len(), 1);
+    same(&rt, ack.kind, Kind::Ack);
+    same(&rt, ack.updates.len(), 1);
     for update in ack.updates.as_slice() {
-        assert_eq!(rt; update.kind, UpdateKind::Alive);
-        assert_eq!(rt; update.who.number(), 0x0a00_0001_1b58);
-        assert_eq!(rt; update.number, 1);
+        same(&rt, update.kind, UpdateKind::Alive);
+        same(&rt, update.who.number(), 0x0a00_0001_1b58);
+        same(&rt, update.number, 1);
     }
     Ok(())
 }
 
 #[test]
 fn written_again(rt: HostRuntime) {
-    assert!(rt; is_written_again(&PING));
-    assert!(rt; is_written_again(&ACK));
+    holds(&rt, is_written_again(&PING));
+    holds(&rt, is_written_again(&ACK));
 }
 
 #[test]
 fn names(rt: HostRuntime) -> Result<(), Fail> {
     let us = Endpoint::new(0x0a00_0001, 7000).ok_or("a port")?;
-    assert_eq!(rt; us.to_string(rt.alloc())?.as_str(), "10.0.0.1:7000");
-    assert_eq!(rt; us.address(), 0x0a00_0001);
-    assert_eq!(rt; us.port(), 7000);
-    assert_eq!(rt; us.number(), 0x0a00_0001_1b58);
-    assert_eq!(rt; Endpoint::new(1, 0), None);
-    assert!(rt; Endpoint::default() < us);
-    assert!(rt; Cursor::zero() < Cursor::from(Endpoint::default()));
-    assert_eq!(rt; Cursor::zero().endpoint(), None);
-    assert_eq!(rt; Cursor::at(us).endpoint(), Some(us));
-    assert_eq!(rt;
+    same(&rt, us.to_string(rt.alloc())?.as_str(), "10.0.0.1:7000");
+    same(&rt, us.address(), 0x0a00_0001);
+    same(&rt, us.port(), 7000);
+    same(&rt, us.number(), 0x0a00_0001_1b58);
+    same(&rt, Endpoint::new(1, 0), None);
+    holds(&rt, Endpoint::default() < us);
+    holds(&rt, Cursor::zero() < Cursor::from(Endpoint::default()));
+    same(&rt, Cursor::zero().endpoint(), None);
+    same(&rt, Cursor::at(us).endpoint(), Some(us));
+    same(
+        &rt,
         WireFault::UpdateKind.to_string(rt.alloc())?.as_str(),
-        "9 UpdateKind"
+        "9 UpdateKind",
     );
-    assert_eq!(rt; WireFault::UpdateKind.name(), "UpdateKind");
-    assert_eq!(rt; Update::default().who, Endpoint::default());
+    same(&rt, WireFault::UpdateKind.name(), "UpdateKind");
+    same(&rt, Update::default().who, Endpoint::default());
     Ok(())
 }
 

@@ -7,6 +7,7 @@ use rand_core::SeedableRng;
 use rand_core::utils::NextWord;
 use std::process::Abort;
 use swim_gossip::{BUCKETS_MAX, Buffer, Visits, WAITING_MAX, Waiting};
+use swim_same::{holds, same};
 use swim_wire::{Endpoint, UPDATES_MAX, Update, UpdateKind};
 
 /// The updates that wait, in the order in which they began.
@@ -50,7 +51,7 @@ impl List {
 
 /// One call of both by a drawn word: four of eight offer, one removes, and three pick.
 fn call(rt: &impl Abort, buffer: &mut Buffer, list: &mut List, word: u32, members: u32) {
-    assert!(rt; 0 < members && members <= 256);
+    holds(rt, 0 < members && members <= 256);
     let drawn = word / 8;
     let told = update(UpdateKind::Alive, (drawn % members) as u16, drawn as u64);
     match word % 8 {
@@ -66,10 +67,10 @@ fn call(rt: &impl Abort, buffer: &mut Buffer, list: &mut List, word: u32, member
             let limit = drawn % (BUCKETS_MAX + 1);
             let room = (drawn / 256) as usize % (UPDATES_MAX + 1);
             let picked = pick(rt, buffer, limit, room);
-            assert_eq!(rt; picked.as_slice(), list.pick(limit, room).as_slice());
+            same(rt, picked.as_slice(), list.pick(limit, room).as_slice());
         }
     }
-    assert_eq!(rt; buffer.len(), list.queue.len());
+    same(rt, buffer.len(), list.queue.len());
 }
 
 #[test]

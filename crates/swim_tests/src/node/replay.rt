@@ -1,9 +1,12 @@
 //! An era that is played again, and states from which none begins.
 
-use super::{alive, endpoint, opened, ping};
+use super::{Device, alive, endpoint, opened, ping};
+use std::alloc::Global;
 use std::process::Abort;
+use swim_disk::Plan;
 use swim_member::{Deal, Event, Out, Relay, ResumeFault};
-use swim_node::{BeginFault, Beginning, Cause, Entry, MemoryLink, Replay, Tag};
+use swim_node::{BeginFault, Beginning, Cause, Entry, MemoryLink, Node, Replay, Reply, Tag};
+use swim_same::{holds, same, same_at};
 use swim_wire::{Cursor, NUMBER_MAX, Update, UpdateKind, encode};
 
 /// That 10.0.0.1:7000 is suspected with this number.
@@ -36,94 +39,121 @@ fn event_of(rt: &impl Abort, number: u32) -> Event {
 
 /// The two datagrams are the same, byte by byte.
 fn same_out(rt: &impl Abort, out: &Out, other: &Out) {
-    assert_eq!(rt; out.to, other.to);
-    assert!(rt; out.datagram.is_encodable() && other.datagram.is_encodable());
+    same(rt, out.to, other.to);
+    holds(
+        rt,
+        out.datagram.is_encodable() && other.datagram.is_encodable(),
+    );
     let bytes = encode(&out.datagram);
     let others = encode(&other.datagram);
-    assert_eq!(rt; bytes.as_slice(), others.as_slice());
+    same(rt, bytes.as_slice(), others.as_slice());
+}
+
+/// The two replies are the same.
+fn same_reply(rt: &impl Abort, reply: &Reply, other: &Reply) {
+    same(rt, reply.status, other.status);
+    same(rt, reply.notes.as_slice(), other.notes.as_slice());
+    same(rt, reply.page.as_slice(), other.page.as_slice());
+    same(rt, (reply.sent, reply.lost), (other.sent, other.lost));
 }
 
 /// The two entries are the same, but for the event, which the causes have.
 fn same_entry(rt: &impl Abort, entry: &Entry, other: &Entry) {
-    assert_eq!(rt; entry.tag, other.tag);
-    assert_eq!(rt; (entry.save, entry.granted), (other.save, other.granted));
-    assert_eq!(rt; entry.outcomes.as_slice(), other.outcomes.as_slice());
-    assert_eq!(rt; entry.reply.status, other.reply.status);
-    assert_eq!(rt; entry.reply.notes.as_slice(), other.reply.notes.as_slice());
-    assert_eq!(rt; entry.reply.page.as_slice(), other.reply.page.as_slice());
-    assert_eq!(rt;
-        (entry.reply.sent, entry.reply.lost),
-        (other.reply.sent, other.reply.lost)
-    );
-    assert_eq!(rt; entry.outs.len(), other.outs.len());
+    same(rt, entry.tag, other.tag);
+    same(rt, (entry.save, entry.granted), (other.save, other.granted));
+    same(rt, entry.outcomes.as_slice(), other.outcomes.as_slice());
+    same_reply(rt, &entry.reply, &other.reply);
+    same(rt, entry.outs.len(), other.outs.len());
     for (out, other) in entry.outs.iter().zip(other.outs.iter()) {
         same_out(rt, out, other);
     }
 }
 
-/// An era that begins in the middle of a life, after eight ticks, is played again to the same bytes. The first save fails
-/// and leaves its number in the file, so that the next one finds it there. An ack, a join, the ping of the tenth tick and
-/// the ping-req of the thirteenth are lost.
-#[test]
-fn an_era_again(rt: HostRuntime) {
-    let (mut node, plan) = opened(&rt, rt.alloc(), 32);
-    let mut link = MemoryLink::new(rt.alloc(), 1);
-    let heard = ping(&rt, 1, &[alive(&rt, 2, 1), alive(&rt, 3, 1)]);
+/// A node in the middle of its life: it has heard of two others, and eight ticks have passed.
+fn in_mid_life(rt: &impl Abort, alloc: Global) -> (Node<Device>, Plan, MemoryLink) {
+    let (mut node, plan) = opened(rt, alloc, 32);
+    let mut link = MemoryLink::new(alloc, 1);
+    let heard = ping(rt, 1, &[alive(rt, 2, 1), alive(rt, 3, 1)]);
     let first = Tag { caller: 0, turn: 1 };
-    assert!(rt; node.apply(&mut link, first, heard).is_ok());
+    holds(rt, node.apply(&mut link, first, heard).is_ok());
     for turn in 2..10 {
         let tag = Tag { caller: 0, turn };
-        assert!(rt; node.apply(&mut link, tag, event_of(&rt, 7)).is_ok());
+        holds(rt, node.apply(&mut link, tag, event_of(rt, 7)).is_ok());
     }
-    let beginning = node.beginning();
-    node.rebase();
+    (node, plan, link)
+}
+
+/// The calls of an era: the caller, the event, how many datagrams are lost, and which sync and which write fail. The first
+/// save fails and leaves its number in the file, so that the next one finds it there. An ack, a join, the ping of the tenth
+/// tick and the ping-req of the thirteenth are lost.
+const CALLS: [(u8, u32, u64, u64, u64); 15] = [
+    (0, 4, 0, 0, 0),
+    (1, 2, 0, 3, 0),
+    (0, 1, 1, 0, 0),
+    (0, 3, 0, 0, 1),
+    (1, 3, 0, 0, 0),
+    (1, 5, 1, 0, 0),
+    (0, 7, 0, 0, 0),
+    (0, 7, 1, 0, 0),
+    (0, 7, 0, 0, 0),
+    (0, 7, 0, 0, 0),
+    (0, 7, 1, 0, 0),
+    (0, 7, 0, 0, 0),
+    (0, 0, 0, 0, 0),
+    (1, 6, 0, 0, 0),
+    (0, 7, 0, 0, 0),
+];
+
+/// Makes the calls.
+fn call_all(rt: &impl Abort, node: &mut Node<Device>, plan: &Plan, link: &mut MemoryLink) {
     let mut turns = [0, 0];
-    for (caller, number, lose, sync, write) in [
-        (0, 4, 0, 0, 0),
-        (1, 2, 0, 3, 0),
-        (0, 1, 1, 0, 0),
-        (0, 3, 0, 0, 1),
-        (1, 3, 0, 0, 0),
-        (1, 5, 1, 0, 0),
-        (0, 7, 0, 0, 0),
-        (0, 7, 1, 0, 0),
-        (0, 7, 0, 0, 0),
-        (0, 7, 0, 0, 0),
-        (0, 7, 1, 0, 0),
-        (0, 7, 0, 0, 0),
-        (0, 0, 0, 0, 0),
-        (1, 6, 0, 0, 0),
-        (0, 7, 0, 0, 0),
-    ] {
-        assert!(rt; caller < 2 && turns[caller as usize] < 100);
+    for (caller, number, lose, sync, write) in CALLS {
+        holds(rt, caller < 2 && turns[caller as usize] < 100);
         turns[caller as usize] += 1;
+        let turn = turns[caller as usize];
         if lose > 0 {
             link.lose(lose);
         }
         plan.fail_sync(sync);
         plan.fail_write(write);
-        let tag = Tag {
-            caller,
-            turn: turns[caller as usize],
-        };
-        assert!(rt; node.apply(&mut link, tag, event_of(&rt, number)).is_ok());
+        let event = event_of(rt, number);
+        holds(rt, node.apply(link, Tag { caller, turn }, event).is_ok());
     }
+}
+
+/// An era that is played again from the causes of these entries.
+fn played_again(rt: &impl Abort, alloc: Global, beginning: Beginning, entries: &[Entry]) -> Replay {
     let sound = beginning.state.settings.check();
-    sound.ok().expect(&rt, "sound settings");
-    let mut again = Replay::begin(rt.alloc(), beginning)
-        .ok()
-        .expect(&rt, "an era");
-    for entry in node.journal() {
-        assert!(rt; entry.tag.caller < 16);
-        assert_eq!(rt; again.enter(Cause::of(entry)), Ok(()));
+    sound.ok().expect(rt, "sound settings");
+    let mut again = Replay::begin(alloc, beginning).ok().expect(rt, "an era");
+    for entry in entries {
+        holds(rt, entry.tag.caller < 16);
+        same(rt, again.enter(Cause::of(entry)), Ok(()));
     }
-    assert_eq!(rt; again.journal().len(), 15);
-    let lossy = node
-        .journal()
-        .iter()
-        .filter(|entry| entry.reply.lost == 1)
-        .count();
-    assert_eq!(rt; lossy, 4);
+    again
+}
+
+/// Of how many entries a datagram was lost.
+fn lossy(entries: &[Entry]) -> usize {
+    let mut count = 0usize;
+    for entry in entries {
+        if entry.reply.lost == 1 {
+            count = count.wrapping_add(1);
+        }
+    }
+    count
+}
+
+/// An era that begins in the middle of a life is played again to the same bytes.
+#[test]
+fn an_era_again(rt: HostRuntime) {
+    let (mut node, plan, mut link) = in_mid_life(&rt, rt.alloc());
+    let beginning = node.beginning();
+    node.rebase();
+    call_all(&rt, &mut node, &plan, &mut link);
+    let again = played_again(&rt, rt.alloc(), beginning, node.journal());
+    same(&rt, again.journal().len(), 15);
+    same(&rt, lossy(node.journal()), 4);
     for (entry, other) in node.journal().iter().zip(again.journal()) {
         same_entry(&rt, entry, other);
     }
@@ -142,19 +172,19 @@ fn spoil(rt: &impl Abort, beginning: &mut Beginning, row: u32) {
         }
         5 => state.time = NUMBER_MAX + 1,
         6 => state.rows.as_mut_slice().reverse(),
-        7 => assert!(rt; state.queue.pop().is_some()),
+        7 => holds(rt, state.queue.pop().is_some()),
         8 => state.number = 0,
         9 => {
-            assert!(rt; !state.queue.is_empty());
+            holds(rt, !state.queue.is_empty());
             state.queue[0].count = 19;
         }
         10 => {
-            assert!(rt; state.relays.is_empty());
+            holds(rt, state.relays.is_empty());
             state.time = 10;
             state.relays.push(Relay::default());
         }
         11 => {
-            assert!(rt; state.listed.is_empty());
+            holds(rt, state.listed.is_empty());
             state.listed.push(endpoint(rt, 2));
             state.listed.push(endpoint(rt, 2));
         }
@@ -185,7 +215,7 @@ fn refused_beginnings(rt: HostRuntime) {
         let mut link = MemoryLink::new(rt.alloc(), 1);
         let heard = ping(&rt, 1, &[alive(&rt, 2, 1), alive(&rt, 3, 1)]);
         let first = Tag { caller: 0, turn: 1 };
-        assert!(rt; node.apply(&mut link, first, heard).is_ok());
+        holds(&rt, node.apply(&mut link, first, heard).is_ok());
         let mut beginning = node.beginning();
         spoil(&rt, &mut beginning, row);
         beginning
@@ -195,6 +225,6 @@ fn refused_beginnings(rt: HostRuntime) {
             .ok()
             .expect(&rt, "sound settings");
         let begun = Replay::begin(rt.alloc(), beginning).map(|_| ());
-        assert_eq!(rt; begun, want, "row {row}");
+        same_at(&rt, &row, begun, want);
     }
 }

@@ -3,6 +3,7 @@
 use super::fakes::{Goes, MOST, Pieces, Said, Scripted, Slow};
 use std::io::ErrorKind;
 use std::test::Fail;
+use swim_same::same;
 use swim_shell::{ControlEnd, Conversation, Refusal, run};
 
 /// A conversation: its input, what the calls tell, what it must answer, and how it must end.
@@ -90,8 +91,8 @@ fn control_lines(rt: HostRuntime) -> Result<(), Fail> {
             let mut caller = Scripted::<3>::new(talk.script);
             let mut conversation = Conversation::new(&mut reader, &mut writer);
             let end = run(&rt, &mut conversation, &mut caller, &mut Goes { left: 999 });
-            assert_eq!(&rt; end, Some(talk.end));
-            assert_eq!(&rt; writer.out(), talk.output);
+            same(&rt, end, Some(talk.end));
+            same(&rt, writer.out(), talk.output);
         }
     }
     Ok(())
@@ -124,9 +125,9 @@ fn each_cut(rt: HostRuntime) -> Result<(), Fail> {
             let mut caller = Scripted::<8>::new(&[]);
             let mut conversation = Conversation::new(&mut reader, &mut writer);
             let ended = run(&rt, &mut conversation, &mut caller, &mut Goes { left: 9 });
-            assert_eq!(&rt; ended, Some(end));
-            assert_eq!(&rt; writer.out(), REPLIES.get(..*written).ok_or("replies")?);
-            assert_eq!(&rt; caller.calls(), *calls);
+            same(&rt, ended, Some(end));
+            same(&rt, writer.out(), REPLIES.get(..*written).ok_or("replies")?);
+            same(&rt, caller.calls(), *calls);
         }
     }
     Ok(())
@@ -143,9 +144,9 @@ fn each_write_fails(rt: HostRuntime) -> Result<(), Fail> {
         let mut caller = Scripted::<8>::new(&[]);
         let mut conversation = Conversation::new(&mut reader, &mut writer);
         let ended = run(&rt, &mut conversation, &mut caller, &mut Goes { left: 9 });
-        assert_eq!(&rt; ended, Some(ControlEnd::WriteFault));
-        assert_eq!(&rt; writer.taken(), REPLIES.get(..room).ok_or("replies")?);
-        assert_eq!(&rt; caller.calls(), *calls);
+        same(&rt, ended, Some(ControlEnd::WriteFault));
+        same(&rt, writer.taken(), REPLIES.get(..room).ok_or("replies")?);
+        same(&rt, caller.calls(), *calls);
     }
     Ok(())
 }
@@ -171,12 +172,13 @@ fn turns_in_eras(rt: HostRuntime) -> Result<(), Fail> {
                 calls = calls.wrapping_add(caller.calls() as u64);
             }
         }
-        assert_eq!(&rt; end, Some(ControlEnd::Asked));
-        assert_eq!(&rt;
+        same(&rt, end, Some(ControlEnd::Asked));
+        same(
+            &rt,
             writer.out(),
-            b"error 3 too long\nok left\nok stopping\n".as_slice()
+            b"error 3 too long\nok left\nok stopping\n".as_slice(),
         );
-        assert_eq!(&rt; calls, 1);
+        same(&rt, calls, 1);
     }
     Ok(())
 }
@@ -198,13 +200,14 @@ fn full_eras(rt: HostRuntime) -> Result<(), Fail> {
         let mut conversation = Conversation::new(&mut reader, &mut writer);
         let mut full = Scripted::<0>::new(&[]);
         let end = run(&rt, &mut conversation, &mut full, &mut Goes { left: turns });
-        assert_eq!(&rt; end, first);
+        same(&rt, end, first);
         let mut caller = Scripted::<1>::new(&[]);
         let end = run(&rt, &mut conversation, &mut caller, &mut Goes { left: 99 });
-        assert_eq!(&rt; end, Some(ControlEnd::Closed));
-        assert_eq!(&rt;
+        same(&rt, end, Some(ControlEnd::Closed));
+        same(
+            &rt,
             writer.out(),
-            b"error 5 era full\nok left\nok running number 1 alive 3 suspect 1 confirmed 2 length 1\n".as_slice()
+            b"error 5 era full\nok left\nok running number 1 alive 3 suspect 1 confirmed 2 length 1\n".as_slice(),
         );
     }
     Ok(())

@@ -16,6 +16,7 @@ use std::io::{self, ErrorKind};
 use std::test::Fail;
 use std::time::{Clock, Duration};
 use swim_member::Event;
+use swim_same::{holds, same};
 use swim_scenes::endpoint;
 use swim_shell::{Joiner, LIST_MAX, Paces, Receiver, Refusal, run};
 use swim_wire::{Endpoint, Rules};
@@ -146,15 +147,15 @@ fn turns_by_the_clock(rt: HostRuntime) -> Result<(), Fail> {
             desk.millis = *millis;
             desk.is_shown = *is_shown;
             let did = turn(&desk, &mut joiner, &mut caller)?;
-            assert_eq!(&rt; did, (*pages, joined.and_then(endpoint)));
+            same(&rt, did, (*pages, joined.and_then(endpoint)));
         }
         let mut receiver = Receiver::new(Listed::new(&[Given::Ping(1)]));
         run(&rt, &mut receiver, &mut caller, &mut Goes { left: 1 });
     }
     let lines = desk.lines.into_lines();
-    assert_eq!(&rt; lines.len(), LINES.len());
+    same(&rt, lines.len(), LINES.len());
     for (line, want) in lines.as_slice().iter().zip(LINES) {
-        assert!(&rt; line.as_str().ends_with(want));
+        holds(&rt, line.as_str().ends_with(want));
     }
     Ok(())
 }
@@ -171,10 +172,14 @@ fn draws_again_in_the_next_era(rt: HostRuntime) -> Result<(), Fail> {
     };
     let mut receiver = Receiver::new(Listed::new(&[Given::Ping(1)]));
     run(&rt, &mut receiver, &mut caller, &mut Goes { left: 1 });
-    assert_eq!(&rt; turn(&desk, &mut joiner, &mut caller)?, (0, None));
+    same(&rt, turn(&desk, &mut joiner, &mut caller)?, (0, None));
     desk.millis = Some(10_000);
-    assert_eq!(&rt; joiner.turn(&desk, &mut caller), Err(Refusal::EraFull));
+    same(&rt, joiner.turn(&desk, &mut caller), Err(Refusal::EraFull));
     caller.begin_era();
-    assert_eq!(&rt; turn(&desk, &mut joiner, &mut caller)?, (1, endpoint(3)));
+    same(
+        &rt,
+        turn(&desk, &mut joiner, &mut caller)?,
+        (1, endpoint(3)),
+    );
     Ok(())
 }

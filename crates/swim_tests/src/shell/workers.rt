@@ -9,6 +9,7 @@ use rand_core::SeedableRng;
 use std::test::Fail;
 use std::time::Duration;
 use swim_member::Event;
+use swim_same::{holds, same};
 use swim_scenes::endpoint;
 use swim_shell::{Joiner, Paces, Receiver, Refusal, Ticker, WorkerEnd, run};
 use swim_wire::Rules;
@@ -26,8 +27,8 @@ fn three_ticks(rt: HostRuntime) -> Result<(), Fail> {
         rng: ChaCha20Rng::from_seed(KEY),
     };
     let end = run(&rt, &mut ticker, &mut caller, &mut Goes { left: 3 });
-    assert_eq!(&rt; end, None);
-    assert_eq!(&rt; caller.node().len(), 3);
+    same(&rt, end, None);
+    same(&rt, caller.node().len(), 3);
     for (entry, want) in caller.node().journal().iter().zip([
         [247, 49, 152, 45, 86, 109, 135, 188],
         [161, 190, 170, 75, 177, 4, 119, 128],
@@ -36,7 +37,7 @@ fn three_ticks(rt: HostRuntime) -> Result<(), Fail> {
         let Event::Tick { deal } = &entry.event else {
             return Err("a tick".into());
         };
-        assert_eq!(&rt; deal.numbers().first_chunk(), Some(&want));
+        same(&rt, deal.numbers().first_chunk(), Some(&want));
     }
     Ok(())
 }
@@ -51,7 +52,7 @@ fn failed_receives(rt: HostRuntime) -> Result<(), Fail> {
         let mut caller = Direct::<40>::new(rt.alloc())?;
         let mut receiver = Receiver::new(Listed::new(given));
         let ended = run(&rt, &mut receiver, &mut caller, &mut Goes { left: 31 });
-        assert_eq!(&rt; (ended, caller.node().len()), (end, calls));
+        same(&rt, (ended, caller.node().len()), (end, calls));
     }
     Ok(())
 }
@@ -66,7 +67,7 @@ fn failed_receives_over_an_era(rt: HostRuntime) -> Result<(), Fail> {
         (WorkerEnd::Fault, 6),
     ] {
         let ended = run(&rt, &mut receiver, &mut caller, &mut Goes { left: 31 });
-        assert_eq!(&rt; (ended, caller.node().len()), (Some(end), calls));
+        same(&rt, (ended, caller.node().len()), (Some(end), calls));
         caller.begin_era();
     }
     Ok(())
@@ -82,13 +83,13 @@ fn pings_over_three_eras(rt: HostRuntime) -> Result<(), Fail> {
     let full = Some(WorkerEnd::Refused(Refusal::EraFull));
     for (end, calls) in [(full, 2), (full, 2), (None, 1)] {
         let ended = run(&rt, &mut receiver, &mut caller, &mut Goes { left: 4 });
-        assert_eq!(&rt; (ended, caller.node().len()), (end, calls));
+        same(&rt, (ended, caller.node().len()), (end, calls));
         caller.begin_era();
     }
     let acks = caller.link.taken();
-    assert_eq!(&rt; acks.len(), 5);
+    same(&rt, acks.len(), 5);
     for (ack, number) in acks.iter().zip(1u8..) {
-        assert_eq!(&rt; ack.bytes.get(19), Some(&number));
+        same(&rt, ack.bytes.get(19), Some(&number));
     }
     Ok(())
 }
@@ -117,20 +118,23 @@ fn joins_listed_and_drawn(rt: HostRuntime) -> Result<(), Fail> {
             rejoin,
         };
         let mut joiner = Joiner::new(me, rules, peers, paces, ChaCha20Rng::from_seed(KEY));
-        assert_eq!(&rt; joiner.turn(&rt, &mut caller), Ok(()));
+        same(&rt, joiner.turn(&rt, &mut caller), Ok(()));
         let mut receiver = Receiver::new(Listed::new(&[Given::Ping(1)]));
         run(&rt, &mut receiver, &mut caller, &mut Goes { left: 1 });
-        assert_eq!(&rt; joiner.turn(&rt, &mut caller), Ok(()));
+        same(&rt, joiner.turn(&rt, &mut caller), Ok(()));
         let journal = caller.node().journal();
-        assert_eq!(&rt; journal.len(), calls);
+        same(&rt, journal.len(), calls);
         let first = journal.first().ok_or("an entry")?;
-        assert!(&rt; matches!(first.event, Event::Join { peer: asked } if asked == peer));
+        holds(
+            &rt,
+            matches!(first.event, Event::Join { peer: asked } if asked == peer),
+        );
         let last = journal.last().ok_or("an entry")?;
         let last_joined = match last.event {
             Event::Join { peer: asked } => Some(asked),
             _ => None,
         };
-        assert_eq!(&rt; last_joined, joined);
+        same(&rt, last_joined, joined);
     }
     Ok(())
 }
@@ -152,7 +156,7 @@ fn waits_between_joins(rt: HostRuntime) -> Result<(), Fail> {
         (1, true, false, None),
     ] {
         let rest = paces.until_next(joins, were_all, is_alone);
-        assert_eq!(&rt; rest, millis.map(Duration::from_millis));
+        same(&rt, rest, millis.map(Duration::from_millis));
     }
     Ok(())
 }

@@ -11,6 +11,7 @@ use std::test::Fail;
 use std::time::{Clock, Duration};
 use swim_member::{Note, Phase};
 use swim_node::{Reply, Status};
+use swim_same::{holds, same};
 use swim_scenes::endpoint;
 use swim_serve::{LOGGED_MAX, NoteLog};
 
@@ -101,9 +102,9 @@ fn left_out_notes(rt: HostRuntime) -> Result<(), Fail> {
         "note 2 OtherGroup, and 2 of its kind in the same second",
         "note 2 OtherGroup from 10.0.0.2:7000",
     ];
-    assert_eq!(&rt; lines.len(), want.len());
+    same(&rt, lines.len(), want.len());
     for (line, want) in lines.as_slice().iter().zip(want) {
-        assert!(&rt; line.as_str().ends_with(want));
+        holds(&rt, line.as_str().ends_with(want));
     }
     Ok(())
 }
@@ -121,9 +122,9 @@ fn stopped_once(rt: HostRuntime) -> Result<(), Fail> {
         notes.log(&desk, &noted(Note::Stopped), &None);
     }
     let lines = desk.lines.into_lines();
-    assert_eq!(&rt; lines.len(), 1);
+    same(&rt, lines.len(), 1);
     for line in lines.as_slice() {
-        assert!(&rt; line.as_str().ends_with("note 14 Stopped"));
+        holds(&rt, line.as_str().ends_with("note 14 Stopped"));
     }
     Ok(())
 }

@@ -6,6 +6,7 @@ use log::sink::Memory;
 use std::process::Abort;
 use std::test::Fail;
 use swim_member::{Note, Phase};
+use swim_same::{holds, same};
 use swim_scenes::{endpoint, text, update};
 use swim_serve::NumberLog;
 use swim_wire::{Cursor, Kind, Update, UpdateKind};
@@ -105,9 +106,9 @@ fn number_lines(rt: HostRuntime) -> Result<(), Fail> {
     let mut lines = lines.as_slice().iter();
     for want in all.iter().filter_map(|call| call.logged) {
         let line = lines.next().ok_or("a line")?;
-        assert!(&rt; line.as_str().ends_with(want));
+        holds(&rt, line.as_str().ends_with(want));
     }
-    assert!(&rt; lines.next().is_none());
+    holds(&rt, lines.next().is_none());
     Ok(())
 }
 
@@ -122,7 +123,7 @@ fn numbers_without_end(rt: HostRuntime) -> Result<(), Fail> {
     for said in 2..9 {
         numbers.log(&desk, said, &replied(None, Phase::Running, 1));
     }
-    assert_eq!(&rt; desk.lines.into_lines().len(), 5);
+    same(&rt, desk.lines.into_lines().len(), 5);
     Ok(())
 }
 
@@ -140,12 +141,12 @@ fn numbers_said(rt: HostRuntime) -> Result<(), Fail> {
         (UpdateKind::Suspect, 3, 30, 9),
     ] {
         let said = update(kind, last, number).ok_or("an update")?;
-        assert!(&rt; updates.try_push(said).is_ok());
+        holds(&rt, updates.try_push(said).is_ok());
         let page = text(Kind::Page, 1, Cursor::zero(), updates.as_slice());
         let mut bytes = page.ok_or("a text")?;
-        assert_eq!(&rt; numbers.said_by(bytes.as_slice()), want);
+        same(&rt, numbers.said_by(bytes.as_slice()), want);
         bytes.truncate(9);
-        assert_eq!(&rt; numbers.said_by(bytes.as_slice()), 0);
+        same(&rt, numbers.said_by(bytes.as_slice()), 0);
     }
     Ok(())
 }

@@ -5,6 +5,7 @@ use std::sync::Wait;
 use std::test::Fail;
 use std::thread::Threads;
 use std::time::{Clock, Duration, Instant};
+use swim_same::holds;
 use swim_serve::{Beat, Crew, Ending, Job, Pace, Pacing, Resting, Ringing, serve};
 
 /// How often each test tries.
@@ -82,13 +83,13 @@ fn all_end_in_time<T: Threads + Wait + Clock + Sync>(rt: &T, pause: Duration) ->
 /// Workers that wait are woken by the end of another one.
 #[test]
 fn waits_end(rt: HostRuntime) -> Result<(), Fail> {
-    assert!(&rt; all_end_in_time(&rt, Duration::from_millis(5)));
+    holds(&rt, all_end_in_time(&rt, Duration::from_millis(5)));
     Ok(())
 }
 
 /// Workers that begin to wait while another one ends don't miss it.
 #[test]
 fn waits_that_begin_at_the_end(rt: HostRuntime) -> Result<(), Fail> {
-    assert!(&rt; all_end_in_time(&rt, Duration::ZERO));
+    holds(&rt, all_end_in_time(&rt, Duration::ZERO));
     Ok(())
 }

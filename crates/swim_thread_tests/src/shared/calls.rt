@@ -13,6 +13,7 @@ use std::thread::{Threads, join};
 use swim_disk::Disk;
 use swim_member::Event;
 use swim_node::Node;
+use swim_same::{holds, same};
 use swim_scenes::{opened_by_plan, ping, suspicion};
 use swim_shared::{CallFault, Closed, Name, Parts, Pass, Shared};
 
@@ -40,13 +41,13 @@ fn first<N: Name, D: Disk + Drop, R: Wait + Abort>(
     let (shared, mut passes, mut watches) = made.ok().ok_or("memory")?;
     let mut pass = passes.pop().ok_or("a pass")?;
     let mut watch = watches.pop().ok_or("a watch")?;
-    assert_eq!(rt; watch.read().ok_or("a status")?.length, 0);
+    same(rt, watch.read().ok_or("a status")?.length, 0);
     let event = ping(1, &[]).ok_or("a ping")?;
     let reply = shared.call(rt, &mut pass, event);
     let status = reply.ok().ok_or("a reply")?.status;
-    assert!(rt; shared.show(rt, &mut pass, &mut watch));
+    holds(rt, shared.show(rt, &mut pass, &mut watch));
     let read = watch.read().ok_or("a status")?;
-    assert_eq!(rt; (read, read.length), (status, 1));
+    same(rt, (read, read.length), (status, 1));
     Ok(())
 }
 
@@ -63,10 +64,10 @@ fn three_eras(rt: HostRuntime) -> Result<(), Fail> {
     let parts = Parts::new(node, closed.link, 1, 0);
     let closed = one_era::<Brand, _, _>(&rt, alloc, parts, 2)?;
     let mut node = closed.node;
-    assert_eq!(rt; node.end_era().journal().len(), 2);
+    same(&rt, node.end_era().journal().len(), 2);
     let parts = Parts::new(node, closed.link, 1, 0);
     let closed = one_era::<Brand, _, _>(&rt, alloc, parts, 3)?;
-    assert_eq!(rt; closed.node.status().number, 4);
+    same(&rt, closed.node.status().number, 4);
     Ok(())
 }
 
@@ -90,15 +91,23 @@ fn one_era<N: Name, D: Disk + Drop, R: Wait + Abort>(
     let event = suspicion(number).ok_or("a ping")?;
     let reply = shared.call(rt, &mut pass, event);
     let status = reply.ok().ok_or("a reply")?.status;
-    assert_eq!(rt; (status.length, status.number), (1, number.wrapping_add(1)));
-    assert!(rt; shared.call(rt, &mut pass, Event::ReceiveFailed).is_ok());
+    same(
+        rt,
+        (status.length, status.number),
+        (1, number.wrapping_add(1)),
+    );
+    holds(rt, shared.call(rt, &mut pass, Event::ReceiveFailed).is_ok());
     let full = shared.call(rt, &mut pass, Event::ReceiveFailed);
-    assert!(rt; matches!(full, Err(CallFault::EraFull)));
-    assert_eq!(rt; (pass.calls(), pass.len(), pass.is_spent()), (2, 2, false));
+    holds(rt, matches!(full, Err(CallFault::EraFull)));
+    same(
+        rt,
+        (pass.calls(), pass.len(), pass.is_spent()),
+        (2, 2, false),
+    );
     passes.push(pass)?;
-    assert!(rt; passes.len() < 17 && watches.len() < 17);
+    holds(rt, passes.len() < 17 && watches.len() < 17);
     let closed = shared.close(passes, watches);
-    assert_eq!(rt; (closed.odd, closed.node.len()), (0, 2));
+    same(rt, (closed.odd, closed.node.len()), (0, 2));
     Ok(closed)
 }
 
@@ -132,17 +141,17 @@ fn fill<N: Name + Send + Sync, D: Disk + Drop + Send, R: Threads + Wait + Abort 
     let first = passes.pop().ok_or("a pass")?;
     let mut watch = watches.pop().ok_or("a watch")?;
     let ((mut first, ones), (second, twos)) = both(rt, &shared, first, second);
-    assert_eq!(rt; (ones, twos), (50, 50));
+    same(rt, (ones, twos), (50, 50));
     let full = shared.call(rt, &mut first, Event::ReceiveFailed);
-    assert!(rt; matches!(full, Err(CallFault::EraFull)));
-    assert!(rt; shared.show(rt, &mut first, &mut watch));
-    assert_eq!(rt; watch.read().ok_or("a status")?.length, 100);
+    holds(rt, matches!(full, Err(CallFault::EraFull)));
+    holds(rt, shared.show(rt, &mut first, &mut watch));
+    same(rt, watch.read().ok_or("a status")?.length, 100);
     passes.push(first)?;
     passes.push(second)?;
     watches.push(watch)?;
-    assert!(rt; passes.len() < 17 && watches.len() < 17);
+    holds(rt, passes.len() < 17 && watches.len() < 17);
     let closed = shared.close(passes, watches);
-    assert_eq!(rt; (closed.odd, closed.node.len()), (0, 100));
+    same(rt, (closed.odd, closed.node.len()), (0, 100));
     Ok(closed)
 }
 
@@ -191,21 +200,22 @@ fn replays<D: Disk>(rt: &impl Abort, alloc: Global, node: &Node<D>) {
     let mut turns = [0u32; 2];
     for entry in node.journal() {
         let caller = entry.tag.caller;
-        assert!(rt; caller < 2);
+        holds(rt, caller < 2);
         turns[caller as usize] = turns[caller as usize].wrapping_add(1);
-        assert_eq!(rt; entry.tag.turn, turns[caller as usize]);
+        same(rt, entry.tag.turn, turns[caller as usize]);
         let event = at_turn(rt, entry.tag.turn);
         let reply = alone
             .apply(&mut link, entry.tag, event)
             .ok()
             .expect(rt, "an entry");
-        assert_eq!(rt; reply.status, entry.reply.status);
-        assert_eq!(rt;
+        same(rt, reply.status, entry.reply.status);
+        same(
+            rt,
             (reply.sent, reply.lost),
-            (entry.reply.sent, entry.reply.lost)
+            (entry.reply.sent, entry.reply.lost),
         );
-        assert_eq!(rt; reply.notes.as_slice(), entry.reply.notes.as_slice());
-        assert_eq!(rt; reply.page.as_slice(), entry.reply.page.as_slice());
+        same(rt, reply.notes.as_slice(), entry.reply.notes.as_slice());
+        same(rt, reply.page.as_slice(), entry.reply.page.as_slice());
     }
-    assert_eq!(rt; turns, [50, 50]);
+    same(rt, turns, [50, 50]);
 }

@@ -13,6 +13,7 @@ use std::thread::{self, Threads, join};
 use swim_disk::{Disk, Plan};
 use swim_member::Event;
 use swim_node::Status;
+use swim_same::{holds, same};
 use swim_scenes::{opened_by_plan, suspicion};
 use swim_shared::{Name, Parts, Pass, Shared, Watch};
 
@@ -43,16 +44,16 @@ fn read_beside<N: Name + Send + Sync, D: Disk + Drop + Send, R: Threads + Wait +
     let pass = passes.pop().ok_or("a pass")?;
     let mut watch = watches.pop().ok_or("a watch")?;
     let before = watch.read().ok_or("a status")?;
-    assert_eq!(rt; (before.length, before.number), (0, 1));
+    same(rt, (before.length, before.number), (0, 1));
     plan.hold_sync();
     let event = suspicion(1).ok_or("a ping")?;
     let ((mut pass, answered), (mut watch, read, held)) = beside(
         rt, &shared, pass, event, watch, plan,
     );
-    assert_eq!(rt; (answered, read, held), (true, Some(before), true));
-    assert!(rt; shared.show(rt, &mut pass, &mut watch));
+    same(rt, (answered, read, held), (true, Some(before), true));
+    holds(rt, shared.show(rt, &mut pass, &mut watch));
     let after = watch.read().ok_or("a status")?;
-    assert_eq!(rt; (after.length, after.number), (1, 2));
+    same(rt, (after.length, after.number), (1, 2));
     Ok(())
 }
 

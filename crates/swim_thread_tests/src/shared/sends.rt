@@ -12,6 +12,7 @@ use std::thread::{self, Threads, join};
 use swim_disk::Disk;
 use swim_member::{Event, Note};
 use swim_node::{Link, LinkFault, MemoryLink};
+use swim_same::{holds, same};
 use swim_scenes::{endpoint, opened_by_plan, ping, update};
 use swim_shared::{Name, Outbox, Parts, Pass, Sender, Shared};
 use swim_wire::{Endpoint, Kind, UpdateKind, decode};
@@ -50,27 +51,28 @@ fn narrow<N: Name, D: Disk + Drop, R: Wait + Abort>(
     let event = ping(1, &two).ok_or("a ping")?;
     for (event, want) in [(event, (1, 0)), (Event::Leave, (0, 2))] {
         let reply = shared.call(rt, &mut pass, event).ok().ok_or("a reply")?;
-        assert_eq!(rt; (reply.sent, reply.lost), want);
+        same(rt, (reply.sent, reply.lost), want);
     }
     let mut link = MemoryLink::new(alloc, 1);
     let sent = sender.turn(&mut link);
-    assert_eq!(rt; (sent.taken, sent.lost), (1, 0));
+    same(rt, (sent.taken, sent.lost), (1, 0));
     passes.push(pass)?;
-    assert!(rt; passes.len() < 17 && watches.len() < 17);
+    holds(rt, passes.len() < 17 && watches.len() < 17);
     let closed = shared.close_sent(passes, watches, sender, &mut link);
-    assert_eq!(rt; (closed.odd, closed.owed, closed.node.len()), (0, 0, 2));
-    assert_eq!(rt; link.taken().len(), 1);
+    same(rt, (closed.odd, closed.owed, closed.node.len()), (0, 0, 2));
+    same(rt, link.taken().len(), 1);
     is_ack(rt, &link, 1)
 }
 
 /// The first datagram that the link took is the ack of this ping.
 fn is_ack<R: Abort>(rt: &R, link: &MemoryLink, seq: u32) -> Result<(), Fail> {
     let taken = link.taken().first().ok_or("a datagram")?;
-    assert_eq!(rt; Some(taken.to), endpoint(2));
+    same(rt, Some(taken.to), endpoint(2));
     let ack = decode(&taken.bytes).ok().ok_or("a text")?;
-    assert_eq!(rt;
+    same(
+        rt,
         (ack.kind, ack.seq, Some(ack.sender)),
-        (Kind::Ack, seq, endpoint(1))
+        (Kind::Ack, seq, endpoint(1)),
     );
     Ok(())
 }
@@ -105,25 +107,25 @@ fn told<N: Name, D: Disk + Drop, R: Wait + Abort>(
     let mut pass = passes.pop().ok_or("a pass")?;
     for seq in 1..3 {
         let event = ping(seq, &[]).ok_or("a ping")?;
-        assert!(rt; shared.call(rt, &mut pass, event).is_ok());
+        holds(rt, shared.call(rt, &mut pass, event).is_ok());
     }
     let mut link = MemoryLink::new(alloc, 1);
     link.lose(2);
     let sent = sender.turn(&mut link);
-    assert_eq!(rt; (sent.taken, sent.lost, sender.owed()), (1, 1, 1));
+    same(rt, (sent.taken, sent.lost, sender.owed()), (1, 1, 1));
     let count = sender.owed();
     let told = shared.call(rt, &mut pass, Event::SendFailed { count });
     let notes = told.ok().ok_or("a reply")?.notes;
-    assert_eq!(rt; notes.as_slice(), [Note::SendFailed(1)].as_slice());
+    same(rt, notes.as_slice(), [Note::SendFailed(1)].as_slice());
     sender.settle();
-    assert_eq!(rt; sender.owed(), 0);
+    same(rt, sender.owed(), 0);
     let event = ping(3, &[]).ok_or("a ping")?;
-    assert!(rt; shared.call(rt, &mut pass, event).is_ok());
+    holds(rt, shared.call(rt, &mut pass, event).is_ok());
     passes.push(pass)?;
-    assert!(rt; passes.len() < 17 && watches.len() < 17);
+    holds(rt, passes.len() < 17 && watches.len() < 17);
     let closed = shared.close_sent(passes, watches, sender, &mut link);
-    assert_eq!(rt; (closed.odd, closed.owed, closed.node.len()), (0, 0, 4));
-    assert_eq!(rt; link.taken().len(), 2);
+    same(rt, (closed.odd, closed.owed, closed.node.len()), (0, 0, 4));
+    same(rt, link.taken().len(), 2);
     is_ack(rt, &link, 1)
 }
 
@@ -195,7 +197,7 @@ fn call_beside<N: Name + Send + Sync, D: Disk + Drop + Send, R: Threads + Wait +
     let (shared, mut passes, watches) = made.ok().ok_or("memory")?;
     let mut pass = passes.pop().ok_or("a pass")?;
     let event = ping(1, &[]).ok_or("a ping")?;
-    assert!(rt; shared.call(rt, &mut pass, event).is_ok());
+    holds(rt, shared.call(rt, &mut pass, event).is_ok());
     let inside = AtomicBool::new(false);
     let answered = AtomicBool::new(false);
     let link = Held {
@@ -205,12 +207,12 @@ fn call_beside<N: Name + Send + Sync, D: Disk + Drop + Send, R: Threads + Wait +
     };
     let event = ping(2, &[]).ok_or("a ping")?;
     let (sent, (pass, is_answered)) = sending(rt, &shared, pass, event, sender, link);
-    assert_eq!(rt; sent, (1, 0, false));
-    assert!(rt; is_answered);
+    same(rt, sent, (1, 0, false));
+    holds(rt, is_answered);
     passes.push(pass)?;
-    assert!(rt; passes.len() < 17 && watches.len() < 17);
+    holds(rt, passes.len() < 17 && watches.len() < 17);
     let closed = shared.close(passes, watches);
-    assert_eq!(rt; (closed.odd, closed.node.len()), (0, 2));
+    same(rt, (closed.odd, closed.node.len()), (0, 2));
     Ok(())
 }
 

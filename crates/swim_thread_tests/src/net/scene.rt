@@ -1,10 +1,10 @@
 //! What the tests share.
 
-use crate::SocketAlarm;
 use std::net::{Ipv4Addr, Net, SocketAddrV4};
 use std::process::Abort;
 use std::thread::{self, Threads};
 use std::time::{Clock, Duration};
+use swim_net::SocketAlarm;
 use swim_shell::Alarm;
 
 /// What a test runs on.

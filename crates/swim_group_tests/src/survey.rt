@@ -1,20 +1,14 @@
 //! What is printed of small runs, sweeps, and plans that are made smaller.
 
-use crate::broken::told;
-use crate::files::Made;
-use crate::gathered::Gathered;
-use crate::pictures::{draw_runs, draw_sweep};
-use crate::placed::placed;
-use crate::runs::run_all;
-use crate::shrink::{Trial, shrunk, write_plan};
-use crate::stage::Stage;
-use crate::sweep::{Span, Sweep, numbers_of, read_span};
-use crate::sweeping::run_sweep;
-use crate::table::report;
 use std::alloc::{AllocError, Global};
 use std::test::Fail;
 use swim_group::Breach;
+use swim_same::{holds, holds_at, same, same_at};
 use swim_simulate::{Key, Kill, Plan, SimulateFault, Stop, simulate};
+use swim_survey::{
+    Gathered, Made, Span, Stage, Sweep, Trial, draw_runs, draw_sweep, numbers_of, placed,
+    read_span, report, run_all, run_sweep, shrunk, told, write_plan,
+};
 use swim_wire::{Endpoint, Update, UpdateKind};
 
 /// What runs of a plan print.
@@ -29,8 +23,11 @@ fn a_seed_gives_one_run(rt: HostRuntime) -> Result<(), Fail> {
     let plan = "members = 4\nminutes = 1\nrestart_after = 100\nrepeats = 20\nloss = 20\n";
     let first = printed(rt.alloc(), plan, 7, 2)?;
     let second = printed(rt.alloc(), plan, 7, 2)?;
-    assert_eq!(rt; first.as_str(), second.as_str());
-    assert!(rt; first.as_str().contains("medians and rates of each run\n"));
+    same(&rt, first.as_str(), second.as_str());
+    holds(
+        &rt,
+        first.as_str().contains("medians and rates of each run\n"),
+    );
     Ok(())
 }
 
@@ -45,10 +42,10 @@ fn stages_count_from_the_kill_or_the_opening(rt: HostRuntime) {
         back: Some(200),
         alive: Some(230),
     };
-    assert_eq!(rt; Stage::Suspected.ticks(&kill), Some(10));
-    assert_eq!(rt; Stage::Confirmed.ticks(&kill), Some(60));
-    assert_eq!(rt; Stage::Failed.ticks(&kill), None);
-    assert_eq!(rt; Stage::Alive.ticks(&kill), Some(30));
+    same(&rt, Stage::Suspected.ticks(&kill), Some(10));
+    same(&rt, Stage::Confirmed.ticks(&kill), Some(60));
+    same(&rt, Stage::Failed.ticks(&kill), None);
+    same(&rt, Stage::Alive.ticks(&kill), Some(30));
 }
 
 #[test]
@@ -70,7 +67,7 @@ fn spans_are_read_in_the_range_of_a_key(rt: HostRuntime) {
     ];
     for (text, span) in rows {
         let span = span.map(|(least, most, step)| Span { least, most, step });
-        assert_eq!(rt; read_span(text.as_bytes(), range), span, "{text}");
+        same_at(&rt, &text, read_span(text.as_bytes(), range), span);
     }
 }
 
@@ -85,7 +82,7 @@ fn a_row_has_six_numbers_or_its_step(rt: HostRuntime) -> Result<(), Fail> {
     ];
     for (span, numbers) in rows {
         let found = numbers_of(rt.alloc(), span)?;
-        assert_eq!(rt; found.as_slice(), numbers);
+        same(&rt, found.as_slice(), numbers);
     }
     Ok(())
 }
@@ -117,7 +114,7 @@ fn sweeps_are_refused_by_name(rt: HostRuntime) -> Result<(), Fail> {
     ];
     for (text, refusal) in rows {
         let found = refusal_of(rt.alloc(), text)?;
-        assert_eq!(rt; found.as_str(), refusal, "{text}");
+        same_at(&rt, &text, found.as_str(), refusal);
     }
     Ok(())
 }
@@ -143,7 +140,7 @@ fn plans_are_refused_with_their_line(rt: HostRuntime) -> Result<(), Fail> {
     ];
     for (text, refusal) in rows {
         let found = placed_refusal_of(rt.alloc(), text)?;
-        assert_eq!(rt; found.as_str(), refusal, "{text}");
+        same_at(&rt, &text, found.as_str(), refusal);
     }
     Ok(())
 }
@@ -157,12 +154,12 @@ fn a_sweep_has_a_line_for_each_choice(rt: HostRuntime) -> Result<(), Fail> {
     let mut lines = table.as_str().lines();
     let head =
         "suspect,loss,suspected_s,confirmed_s,agreed_failed_s,agreed_alive_s,false_suspicions_by_hour,false_confirms_by_hour,datagrams_by_second,bytes_by_second,saves_by_hour";
-    assert_eq!(rt; lines.next(), Some(head));
+    same(&rt, lines.next(), Some(head));
     for begin in ["20,0,", "20,10,", "40,0,", "40,10,"] {
         let line = lines.next().unwrap_or("");
-        assert!(rt; line.starts_with(begin), "{line}");
+        holds_at(&rt, &line, line.starts_with(begin));
     }
-    assert_eq!(rt; lines.next(), None);
+    same(&rt, lines.next(), None);
     Ok(())
 }
 
@@ -194,8 +191,8 @@ fn a_planted_breach_is_made_as_small_as_it_is(rt: HostRuntime) -> Result<(), Fai
     let mut found = String::new(rt.alloc());
     write_plan(&mut found, &smaller)?;
     let least = "members = 5\nminutes = 2\nloss = 7\ncut_for = 0\npause_for = 0\n";
-    assert_eq!(rt; found.as_str(), least);
-    assert!(rt; planted.tried < 400, "{}", planted.tried);
+    same(&rt, found.as_str(), least);
+    holds_at(&rt, &planted.tried, planted.tried < 400);
     Ok(())
 }
 
@@ -206,15 +203,16 @@ fn a_run_is_told_as_a_plan(rt: HostRuntime) -> Result<(), Fail> {
     let plan = Plan::read(alloc, text.as_bytes())?;
     let done = simulate(alloc, &plan, 1, 0)?;
     let found = told(alloc, &plan, 1, &done)?;
-    assert!(rt;
+    holds_at(
+        &rt,
+        &found,
         found.as_str().starts_with("# seed 1\n# tick 300: member "),
-        "{found}"
     );
-    assert!(rt; found.as_str().contains("# tick 400: member "), "{found}");
+    holds_at(&rt, &found, found.as_str().contains("# tick 400: member "));
     // it is a plan, and the same one
     let again = Plan::read(alloc, found.as_str().as_bytes())?;
     for key in Key::ALL {
-        assert_eq!(rt; again.get(key), plan.get(key), "{key}");
+        same_at(&rt, &key, again.get(key), plan.get(key));
     }
     Ok(())
 }
@@ -225,10 +223,13 @@ fn pictures_end_as_they_begin(rt: HostRuntime) -> Result<(), Fail> {
     let plan = Plan::read(alloc, b"members = 3\nminutes = 1\nkills = 1\n")?;
     let runs = run_all(alloc, &plan, 1, 1, &mut Made::none())?;
     let picture = draw_runs(alloc, &plan, 1, runs)?;
-    assert!(rt; picture.as_str().starts_with("<svg ") && picture.as_str().ends_with("</svg>\n"));
+    holds(
+        &rt,
+        picture.as_str().starts_with("<svg ") && picture.as_str().ends_with("</svg>\n"),
+    );
     let sweep = Sweep::read(alloc, "loss=0..1")?;
     let picture = draw_sweep(alloc, &sweep, &[Some(1); 18])?;
-    assert!(rt; picture.as_str().contains(">loss 1</text>"), "{picture}");
+    holds_at(&rt, &picture, picture.as_str().contains(">loss 1</text>"));
     Ok(())
 }
 
@@ -241,8 +242,8 @@ fn what_is_gathered_adds_up(rt: HostRuntime) -> Result<(), Fail> {
         let done = simulate(alloc, &plan, seed, 0)?;
         all.add(&Gathered::of(alloc, &done.measures, 100)?)?;
     }
-    assert_eq!(rt; all.kills, 4);
-    assert_eq!(rt; all.sorted(alloc, Stage::Confirmed)?.len(), 4);
+    same(&rt, all.kills, 4);
+    same(&rt, all.sorted(alloc, Stage::Confirmed)?.len(), 4);
     Ok(())
 }
 
@@ -274,7 +275,7 @@ fn a_broken_run_is_told_as_a_script(rt: HostRuntime) -> Result<(), Fail> {
     let found = told(alloc, &plan, 1, &done)?;
     let line =
         "# tick 590: 10.0.0.2:7000 told number 9 of 10.0.0.2:7000: it told a greater number of itself before\n# in swim play this member does it alone\ngroup 1\nme 10.0.0.2:7000\n";
-    assert!(rt; found.as_str().contains(line), "{found}");
+    holds_at(&rt, &found, found.as_str().contains(line));
     // it has each kind of line
     for begin in [
         "tick ",
@@ -286,7 +287,7 @@ fn a_broken_run_is_told_as_a_script(rt: HostRuntime) -> Result<(), Fail> {
         "open",
     ] {
         let is_there = found.as_str().lines().any(|line| line.starts_with(begin));
-        assert!(rt; is_there, "{begin}");
+        holds_at(&rt, &begin, is_there);
     }
     Ok(())
 }
@@ -300,11 +301,12 @@ fn a_run_that_no_script_plays_is_told_as_a_plan(rt: HostRuntime) -> Result<(), F
     let mut done = simulate(alloc, &plan, 1, 0)?;
     done.stop = Some(planted_stop(590));
     let found = told(alloc, &plan, 1, &done)?;
-    assert!(rt;
+    holds_at(
+        &rt,
+        &found,
         found
             .as_str()
             .ends_with("before\nmembers = 9\nminutes = 1\nkills = 0\n"),
-        "{found}"
     );
     Ok(())
 }

@@ -1,10 +1,11 @@
 //! What becomes of what the system answers to a receive.
 
-use crate::udp::take;
 use arrayvec::ArrayVec;
 use std::io::{self, ErrorKind};
 use std::net::{Ipv4Addr, Ipv6Addr, SocketAddr, SocketAddrV4, SocketAddrV6};
 use std::test::Fail;
+use swim_net::take;
+use swim_same::{holds, same};
 use swim_shell::ReceiveFault;
 use swim_wire::Endpoint;
 
@@ -31,8 +32,8 @@ fn datagrams(rt: HostRuntime) -> Result<(), Fail> {
         let mut into = ArrayVec::new();
         into.push(7);
         let taken = take(Ok((3, from)), b"abcd", &mut into);
-        assert_eq!(&rt; taken, Ok(want));
-        assert_eq!(&rt; into.as_slice(), kept);
+        same(&rt, taken, Ok(want));
+        same(&rt, into.as_slice(), kept);
     }
     Ok(())
 }
@@ -54,8 +55,8 @@ fn errors(rt: HostRuntime) -> Result<(), Fail> {
         let mut into = ArrayVec::new();
         into.push(7);
         let taken = take(Err(io::Error::from(kind)), b"", &mut into);
-        assert_eq!(&rt; taken, want);
-        assert!(&rt; into.is_empty());
+        same(&rt, taken, want);
+        holds(&rt, into.is_empty());
     }
     Ok(())
 }

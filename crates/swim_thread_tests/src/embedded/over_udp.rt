@@ -2,12 +2,12 @@
 
 ghost use Rattle.std.specs.Prelude.{◌≡◌, [], IfOk};
 
-use crate::{
+use log::Log;
+use rollerblack::{
     ArrayVec, Beat, ChaCha20Rng, Desk, Disk, Endpoint, Joiner, Logs, MemDisk, Node, Outside, Owner,
     Paces, Receiver, SeedableRng, Settings, TcpDoors, Ticker, Waits, bind_datagrams, init,
     run_member,
 };
-use log::Log;
 use std::alloc::Global;
 use std::io::{Read, Write};
 use std::net::{Ipv4Addr, Net, SocketAddr, SocketAddrV4, TcpListener, TcpStream};

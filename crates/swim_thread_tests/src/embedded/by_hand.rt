@@ -1,6 +1,6 @@
 //! A member that is driven by hand.
 
-use crate::{
+use rollerblack::{
     ApplyFault, ArrayVec, Cursor, Datagram, Deal, Endpoint, Event, Kind, Link, MemDisk, MemoryLink,
     Node, Owner, RECEIVED_MAX, Reply, Rules, Settings, Tag, Update, UpdateKind, encode, init,
 };

@@ -1,7 +1,6 @@
 //! Datagrams between two sockets.
 
 use super::scene::{ENDED_MILLIS, Host, address, long, ring_later, sleep};
-use crate::{SocketAlarm, UdpInbound, UdpLink, bind_datagrams};
 use arrayvec::ArrayVec;
 use std::alloc::Global;
 use std::io;
@@ -10,7 +9,9 @@ use std::sync::atomic::{AtomicU32, Ordering};
 use std::test::Fail;
 use std::thread::join;
 use std::time::{Clock, Duration, Instant};
+use swim_net::{SocketAlarm, UdpInbound, UdpLink, bind_datagrams};
 use swim_node::Link;
+use swim_same::{holds, same};
 use swim_shell::{Alarm, Inbound};
 use swim_wire::Endpoint;
 
@@ -38,9 +39,9 @@ fn waiting_time(rt: HostRuntime) -> Result<(), Fail> {
     let (mut inbound, _, _) = bound(&rt, rt.alloc(), 0, Duration::from_millis(20))?;
     let mut into = ArrayVec::new();
     let start = Instant::now(&rt)?;
-    assert_eq!(&rt; inbound.receive(&mut into), Ok(None));
+    same(&rt, inbound.receive(&mut into), Ok(None));
     let took = start.elapsed(&rt)?.as_millis();
-    assert!(&rt; 15 < took && took < ENDED_MILLIS);
+    holds(&rt, 15 < took && took < ENDED_MILLIS);
     Ok(())
 }
 
@@ -55,9 +56,9 @@ fn alarm_ends_receive(rt: HostRuntime) -> Result<(), Fail> {
         || ring_later(&rt, &alarm),
         || inbound.receive(&mut into),
     );
-    assert_eq!(&rt; received, Ok(None));
+    same(&rt, received, Ok(None));
     let took = start.elapsed(&rt)?.as_millis();
-    assert!(&rt; 15 < took && took < ENDED_MILLIS);
+    holds(&rt, 15 < took && took < ENDED_MILLIS);
     Ok(())
 }
 
@@ -69,10 +70,10 @@ fn ring_before_wait(rt: HostRuntime) -> Result<(), Fail> {
     alarm.ring();
     alarm.ring();
     let start = Instant::now(&rt)?;
-    assert_eq!(&rt; inbound.receive(&mut into), Ok(None));
-    assert!(&rt; start.elapsed(&rt)?.as_millis() < ENDED_MILLIS);
-    assert_eq!(&rt; inbound.receive(&mut into), Ok(None));
-    assert!(&rt; start.elapsed(&rt)?.as_millis() >= ENDED_MILLIS);
+    same(&rt, inbound.receive(&mut into), Ok(None));
+    holds(&rt, start.elapsed(&rt)?.as_millis() < ENDED_MILLIS);
+    same(&rt, inbound.receive(&mut into), Ok(None));
+    holds(&rt, start.elapsed(&rt)?.as_millis() >= ENDED_MILLIS);
     Ok(())
 }
 
@@ -92,10 +93,10 @@ fn datagram_ends_receive(rt: HostRuntime) -> Result<(), Fail> {
         },
         || inbound.receive(&mut into),
     );
-    assert!(&rt; sent.is_ok());
-    assert_eq!(&rt; received, Ok(Some(endpoint(&rt, 7112))));
-    assert_eq!(&rt; into.as_slice(), b"late".as_slice());
-    assert!(&rt; start.elapsed(&rt)?.as_millis() < ENDED_MILLIS);
+    holds(&rt, sent.is_ok());
+    same(&rt, received, Ok(Some(endpoint(&rt, 7112))));
+    same(&rt, into.as_slice(), b"late".as_slice());
+    holds(&rt, start.elapsed(&rt)?.as_millis() < ENDED_MILLIS);
     Ok(())
 }
 
@@ -152,8 +153,8 @@ fn in_order(rt: HostRuntime) -> Result<(), Fail> {
         || receive_numbers(&mut inbound, from, &received),
         || send_numbers(&rt, &mut link, to, &received),
     );
-    assert!(&rt; sent);
-    assert_eq!(&rt; received.load(Ordering::SeqCst), SENT);
+    holds(&rt, sent);
+    same(&rt, received.load(Ordering::SeqCst), SENT);
     Ok(())
 }
 
@@ -167,14 +168,18 @@ fn before_wait(rt: HostRuntime) -> Result<(), Fail> {
     let start = Instant::now(&rt)?;
     for round in 0..20u8 {
         for number in 0..10u8 {
-            assert!(&rt; link.send(to, &[round, number]).is_ok());
+            holds(&rt, link.send(to, &[round, number]).is_ok());
         }
         for number in 0..10u8 {
-            assert_eq!(&rt; inbound.receive(&mut into), Ok(Some(endpoint(&rt, 7116))));
-            assert_eq!(&rt; into.as_slice(), [round, number].as_slice());
+            same(
+                &rt,
+                inbound.receive(&mut into),
+                Ok(Some(endpoint(&rt, 7116))),
+            );
+            same(&rt, into.as_slice(), [round, number].as_slice());
         }
     }
-    assert!(&rt; start.elapsed(&rt)?.as_millis() < ENDED_MILLIS);
+    holds(&rt, start.elapsed(&rt)?.as_millis() < ENDED_MILLIS);
     Ok(())
 }
 
@@ -185,7 +190,11 @@ fn long_and_strange(rt: HostRuntime) -> Result<(), Fail> {
     let sender = UdpSocket::bind(&rt, address(7118))?;
     sender.send_to(&[9u8; 600], address(7117))?;
     let mut into = ArrayVec::new();
-    assert_eq!(&rt; inbound.receive(&mut into), Ok(Some(endpoint(&rt, 7118))));
-    assert_eq!(&rt; into.as_slice(), [9u8; 513].as_slice());
+    same(
+        &rt,
+        inbound.receive(&mut into),
+        Ok(Some(endpoint(&rt, 7118))),
+    );
+    same(&rt, into.as_slice(), [9u8; 513].as_slice());
     Ok(())
 }

@@ -1,13 +1,14 @@
 //! Control connections.
 
 use super::scene::{ENDED_MILLIS, Host, address, long, ring_later, sleep};
-use crate::{SocketAlarm, TcpDoors, Waits};
 use std::io::{ErrorKind, Read, Write};
 use std::net::{TcpListener, TcpStream, UdpSocket};
 use std::os::fd::{AsRawFd, RawFd};
 use std::test::Fail;
 use std::thread::join;
 use std::time::{Duration, Instant};
+use swim_net::{SocketAlarm, TcpDoors, Waits};
+use swim_same::{holds, same};
 use swim_shell::{Alarm, Doors};
 
 /// How many connections come one after the other.
@@ -28,10 +29,10 @@ fn alarm_ends_wait(rt: HostRuntime) -> Result<(), Fail> {
     let (waits, alarm) = Waits::new(&rt, rt.alloc())?;
     let mut doors = TcpDoors::new(listener, &waits, &rt, long())?;
     let start = Instant::now(&rt)?;
-    assert!(&rt; doors.next().is_none());
+    holds(&rt, doors.next().is_none());
     let _ = join(&rt, || doors.wait(), || ring_later(&rt, &alarm));
     let took = start.elapsed(&rt)?.as_millis();
-    assert!(&rt; 15 < took && took < ENDED_MILLIS);
+    holds(&rt, 15 < took && took < ENDED_MILLIS);
     Ok(())
 }
 
@@ -51,8 +52,8 @@ fn connection_ends_wait(rt: HostRuntime) -> Result<(), Fail> {
         },
         || doors.wait(),
     );
-    assert!(&rt; made && doors.next().is_some());
-    assert!(&rt; start.elapsed(&rt)?.as_millis() < ENDED_MILLIS);
+    holds(&rt, made && doors.next().is_some());
+    holds(&rt, start.elapsed(&rt)?.as_millis() < ENDED_MILLIS);
     Ok(())
 }
 
@@ -71,7 +72,7 @@ fn read_of_nothing(rt: HostRuntime) -> Result<(), Fail> {
     let mut doors = TcpDoors::new(listener, &waits, &rt, long())?;
     let (mut reader, _) = doors.next().ok_or("a connection")?;
     let start = Instant::now(&rt)?;
-    assert_eq!(&rt; failed(&mut reader), Some(ErrorKind::WouldBlock));
+    same(&rt, failed(&mut reader), Some(ErrorKind::WouldBlock));
     let (said, _) = join(
         &rt,
         || {
@@ -80,7 +81,7 @@ fn read_of_nothing(rt: HostRuntime) -> Result<(), Fail> {
         },
         || read_whole(&mut doors, &mut reader, &mut [0u8; 1]),
     );
-    assert!(&rt; said && start.elapsed(&rt)?.as_millis() < ENDED_MILLIS);
+    holds(&rt, said && start.elapsed(&rt)?.as_millis() < ENDED_MILLIS);
     Ok(())
 }
 
@@ -125,8 +126,8 @@ fn endless_line(rt: HostRuntime) -> Result<(), Fail> {
             (kind, start.elapsed(&rt).map_or(0, |took| took.as_millis()))
         },
     );
-    assert_eq!(&rt; took.0, Some(ErrorKind::TimedOut));
-    assert!(&rt; 900 < took.1 && took.1 < 5000);
+    same(&rt, took.0, Some(ErrorKind::TimedOut));
+    holds(&rt, 900 < took.1 && took.1 < 5000);
     Ok(())
 }
 
@@ -144,14 +145,18 @@ fn stalled_connection(rt: HostRuntime) -> Result<(), Fail> {
     second.write_all(b"2")?;
     let (mut other, _) = doors.next().ok_or("the second connection")?;
     let mut said = [0u8; 1];
-    assert!(&rt; read_whole(&mut doors, &mut other, &mut said).is_some());
-    assert!(&rt; said == *b"2" && start.elapsed(&rt)?.as_millis() < ENDED_MILLIS);
-    assert_eq!(&rt;
+    holds(&rt, read_whole(&mut doors, &mut other, &mut said).is_some());
+    holds(
+        &rt,
+        said == *b"2" && start.elapsed(&rt)?.as_millis() < ENDED_MILLIS,
+    );
+    same(
+        &rt,
         last_failure(&mut doors, &mut reader),
-        Some(ErrorKind::TimedOut)
+        Some(ErrorKind::TimedOut),
     );
     let took = start.elapsed(&rt)?.as_millis();
-    assert!(&rt; 900 < took && took < 5000);
+    holds(&rt, 900 < took && took < 5000);
     let _ = silent;
     Ok(())
 }
@@ -195,12 +200,12 @@ fn slow_line(rt: HostRuntime) -> Result<(), Fail> {
         || say_slowly(&rt, &mut stream, &alarm),
         || read_whole(&mut doors, &mut reader, &mut line),
     );
-    assert!(&rt; said && turns.is_some_and(|turns| turns > 7));
-    assert!(&rt; line == *b"status\n");
+    holds(&rt, said && turns.is_some_and(|turns| turns > 7));
+    holds(&rt, line == *b"status\n");
     writer.write_all(b"ok\n")?;
     let mut answer = [0u8; 3];
     stream.read_exact(&mut answer)?;
-    assert!(&rt; answer == *b"ok\n");
+    holds(&rt, answer == *b"ok\n");
     Ok(())
 }
 
@@ -224,11 +229,11 @@ fn full_writer(rt: HostRuntime) -> Result<(), Fail> {
     let (_, mut writer) = doors.next().ok_or("a connection")?;
     let start = Instant::now(&rt)?;
     let (kind, _) = join(&rt, || fill(&mut writer), || ring_later(&rt, &alarm));
-    assert_eq!(&rt; kind, Some(ErrorKind::WouldBlock));
-    assert!(&rt; start.elapsed(&rt)?.as_millis() < ENDED_MILLIS);
-    assert_eq!(&rt; fill(&mut writer), Some(ErrorKind::TimedOut));
+    same(&rt, kind, Some(ErrorKind::WouldBlock));
+    holds(&rt, start.elapsed(&rt)?.as_millis() < ENDED_MILLIS);
+    same(&rt, fill(&mut writer), Some(ErrorKind::TimedOut));
     let took = start.elapsed(&rt)?.as_millis();
-    assert!(&rt; 900 < took && took < 5000);
+    holds(&rt, 900 < took && took < 5000);
     let _ = stream;
     Ok(())
 }
@@ -276,8 +281,8 @@ fn late_peer(rt: HostRuntime) -> Result<(), Fail> {
             whole
         },
     );
-    assert!(&rt; whole);
-    assert_eq!(&rt; count, 1_000_000);
+    holds(&rt, whole);
+    same(&rt, count, 1_000_000);
     Ok(())
 }
 
@@ -300,11 +305,14 @@ fn descriptors(rt: HostRuntime) -> Result<(), Fail> {
         stream.write_all(&number.to_be_bytes())?;
         let (mut reader, mut writer) = doors.next().ok_or("a connection")?;
         let mut said = [0u8; 4];
-        assert!(&rt; read_whole(&mut doors, &mut reader, &mut said).is_some());
-        assert!(&rt; said == number.to_be_bytes());
+        holds(
+            &rt,
+            read_whole(&mut doors, &mut reader, &mut said).is_some(),
+        );
+        holds(&rt, said == number.to_be_bytes());
         writer.write_all(&said)?;
         stream.read_exact(&mut said)?;
     }
-    assert_eq!(&rt; next_descriptor(&rt), before);
+    same(&rt, next_descriptor(&rt), before);
     Ok(())
 }

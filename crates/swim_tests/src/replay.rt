@@ -1,0 +1,64 @@
+//! A recording by the tables of its page, written by hand. What is refused, and at which line, is in `tests/replayed`.
+
+use swim_member::Event;
+use swim_node::Outcome;
+use swim_replay::{RecordingReason, play_recording};
+use swim_same::{holds, holds_at, same};
+
+/// A member that knows two others, and told each update once. Its era is of at most four calls: the member is suspected and
+/// refutes it; a second caller joins, and its leave loses the first bye.
+const RECORDING: &str = "recording 1
+member 7 10.0.0.1:7000 3 1
+times 10 3 50 6000 3 1 4
+alive 10.0.0.2:7000 1 0
+alive 10.0.0.3:7000 1 0
++alive 10.0.0.1:7000 1 1
++alive 10.0.0.2:7000 1 1
++alive 10.0.0.3:7000 1 1
+running 1 0 1 0 1 1
+sendfail 4
+granted 2
+recv 10.0.0.2:7000 5357494d010101000000000000000007000000010a0000021b580a0000011b5802000a0000011b580000000000000001
+caller 3
+join 10.0.0.4:7000
+caller 3
+lost 1
+leave
+";
+
+#[test]
+fn a_recording_is_played(rt: HostRuntime) {
+    let era = play_recording(rt.alloc(), RECORDING.as_bytes())
+        .ok()
+        .expect(&rt, "an era");
+    let entries = era.journal();
+    same(&rt, entries.len(), 4);
+    for (place, caller, turn, granted) in [(0, 0, 1, 1), (1, 0, 2, 2), (2, 3, 1, 2), (3, 3, 2, 2)] {
+        let entry = entries.get(place).expect(&rt, "an entry");
+        same(&rt, entry.tag.caller, caller);
+        same(&rt, entry.tag.turn, turn);
+        same(&rt, entry.granted, granted);
+    }
+    let leave = entries.get(3).expect(&rt, "an entry");
+    holds(&rt, matches!(leave.event, Event::Leave));
+    same(
+        &rt,
+        leave.outcomes.as_slice().first().copied(),
+        Some(Outcome::Lost),
+    );
+}
+
+#[test]
+fn a_text_without_the_first_line_is_no_recording(rt: HostRuntime) {
+    for text in [
+        "",
+        "recording 1",
+        "recording 2\nmember 7 10.0.0.1:7000 3 1\n",
+    ] {
+        let is_refused = match play_recording(rt.alloc(), text.as_bytes()) {
+            Ok(_) => false,
+            Err(fault) => fault.line == 1 && fault.reason == RecordingReason::NoRecording,
+        };
+        holds_at(&rt, &text, is_refused);
+    }
+}
