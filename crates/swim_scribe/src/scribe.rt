@@ -6,14 +6,9 @@ use std::io::ErrorKind;
 use std::sync::Arc;
 use std::sync::atomic::{AtomicBool, Ordering};
 use std::thread::{self, JoinHandle, Threads};
-use std::time::{Clock, Duration, Instant};
 use swim_node::Room;
 use swim_recorder::{FileName, Finished, Folder, Keeper};
 use swim_trace::Trace;
-
-/// For how many milliseconds no other recording is begun after one: a flood of short eras would keep the disk busy, on which the
-/// state file stands too.
-const REST_MS: u64 = 50;
 
 /// An era that is to be recorded under a name.
 #[derive(Drop)]
@@ -75,13 +70,6 @@ struct Writer {
     is_done: Arc<AtomicBool, Global>,
 }
 
-/// A pause between two recordings: since when, and for how long.
-#[derive(Clone, Copy)]
-struct Pause {
-    since: Instant,
-    rest: Duration,
-}
-
 /// The folder at this path, if there is one, for all who use it. That there is no memory for it is told.
 fn shared_folder<T: Log>(
     rt: &T,
@@ -99,9 +87,8 @@ fn shared_folder<T: Log>(
     }
 }
 
-/// Writes each era that it is given into a folder, in a thread of its own, and at most twenty of them in a second. Meanwhile one era
-/// waits; one that ended later takes its place, and the log tells how many were passed over. A folder that takes no file is told
-/// once in the log.
+/// Writes each era that it is given into a folder, in a thread of its own. While that is busy one era waits; one that ended later
+/// takes its place, and the log tells how many were passed over. A folder that takes no file is told once in the log.
 #[derive(Drop)]
 pub struct Scribe<'a, T> {
     rt: &'a T,
@@ -111,7 +98,6 @@ pub struct Scribe<'a, T> {
     eras: u64,
     writer: Option<Writer>,
     waiting: Option<Named>,
-    pause: Option<Pause>,
     /// How many eras were passed over since the last recording was begun.
     passed: u64,
     /// The rooms of eras that were written or passed over, which are to be filled again.
@@ -120,7 +106,7 @@ pub struct Scribe<'a, T> {
     given: Trace<Finished>,
 }
 
-impl<'a, T: Threads + Log + Clock> Scribe<'a, T> {
+impl<'a, T: Threads + Log> Scribe<'a, T> {
     /// Into the folder at this path, of which so many recordings are kept. Without a path it records nothing.
     pub fn new(rt: &'a T, files: HostRuntime, path: Option<String>, kept: u64) -> Scribe<'a, T> {
         Scribe {
@@ -130,7 +116,6 @@ impl<'a, T: Threads + Log + Clock> Scribe<'a, T> {
             eras: 0,
             writer: None,
             waiting: None,
-            pause: None,
             passed: 0,
             spare: Vec::new(files.alloc()),
             has_told: false,
@@ -176,28 +161,6 @@ impl<'a, T: Threads + Log + Clock> Scribe<'a, T> {
         }
     }
 
-    /// Whether the last recording was begun only just now.
-    fn is_resting(&self) -> bool {
-        match self.pause {
-            Some(pause) => pause
-                .since
-                .elapsed(self.rt)
-                .is_ok_and(|passed| passed < pause.rest),
-            None => false,
-        }
-    }
-
-    /// Rests as long as so many recordings are worth. Where the clock cannot be read it does not.
-    fn rest(&mut self, recordings: u64) {
-        self.pause = match Instant::now(self.rt) {
-            Ok(since) => Some(Pause {
-                since,
-                rest: Duration::from_millis(REST_MS.saturating_mul(recordings)),
-            }),
-            Err(_) => None,
-        };
-    }
-
     /// Tells how many eras were passed over before this one is recorded.
     fn tell_passed(&mut self, name: FileName) {
         let count = self.passed;
@@ -230,8 +193,6 @@ impl<'a, T: Threads + Log + Clock> Scribe<'a, T> {
     /// Has a thread write this era, and the one that waits before it.
     fn start(&mut self, last: Named) {
         self.tell_passed(last.name);
-        let recordings = if self.waiting.is_some() { 2 } else { 1 };
-        self.rest(recordings);
         self.writer = match self.writing(last) {
             Some(writing) => self.spawn(writing),
             None => None,
@@ -259,7 +220,7 @@ impl<'a, T: Threads + Log + Clock> Scribe<'a, T> {
     }
 }
 
-impl<'a, T: Threads + Log + Clock> Keeper for Scribe<'a, T> {
+impl<'a, T: Threads + Log> Keeper for Scribe<'a, T> {
     ghost use Rattle.std.specs.Prelude.{◌≡◌, ◌++◌, ◌∷◌, []};
 
     ghost given = { λ r. r.given };
@@ -276,12 +237,10 @@ impl<'a, T: Threads + Log + Clock> Keeper for Scribe<'a, T> {
             era: self.eras,
         };
         let last = Named { name, era };
-        if !self.is_busy() {
-            self.collect();
-        }
-        if self.writer.is_some() || self.is_resting() {
+        if self.is_busy() {
             self.stand_by(last);
         } else {
+            self.collect();
             self.start(last);
         }
         self.given = given;
