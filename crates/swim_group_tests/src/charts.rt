@@ -4,7 +4,7 @@ use std::test::Fail;
 use swim_charts::{
     Curve, Drawing, Spread, Tally, Thousandths, Tiles, Views, of_hundred, spread_of,
 };
-use swim_same::{holds_at, same, same_at};
+use crate::same::{holds_at, same, same_at};
 
 #[test]
 fn ranks_are_the_nearest(rt: HostRuntime) {

@@ -8,7 +8,7 @@ use swim_disk::Choice;
 use swim_group::{Breach, CheckFault, Checker, Failure, Group, GroupFault, Nodes, NodesFault};
 use swim_member::{Deal, Event, Out, Settings, SettingsFault};
 use swim_node::Save;
-use swim_same::{holds, same, same_at};
+use crate::same::{holds, same, same_at};
 use swim_wire::{Datagram, Endpoint, Update, UpdateKind};
 
 /// The endpoint 10.0.0.`last`:7000.

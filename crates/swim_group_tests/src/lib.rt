@@ -9,6 +9,8 @@ mod check;
 #[cfg(test)]
 mod group;
 #[cfg(test)]
+mod same;
+#[cfg(test)]
 mod simulate;
 #[cfg(test)]
 mod survey;

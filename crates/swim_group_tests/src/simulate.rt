@@ -5,7 +5,7 @@ ghost use Rattle.std.specs.Prelude.{◌<◌};
 use arrayvec::ArrayVec;
 use std::alloc::{AllocError, Global};
 use std::test::Fail;
-use swim_same::{holds, holds_at, same, same_at};
+use crate::same::{holds, holds_at, same, same_at};
 use swim_simulate::{Counts, Key, Law, Plan, endpoint_of, simulate};
 use swim_wire::{Cursor, Datagram, Kind, Rules, Update, UpdateKind};
 

@@ -3,7 +3,7 @@
 use std::alloc::{AllocError, Global};
 use std::test::Fail;
 use swim_group::Breach;
-use swim_same::{holds, holds_at, same, same_at};
+use crate::same::{holds, holds_at, same, same_at};
 use swim_simulate::{Key, Kill, Plan, SimulateFault, Stop, simulate};
 use swim_survey::{
     Gathered, Made, Span, Stage, Sweep, Trial, draw_runs, draw_sweep, numbers_of, placed,

@@ -3,7 +3,7 @@
 use arrayvec::ArrayVec;
 use std::process::Abort;
 use swim_gossip::{BUCKETS_MAX, Buffer, Visits, WAITING_MAX};
-use swim_same::{holds, same};
+use crate::same::{holds, same};
 use swim_wire::{Endpoint, UPDATES_MAX, Update, UpdateKind};
 
 mod drawn;

@@ -21,6 +21,8 @@ mod replay;
 #[cfg(test)]
 mod rules;
 #[cfg(test)]
+mod same;
+#[cfg(test)]
 mod script;
 #[cfg(test)]
 mod settings;

@@ -2,7 +2,7 @@
 
 use std::alloc::Global;
 use swim_play::play;
-use swim_same::{holds, same, same_at};
+use crate::same::{holds, same, same_at};
 
 /// Whether the script has this transcript.
 fn plays(alloc: Global, script: &str, transcript: &str) -> bool {

@@ -3,7 +3,7 @@
 use swim_member::Event;
 use swim_node::{MemoryLink, Tag};
 use swim_record::recording;
-use swim_same::{holds, same};
+use crate::same::{holds, same};
 use swim_scenes::{endpoint, opened_by_plan, ping, suspicion, update};
 use swim_wire::UpdateKind;
 

@@ -4,7 +4,7 @@ ghost use Rattle.std.specs.Prelude.{◌≡◌, ◌+◌, ◌*◌, ◌<◌};
 
 use std::process::Abort;
 use swim_rules::{Heard, ROWS_MAX, Table, order_is_of_no_matter, overrides, rows_are_tops};
-use swim_same::{holds_at, same, same_at};
+use crate::same::{holds_at, same, same_at};
 use swim_wire::{Cursor, Endpoint, Rules, Update, UpdateKind};
 
 /// The member 10.0.0.0 plus `last`, at port 7000.

@@ -3,7 +3,7 @@
 use std::alloc::Global;
 use std::test::Fail;
 use swim_member::Event;
-use swim_same::{same, same_at};
+use crate::same::{same, same_at};
 use swim_script::{Command, FaultKind, read_script};
 
 /// The line and the kind of the script's fault.

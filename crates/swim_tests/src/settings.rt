@@ -2,7 +2,7 @@
 
 use std::alloc::{AllocError, Global};
 use std::test::Fail;
-use swim_same::{holds, same, same_at};
+use crate::same::{holds, same, same_at};
 use swim_settings::{RunSettings, read_settings};
 use swim_wire::Endpoint;
 

@@ -2,7 +2,7 @@
 
 use arrayvec::ArrayVec;
 use std::test::Fail;
-use swim_same::{holds, same, same_at};
+use crate::same::{holds, same, same_at};
 use swim_wire::{
     Cursor, Endpoint, Kind, Rules, Update, UpdateKind, WireFault, datagram_has_one_text, decode,
     encode, own_numbers_of_spelled, spelled_or_faulty, text_spells_one_datagram,

@@ -7,6 +7,8 @@ mod embedded;
 #[cfg(test)]
 mod net;
 #[cfg(test)]
+mod same;
+#[cfg(test)]
 mod serve;
 #[cfg(test)]
 mod shared;

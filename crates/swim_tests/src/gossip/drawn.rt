@@ -7,7 +7,7 @@ use rand_core::SeedableRng;
 use rand_core::utils::NextWord;
 use std::process::Abort;
 use swim_gossip::{BUCKETS_MAX, Buffer, Visits, WAITING_MAX, Waiting};
-use swim_same::{holds, same};
+use crate::same::{holds, same};
 use swim_wire::{Endpoint, UPDATES_MAX, Update, UpdateKind};
 
 /// The updates that wait, in the order in which they began.

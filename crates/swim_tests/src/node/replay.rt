@@ -6,7 +6,7 @@ use std::process::Abort;
 use swim_disk::Plan;
 use swim_member::{Deal, Event, Out, Relay, ResumeFault};
 use swim_node::{BeginFault, Beginning, Cause, Entry, MemoryLink, Node, Replay, Reply, Tag};
-use swim_same::{holds, same, same_at};
+use crate::same::{holds, same, same_at};
 use swim_wire::{Cursor, NUMBER_MAX, Update, UpdateKind, encode};
 
 /// That 10.0.0.1:7000 is suspected with this number.

@@ -3,7 +3,7 @@
 use super::fakes::{Goes, MOST, Pieces, Said, Scripted, Slow};
 use std::io::ErrorKind;
 use std::test::Fail;
-use swim_same::same;
+use crate::same::same;
 use swim_shell::{ControlEnd, Conversation, Refusal, run};
 
 /// A conversation: its input, what the calls tell, what it must answer, and how it must end.

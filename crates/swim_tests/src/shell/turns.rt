@@ -16,7 +16,7 @@ use std::io::{self, ErrorKind};
 use std::test::Fail;
 use std::time::{Clock, Duration};
 use swim_member::Event;
-use swim_same::{holds, same};
+use crate::same::{holds, same};
 use swim_scenes::endpoint;
 use swim_shell::{Joiner, LIST_MAX, Paces, Receiver, Refusal, run};
 use swim_wire::{Endpoint, Rules};

@@ -9,7 +9,7 @@ use rand_core::SeedableRng;
 use std::test::Fail;
 use std::time::Duration;
 use swim_member::Event;
-use swim_same::{holds, same};
+use crate::same::{holds, same};
 use swim_scenes::endpoint;
 use swim_shell::{Joiner, Paces, Receiver, Refusal, Ticker, WorkerEnd, run};
 use swim_wire::Rules;

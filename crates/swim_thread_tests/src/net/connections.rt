@@ -8,7 +8,7 @@ use std::test::Fail;
 use std::thread::join;
 use std::time::{Duration, Instant};
 use swim_net::{SocketAlarm, TcpDoors, Waits};
-use swim_same::{holds, same};
+use crate::same::{holds, same};
 use swim_shell::{Alarm, Doors};
 
 /// How many connections come one after the other.

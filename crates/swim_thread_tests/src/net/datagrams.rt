@@ -11,7 +11,7 @@ use std::thread::join;
 use std::time::{Clock, Duration, Instant};
 use swim_net::{SocketAlarm, UdpInbound, UdpLink, bind_datagrams};
 use swim_node::Link;
-use swim_same::{holds, same};
+use crate::same::{holds, same};
 use swim_shell::{Alarm, Inbound};
 use swim_wire::Endpoint;
 

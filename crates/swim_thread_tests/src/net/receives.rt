@@ -5,7 +5,7 @@ use std::io::{self, ErrorKind};
 use std::net::{Ipv4Addr, Ipv6Addr, SocketAddr, SocketAddrV4, SocketAddrV6};
 use std::test::Fail;
 use swim_net::take;
-use swim_same::{holds, same};
+use crate::same::{holds, same};
 use swim_shell::ReceiveFault;
 use swim_wire::Endpoint;
 

@@ -11,7 +11,7 @@ use std::test::Fail;
 use std::time::{Clock, Duration};
 use swim_member::{Note, Phase};
 use swim_node::{Reply, Status};
-use swim_same::{holds, same};
+use crate::same::{holds, same};
 use swim_scenes::endpoint;
 use swim_serve::{LOGGED_MAX, NoteLog};
 

@@ -6,7 +6,7 @@ use log::sink::Memory;
 use std::process::Abort;
 use std::test::Fail;
 use swim_member::{Note, Phase};
-use swim_same::{holds, same};
+use crate::same::{holds, same};
 use swim_scenes::{endpoint, text, update};
 use swim_serve::NumberLog;
 use swim_wire::{Cursor, Kind, Update, UpdateKind};

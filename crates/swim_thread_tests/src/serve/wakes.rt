@@ -5,7 +5,7 @@ use std::sync::Wait;
 use std::test::Fail;
 use std::thread::Threads;
 use std::time::{Clock, Duration, Instant};
-use swim_same::holds;
+use crate::same::holds;
 use swim_serve::{Beat, Crew, Ending, Job, Pace, Pacing, Resting, Ringing, serve};
 
 /// How often each test tries.

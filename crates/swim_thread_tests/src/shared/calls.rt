@@ -13,7 +13,7 @@ use std::thread::{Threads, join};
 use swim_disk::Disk;
 use swim_member::Event;
 use swim_node::Node;
-use swim_same::{holds, same};
+use crate::same::{holds, same};
 use swim_scenes::{opened_by_plan, ping, suspicion};
 use swim_shared::{CallFault, Closed, Name, Parts, Pass, Shared};
 

@@ -13,7 +13,7 @@ use std::thread::{self, Threads, join};
 use swim_disk::{Disk, Plan};
 use swim_member::Event;
 use swim_node::Status;
-use swim_same::{holds, same};
+use crate::same::{holds, same};
 use swim_scenes::{opened_by_plan, suspicion};
 use swim_shared::{Name, Parts, Pass, Shared, Watch};
 

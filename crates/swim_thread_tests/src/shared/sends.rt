@@ -12,7 +12,7 @@ use std::thread::{self, Threads, join};
 use swim_disk::Disk;
 use swim_member::{Event, Note};
 use swim_node::{Link, LinkFault, MemoryLink};
-use swim_same::{holds, same};
+use crate::same::{holds, same};
 use swim_scenes::{endpoint, opened_by_plan, ping, update};
 use swim_shared::{Name, Outbox, Parts, Pass, Sender, Shared};
 use swim_wire::{Endpoint, Kind, UpdateKind, decode};

@@ -1,6 +1,5 @@
 //! How the tests compare. A comparison in a function of its own costs its caller a call, and no more: written out as
-//! `assert_eq!` it takes the prover a second or two at each place.
-#![tactic(auto)]
+//! `assert_eq!` it takes the prover a second or two at each place. A library may end no process, so each crate of tests has its own.
 
 ghost use Rattle.std.specs.Prelude.{◌≡◌, true};
 
@@ -8,31 +7,31 @@ use std::fmt::{Debug, Display};
 use std::process::Abort;
 
 /// Stops the test with both values unless they are equal.
-pub fn same<T: PartialEq + Debug + Drop>(rt: &impl Abort, is: T, want: T) {
+pub(crate) fn same<T: PartialEq + Debug + Drop>(rt: &impl Abort, is: T, want: T) {
     assert_eq!(rt; is, want);
 }
 
 /// Stops the test with both values unless they are equal, and says at which row of a table it was.
-pub fn same_at<R: Debug, T: PartialEq + Debug + Drop>(rt: &impl Abort, row: &R, is: T, want: T) {
+pub(crate) fn same_at<R: Debug, T: PartialEq + Debug + Drop>(rt: &impl Abort, row: &R, is: T, want: T) {
     assert_eq!(rt; is, want, "{row:?}");
 }
 
 /// Stops the test unless this is so.
-pub fn holds(rt: &impl Abort, is: bool)
+pub(crate) fn holds(rt: &impl Abort, is: bool)
     ensures { is ≡ true }
 {
     assert!(rt; is);
 }
 
 /// Stops the test unless this is so, and says at which row of a table it was.
-pub fn holds_at<R: Debug>(rt: &impl Abort, row: &R, is: bool)
+pub(crate) fn holds_at<R: Debug>(rt: &impl Abort, row: &R, is: bool)
     ensures { is ≡ true }
 {
     assert!(rt; is, "{row:?}");
 }
 
 /// Stops the test unless this is printed so.
-pub fn prints<R: Abort + AllocGlobal, T: Display>(rt: &R, value: &T, want: &str) {
+pub(crate) fn prints<R: Abort + AllocGlobal, T: Display>(rt: &R, value: &T, want: &str) {
     let text = format!(in rt.alloc(); "{value}").ok().expect(rt, "memory");
     assert_eq!(rt; text.as_str(), want);
 }
