@@ -1,10 +1,10 @@
 //! Ranks, spreads, and small pictures.
 
+use crate::same::{holds_at, same, same_at};
 use std::test::Fail;
 use swim_charts::{
     Curve, Drawing, Spread, Tally, Thousandths, Tiles, Views, of_hundred, spread_of,
 };
-use crate::same::{holds_at, same, same_at};
 
 #[test]
 fn ranks_are_the_nearest(rt: HostRuntime) {

@@ -1,10 +1,10 @@
 //! Captures that were written by hand.
 
+use crate::same::{same, same_at};
 use std::alloc::{AllocError, Global};
 use std::process::Abort;
 use swim_check::{LineFault, Stop, check};
 use swim_group::Breach;
-use crate::same::{same, same_at};
 use swim_wire::{Endpoint, Update, UpdateKind, WireFault};
 
 /// 10.0.0.1:7000 pings 10.0.0.2:7000, and says Alive of itself with the number 3.

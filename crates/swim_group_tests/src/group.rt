@@ -2,13 +2,13 @@
 
 ghost use Rattle.std.specs.Prelude.{◌<◌};
 
+use crate::same::{holds, same, same_at};
 use std::alloc::Global;
 use std::process::Abort;
 use swim_disk::Choice;
 use swim_group::{Breach, CheckFault, Checker, Failure, Group, GroupFault, Nodes, NodesFault};
 use swim_member::{Deal, Event, Out, Settings, SettingsFault};
 use swim_node::Save;
-use crate::same::{holds, same, same_at};
 use swim_wire::{Datagram, Endpoint, Update, UpdateKind};
 
 /// The endpoint 10.0.0.`last`:7000.

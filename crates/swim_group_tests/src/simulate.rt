@@ -2,10 +2,10 @@
 
 ghost use Rattle.std.specs.Prelude.{◌<◌};
 
+use crate::same::{holds, holds_at, same, same_at};
 use arrayvec::ArrayVec;
 use std::alloc::{AllocError, Global};
 use std::test::Fail;
-use crate::same::{holds, holds_at, same, same_at};
 use swim_simulate::{Counts, Key, Law, Plan, endpoint_of, simulate};
 use swim_wire::{Cursor, Datagram, Kind, Rules, Update, UpdateKind};
 

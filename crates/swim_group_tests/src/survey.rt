@@ -1,9 +1,9 @@
 //! What is printed of small runs, sweeps, and plans that are made smaller.
 
+use crate::same::{holds, holds_at, same, same_at};
 use std::alloc::{AllocError, Global};
 use std::test::Fail;
 use swim_group::Breach;
-use crate::same::{holds, holds_at, same, same_at};
 use swim_simulate::{Key, Kill, Plan, SimulateFault, Stop, simulate};
 use swim_survey::{
     Gathered, Made, Span, Stage, Sweep, Trial, draw_runs, draw_sweep, numbers_of, placed,

@@ -1,11 +1,11 @@
 //! What crashes leave, what failing disks answer, and how a sync is held.
 
+use crate::same::{holds, same, same_at};
 use std::alloc::Global;
 use std::process::Abort;
 use std::test::Fail;
 use std::{fs, thread};
 use swim_disk::{Choice, Disk, DiskFault, FaultDisk, FileDisk, MOST_BYTES, MemDisk, Plan};
-use crate::same::{holds, same, same_at};
 
 /// The bytes 1 to 4, synced, and then a write of 8 and 9 at offset 3.
 fn written(alloc: Global) -> Result<MemDisk, Fail> {

@@ -1,9 +1,9 @@
 //! The worked rows, as calls of a buffer. The expected updates were written by hand.
 
+use crate::same::{holds, same};
 use arrayvec::ArrayVec;
 use std::process::Abort;
 use swim_gossip::{BUCKETS_MAX, Buffer, Visits, WAITING_MAX};
-use crate::same::{holds, same};
 use swim_wire::{Endpoint, UPDATES_MAX, Update, UpdateKind};
 
 mod drawn;

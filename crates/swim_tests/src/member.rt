@@ -2,10 +2,10 @@
 
 ghost use Rattle.swim_member.specs.Checks.{AreSound};
 
+use crate::same::{holds, holds_at, same};
 use arrayvec::ArrayVec;
 use std::test::Fail;
 use swim_member::{Deal, Event, Member, Out, Phase, RECEIVED_MAX, Settings};
-use crate::same::{holds, holds_at, same};
 use swim_wire::{Cursor, Endpoint, Kind, encode};
 
 /// 10.0.0.1:7000, the member itself.

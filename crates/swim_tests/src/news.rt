@@ -1,7 +1,7 @@
 //! Changes between lists of rows, and their texts, which are those of docs/OPERATIONS.md.
 
-use swim_news::{Change, ChangeJson, Changes, RowJson, Rows, compare};
 use crate::same::{holds, prints, same};
+use swim_news::{Change, ChangeJson, Changes, RowJson, Rows, compare};
 use swim_wire::{Endpoint, Update, UpdateKind};
 
 /// The row of 10.0.0.1:7000 and this number more.

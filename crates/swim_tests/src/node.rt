@@ -2,13 +2,13 @@
 
 mod replay;
 
+use crate::same::{holds, same, same_at};
 use arrayvec::ArrayVec;
 use std::alloc::Global;
 use std::process::Abort;
 use swim_disk::{FaultDisk, MemDisk, Plan};
 use swim_member::{Deal, Event, Settings};
 use swim_node::{ApplyFault, MemoryLink, Node, OpenFault, Save, Tag, listed_are_probed_once, run};
-use crate::same::{holds, same, same_at};
 use swim_state::{Owner, RecoverFault, init};
 use swim_wire::{Cursor, Datagram, Endpoint, Kind, NUMBER_MAX, Rules, Update, UpdateKind, encode};
 

@@ -1,8 +1,8 @@
 //! Whole transcripts. The other worked rows are scripts with their transcripts in `examples/scripts`.
 
+use crate::same::{holds, same, same_at};
 use std::alloc::Global;
 use swim_play::play;
-use crate::same::{holds, same, same_at};
 
 /// Whether the script has this transcript.
 fn plays(alloc: Global, script: &str, transcript: &str) -> bool {

@@ -1,9 +1,9 @@
 //! A recording, by the tables of its page, written by hand.
 
+use crate::same::{holds, same};
 use swim_member::Event;
 use swim_node::{MemoryLink, Tag};
 use swim_record::recording;
-use crate::same::{holds, same};
 use swim_scenes::{endpoint, opened_by_plan, ping, suspicion, update};
 use swim_wire::UpdateKind;
 

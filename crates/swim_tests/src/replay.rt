@@ -1,9 +1,9 @@
 //! A recording by the tables of its page, written by hand. What is refused, and at which line, is in `tests/replayed`.
 
+use crate::same::{holds, holds_at, same};
 use swim_member::Event;
 use swim_node::Outcome;
 use swim_replay::{RecordingReason, play_recording};
-use crate::same::{holds, holds_at, same};
 
 /// A member that knows two others, and told each update once. Its era is of at most four calls: the member is suspected and
 /// refutes it; a second caller joins, and its leave loses the first bye.

@@ -2,9 +2,9 @@
 
 ghost use Rattle.std.specs.Prelude.{◌≡◌, ◌+◌, ◌*◌, ◌<◌};
 
+use crate::same::{holds_at, same, same_at};
 use std::process::Abort;
 use swim_rules::{Heard, ROWS_MAX, Table, order_is_of_no_matter, overrides, rows_are_tops};
-use crate::same::{holds_at, same, same_at};
 use swim_wire::{Cursor, Endpoint, Rules, Update, UpdateKind};
 
 /// The member 10.0.0.0 plus `last`, at port 7000.

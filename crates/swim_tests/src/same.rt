@@ -12,7 +12,12 @@ pub(crate) fn same<T: PartialEq + Debug + Drop>(rt: &impl Abort, is: T, want: T)
 }
 
 /// Stops the test with both values unless they are equal, and says at which row of a table it was.
-pub(crate) fn same_at<R: Debug, T: PartialEq + Debug + Drop>(rt: &impl Abort, row: &R, is: T, want: T) {
+pub(crate) fn same_at<R: Debug, T: PartialEq + Debug + Drop>(
+    rt: &impl Abort,
+    row: &R,
+    is: T,
+    want: T,
+) {
     assert_eq!(rt; is, want, "{row:?}");
 }
 

@@ -1,9 +1,9 @@
 //! The faults of scripts, and the deals of their ticks.
 
+use crate::same::{same, same_at};
 use std::alloc::Global;
 use std::test::Fail;
 use swim_member::Event;
-use crate::same::{same, same_at};
 use swim_script::{Command, FaultKind, read_script};
 
 /// The line and the kind of the script's fault.

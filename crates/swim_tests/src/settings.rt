@@ -1,8 +1,8 @@
 //! Files, and what they are refused for.
 
+use crate::same::{holds, same, same_at};
 use std::alloc::{AllocError, Global};
 use std::test::Fail;
-use crate::same::{holds, same, same_at};
 use swim_settings::{RunSettings, read_settings};
 use swim_wire::Endpoint;
 

@@ -2,12 +2,12 @@
 
 ghost use Rattle.std.specs.Prelude.{◌≡◌};
 
+use crate::same::{holds, holds_at, prints, same, same_at};
 use std::alloc::Global;
 use std::fs;
 use std::process::Abort;
 use std::test::Fail;
 use swim_disk::{Choice, Disk, DiskFault, FaultDisk, FileDisk, MemDisk, Plan};
-use crate::same::{holds, holds_at, prints, same, same_at};
 use swim_state::{
     InitFault, Owner, Peers, Reading, RecoverFault, SPARE_MAX, SaveFault, Saved, Slots, init,
     recover, slots_in,

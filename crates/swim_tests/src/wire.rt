@@ -1,8 +1,8 @@
 //! The worked rows. The expected bytes and faults were written by hand.
 
+use crate::same::{holds, same, same_at};
 use arrayvec::ArrayVec;
 use std::test::Fail;
-use crate::same::{holds, same, same_at};
 use swim_wire::{
     Cursor, Endpoint, Kind, Rules, Update, UpdateKind, WireFault, datagram_has_one_text, decode,
     encode, own_numbers_of_spelled, spelled_or_faulty, text_spells_one_datagram,

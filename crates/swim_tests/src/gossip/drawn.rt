@@ -1,13 +1,13 @@
 //! Ten thousand drawn calls of a buffer, and of a plain list beside it, which each call walks.
 
 use super::{begin, pick, update};
+use crate::same::{holds, same};
 use arrayvec::ArrayVec;
 use rand_chacha::ChaCha20Rng;
 use rand_core::SeedableRng;
 use rand_core::utils::NextWord;
 use std::process::Abort;
 use swim_gossip::{BUCKETS_MAX, Buffer, Visits, WAITING_MAX, Waiting};
-use crate::same::{holds, same};
 use swim_wire::{Endpoint, UPDATES_MAX, Update, UpdateKind};
 
 /// The updates that wait, in the order in which they began.

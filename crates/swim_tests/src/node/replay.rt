@@ -1,12 +1,12 @@
 //! An era that is played again, and states from which none begins.
 
 use super::{Device, alive, endpoint, opened, ping};
+use crate::same::{holds, same, same_at};
 use std::alloc::Global;
 use std::process::Abort;
 use swim_disk::Plan;
 use swim_member::{Deal, Event, Out, Relay, ResumeFault};
 use swim_node::{BeginFault, Beginning, Cause, Entry, MemoryLink, Node, Replay, Reply, Tag};
-use crate::same::{holds, same, same_at};
 use swim_wire::{Cursor, NUMBER_MAX, Update, UpdateKind, encode};
 
 /// That 10.0.0.1:7000 is suspected with this number.

@@ -1,9 +1,9 @@
 //! Control lines by their bytes.
 
 use super::fakes::{Goes, MOST, Pieces, Said, Scripted, Slow};
+use crate::same::same;
 use std::io::ErrorKind;
 use std::test::Fail;
-use crate::same::same;
 use swim_shell::{ControlEnd, Conversation, Refusal, run};
 
 /// A conversation: its input, what the calls tell, what it must answer, and how it must end.

@@ -3,13 +3,13 @@
 use super::direct::Direct;
 use super::fakes::Goes;
 use super::inbounds::{Given, Listed};
+use crate::same::{holds, same};
 use arrayvec::ArrayVec;
 use rand_chacha::ChaCha20Rng;
 use rand_core::SeedableRng;
 use std::test::Fail;
 use std::time::Duration;
 use swim_member::Event;
-use crate::same::{holds, same};
 use swim_scenes::endpoint;
 use swim_shell::{Joiner, Paces, Receiver, Refusal, Ticker, WorkerEnd, run};
 use swim_wire::Rules;

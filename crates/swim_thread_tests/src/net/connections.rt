@@ -1,6 +1,7 @@
 //! Control connections.
 
 use super::scene::{ENDED_MILLIS, Host, address, long, ring_later, sleep};
+use crate::same::{holds, same};
 use std::io::{ErrorKind, Read, Write};
 use std::net::{TcpListener, TcpStream, UdpSocket};
 use std::os::fd::{AsRawFd, RawFd};
@@ -8,7 +9,6 @@ use std::test::Fail;
 use std::thread::join;
 use std::time::{Duration, Instant};
 use swim_net::{SocketAlarm, TcpDoors, Waits};
-use crate::same::{holds, same};
 use swim_shell::{Alarm, Doors};
 
 /// How many connections come one after the other.

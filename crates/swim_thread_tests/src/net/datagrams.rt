@@ -1,6 +1,7 @@
 //! Datagrams between two sockets.
 
 use super::scene::{ENDED_MILLIS, Host, address, long, ring_later, sleep};
+use crate::same::{holds, same};
 use arrayvec::ArrayVec;
 use std::alloc::Global;
 use std::io;
@@ -11,7 +12,6 @@ use std::thread::join;
 use std::time::{Clock, Duration, Instant};
 use swim_net::{SocketAlarm, UdpInbound, UdpLink, bind_datagrams};
 use swim_node::Link;
-use crate::same::{holds, same};
 use swim_shell::{Alarm, Inbound};
 use swim_wire::Endpoint;
 

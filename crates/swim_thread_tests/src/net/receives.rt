@@ -1,11 +1,11 @@
 //! What becomes of what the system answers to a receive.
 
+use crate::same::{holds, same};
 use arrayvec::ArrayVec;
 use std::io::{self, ErrorKind};
 use std::net::{Ipv4Addr, Ipv6Addr, SocketAddr, SocketAddrV4, SocketAddrV6};
 use std::test::Fail;
 use swim_net::take;
-use crate::same::{holds, same};
 use swim_shell::ReceiveFault;
 use swim_wire::Endpoint;
 

@@ -1,5 +1,6 @@
 //! What is logged of notes.
 
+use crate::same::{holds, same};
 use arrayvec::ArrayVec;
 use log::kv::Source;
 use log::sink::Memory;
@@ -11,7 +12,6 @@ use std::test::Fail;
 use std::time::{Clock, Duration};
 use swim_member::{Note, Phase};
 use swim_node::{Reply, Status};
-use crate::same::{holds, same};
 use swim_scenes::endpoint;
 use swim_serve::{LOGGED_MAX, NoteLog};
 

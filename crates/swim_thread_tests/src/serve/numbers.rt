@@ -1,12 +1,12 @@
 //! What is logged of the own number.
 
 use super::notes::{Desk, replied};
+use crate::same::{holds, same};
 use arrayvec::ArrayVec;
 use log::sink::Memory;
 use std::process::Abort;
 use std::test::Fail;
 use swim_member::{Note, Phase};
-use crate::same::{holds, same};
 use swim_scenes::{endpoint, text, update};
 use swim_serve::NumberLog;
 use swim_wire::{Cursor, Kind, Update, UpdateKind};

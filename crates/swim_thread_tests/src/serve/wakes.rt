@@ -1,11 +1,11 @@
 //! The end of an era, wherever its workers wait.
 
 use super::fakes::{Idle, Nobody, Socket, Waiting, ends_third};
+use crate::same::holds;
 use std::sync::Wait;
 use std::test::Fail;
 use std::thread::Threads;
 use std::time::{Clock, Duration, Instant};
-use crate::same::holds;
 use swim_serve::{Beat, Crew, Ending, Job, Pace, Pacing, Resting, Ringing, serve};
 
 /// How often each test tries.

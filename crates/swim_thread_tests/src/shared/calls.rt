@@ -4,6 +4,7 @@ ghost use Rattle.std.specs.Prelude.{◌≡◌, ◌+◌, [], length};
 ghost use Rattle.swim_node.specs.Link.{link_number};
 
 use super::thirds::{Thirds, every_third};
+use crate::same::{holds, same};
 use std::alloc::Global;
 use std::marker::Brand;
 use std::process::Abort;
@@ -13,7 +14,6 @@ use std::thread::{Threads, join};
 use swim_disk::Disk;
 use swim_member::Event;
 use swim_node::Node;
-use crate::same::{holds, same};
 use swim_scenes::{opened_by_plan, ping, suspicion};
 use swim_shared::{CallFault, Closed, Name, Parts, Pass, Shared};
 

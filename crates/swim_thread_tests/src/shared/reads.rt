@@ -4,6 +4,7 @@ ghost use Rattle.std.specs.Prelude.{◌≡◌, ◌+◌};
 ghost use Rattle.swim_node.specs.Link.{link_number};
 
 use super::thirds::{Thirds, every_third};
+use crate::same::{holds, same};
 use std::alloc::Global;
 use std::marker::Brand;
 use std::process::Abort;
@@ -13,7 +14,6 @@ use std::thread::{self, Threads, join};
 use swim_disk::{Disk, Plan};
 use swim_member::Event;
 use swim_node::Status;
-use crate::same::{holds, same};
 use swim_scenes::{opened_by_plan, suspicion};
 use swim_shared::{Name, Parts, Pass, Shared, Watch};
 

@@ -2,6 +2,7 @@
 
 ghost use Rattle.std.specs.Prelude.{◌≡◌, ◌+◌, []};
 
+use crate::same::{holds, same};
 use std::alloc::Global;
 use std::marker::Brand;
 use std::process::Abort;
@@ -12,7 +13,6 @@ use std::thread::{self, Threads, join};
 use swim_disk::Disk;
 use swim_member::{Event, Note};
 use swim_node::{Link, LinkFault, MemoryLink};
-use crate::same::{holds, same};
 use swim_scenes::{endpoint, opened_by_plan, ping, update};
 use swim_shared::{Name, Outbox, Parts, Pass, Sender, Shared};
 use swim_wire::{Endpoint, Kind, UpdateKind, decode};
