@@ -1,0 +1,33 @@
+//! One look at a running member.
+
+use crate::asking::exchange;
+use crate::paging::read_rows;
+use crate::status::read_status;
+use std::net::{Net, TcpStream};
+use std::rt::Clock;
+use swim_ending::Ending;
+use swim_news::Rows;
+use swim_node::Status;
+use swim_wire::Endpoint;
+
+/// What a member said of itself and of all members.
+#[derive(Drop)]
+pub struct Shown {
+    /// Its status.
+    pub status: Status,
+    /// All rows, itself among them; none where its era was full, so that it has to be asked again.
+    pub rows: Option<Rows>,
+}
+
+/// Asks a member for its status and for all rows. Each of its answers takes at most 5 seconds. An error says that it did not
+/// answer, or not so.
+pub fn look<R: Net<Stream = TcpStream> + Clock + AllocGlobal>(
+    rt: &R,
+    to: Endpoint,
+) -> Result<Shown, Ending> {
+    let answer = exchange(rt, to, "status");
+    let answer = answer.map_err(|error| Ending::of(&error, Ending::Socket))?;
+    let status = read_status(answer.as_slice()).ok_or(Ending::Answer)?;
+    let rows = read_rows(rt, to)?;
+    Ok(Shown { status, rows })
+}

@@ -1,0 +1,3 @@
+mod Examples
+pub mod Paths
+pub mod Texts

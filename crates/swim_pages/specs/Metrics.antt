@@ -1,0 +1,112 @@
+-- The numbers of a member, as Prometheus reads them.
+use Rattle.std.specs.Prelude.{ℕ, List, ◌++◌, codes, count_by, Option, Some, None}
+use Rattle.std.specs.Prelude.{Bool, true, false}
+use Rattle.std.specs.Fmt.{decimal}
+use Rattle.swim_member.specs.Texts.{phase_word}
+use Rattle.swim_member.specs.declared.state.Phase.{Phase}
+use Rattle.swim_member.specs.declared.state.Phase.TheVariants.{Running, Left, Expelled}
+use Rattle.swim_node.specs.declared.entry.Status.{Status}
+use Rattle.swim_wire.specs.Text.{kind_word}
+use Rattle.swim_wire.specs.declared.update.Update.{Update}
+use Rattle.swim_wire.specs.declared.update.UpdateKind.{UpdateKind}
+use Rattle.swim_wire.specs.declared.update.UpdateKind.TheVariants.{Alive, Suspect, Confirm}
+
+-- both are the same kind
+abbrev pub is_same : UpdateKind → UpdateKind → Bool
+is_same Alive Alive = true
+is_same Suspect Suspect = true
+is_same Confirm Confirm = true
+is_same _ _ = false
+
+-- the row is of this kind
+abbrev pub has_kind : UpdateKind → Update → Bool
+has_kind kind r = is_same kind r.kind
+
+-- how many rows are of this kind
+abbrev pub count_kind : UpdateKind → List Update → ℕ
+count_kind kind rows = count_by (has_kind kind) rows
+
+-- 1 for the phase that it is, and 0 for the others
+abbrev pub phase_flag : Phase → Phase → ℕ
+phase_flag Running Running = 1
+phase_flag Left Left = 1
+phase_flag Expelled Expelled = 1
+phase_flag _ _ = 0
+
+-- what stands before the numbers of a metric: its name, and what it is
+unfoldable pub gauge_head : List ℕ → List ℕ → List ℕ
+gauge_head name help =
+    codes "# HELP " ++ (name ++ (codes " " ++ (help ++ (codes "\n# TYPE " ++ (name
+    ++ codes " gauge\n")))))
+
+-- a number of it
+abbrev pub sample : List ℕ → ℕ → List ℕ
+sample name n = name ++ (codes " " ++ (decimal n ++ codes "\n"))
+
+-- a number of it that is of one of several things
+unfoldable pub sample_of : List ℕ → List ℕ → List ℕ → ℕ → List ℕ
+sample_of name label word n =
+    name ++ (codes "{" ++ (label ++ (codes "=\"" ++ (word ++ (codes "\"} " ++ (decimal n
+    ++ codes "\n"))))))
+
+-- a metric with one number
+unfoldable pub gauge : List ℕ → List ℕ → ℕ → List ℕ
+gauge name help n = gauge_head name help ++ sample name n
+
+-- whether the member answers
+abbrev pub up_text : ℕ → List ℕ
+up_text up = gauge (codes "swim_up") (codes "Whether the member answers.") up
+
+-- how many members are of a kind
+unfoldable pub kind_sample : UpdateKind → List Update → List ℕ
+kind_sample kind rows =
+    sample_of (codes "swim_members") (codes "state") (kind_word kind) (count_kind kind rows)
+
+-- how many members are alive, suspected and confirmed, by its rows
+abbrev pub kinds_text : List Update → List ℕ
+kinds_text rows =
+    gauge_head (codes "swim_members")
+    (codes "Members by their state, the member itself among them.")
+    ++ (kind_sample Alive rows ++ (kind_sample Suspect rows ++ kind_sample Confirm rows))
+
+-- whether a phase is the member's
+abbrev pub phase_sample : Phase → Phase → List ℕ
+phase_sample is phase =
+    sample_of (codes "swim_phase") (codes "phase") (phase_word is) (phase_flag is phase)
+
+-- which phase it is in
+abbrev pub phases_text : Phase → List ℕ
+phases_text phase =
+    gauge_head (codes "swim_phase") (codes "1 for the phase of the member, and 0 for the others.")
+    ++ (phase_sample Running phase ++ (phase_sample Left phase ++ phase_sample Expelled phase))
+
+-- its own number
+abbrev pub number_text : ℕ → List ℕ
+number_text n =
+    gauge (codes "swim_own_number") (codes "The own incarnation number of the member.") n
+
+-- how many entries its era has
+abbrev pub entries_text : ℕ → List ℕ
+entries_text n =
+    gauge (codes "swim_era_entries") (codes "Entries in the present era of the member.") n
+
+-- for how long nothing changed
+abbrev pub quiet_text : ℕ → List ℕ
+quiet_text quiet =
+    gauge (codes "swim_quiet_seconds")
+    (codes "Seconds since this server last saw a change of the member or of its rows.") quiet
+
+-- what is said of a member that answered so
+abbrev pub answering_text : Status → List Update → List ℕ
+answering_text s rows =
+    up_text 1 ++ (kinds_text rows ++ (phases_text s.phase ++ (number_text s.number
+    ++ entries_text s.length)))
+
+-- what is said of a member, whether it answered or not
+abbrev pub member_text : Option Status → List Update → List ℕ
+member_text None rows = up_text 0
+member_text (Some s) rows = answering_text s rows
+
+-- all its numbers
+abbrev pub metrics_text : Option Status → List Update → ℕ → List ℕ
+metrics_text status rows quiet = member_text status rows ++ quiet_text quiet

@@ -1,0 +1,18 @@
+//! What a browser or a scraper asks of a member by HTTP, and what it is answered: a request read from bytes, which answer it
+//! gets, and the text of that. There is no socket here.
+#![tactic(auto)]
+
+mod answer;
+mod members;
+mod metrics;
+mod page;
+mod picture;
+mod request;
+mod seen;
+mod writing;
+
+pub use answer::{Answer, Code, Content, answer_for};
+pub use metrics::write_metrics;
+pub use request::{FIELDS_MAX, HEAD_MAX, Method, Path, Reading, Request, read_request};
+pub use seen::Seen;
+pub use writing::response;

@@ -1,0 +1,121 @@
+//! The head of a request, read from the bytes that came.
+
+ghost use Rattle.std.specs.Prelude.{◌≡◌, ◌≢◌, IfSome, IfNone};
+ghost use Rattle.swim_words.specs.Words.{No};
+ghost use Rattle.swim_pages.specs.Requests.{IsMethod, IsPath, IsReading, path_in, path_text};
+
+use httparse::spans::{EMPTY_HEADER_SPAN, parse_request};
+use httparse::{Error, Status};
+use swim_words::split_at_byte;
+
+/// The most bytes of a head that has not ended.
+pub const HEAD_MAX: usize = 8192;
+
+/// The most fields of a head.
+pub const FIELDS_MAX: usize = 64;
+
+/// What a request is to do.
+#[derive(Clone, Copy, Debug, PartialEq, Eq)]
+pub enum Method {
+    /// Give a page.
+    Get,
+    /// Give the head of its answer alone.
+    Head,
+    /// Anything else.
+    Other,
+}
+
+impl Method {
+    /// The method with this name.
+    fn of(name: &[u8]) -> Method
+        ensures { IsMethod name.now result }
+    {
+        match name {
+            b"GET" => Method::Get,
+            b"HEAD" => Method::Head,
+            _ => Method::Other,
+        }
+    }
+}
+
+/// What is served.
+#[derive(Clone, Copy, Debug, PartialEq, Eq)]
+pub enum Path {
+    /// The group as a page, at `/`.
+    Page,
+    /// The numbers of the member, at `/metrics`.
+    Metrics,
+    /// All rows, at `/members.json`.
+    Members,
+    /// Whether the member is running, at `/health`.
+    Health,
+}
+
+impl Path {
+    /// What is served at this path, if anything is.
+    fn of(path: &[u8]) -> Option<Path>
+        ensures { IsPath path.now result }
+    {
+        match path {
+            b"/" => Some(Path::Page),
+            b"/metrics" => Some(Path::Metrics),
+            b"/members.json" => Some(Path::Members),
+            b"/health" => Some(Path::Health),
+            _ => None,
+        }
+    }
+}
+
+/// The path of a target: what stands before its query.
+fn path_in(target: &[u8]) -> &[u8]
+    ensures { result.now ≡ path_in target.now }
+{
+    match split_at_byte(target, b'?') {
+        Some((path, _)) => path,
+        None => target,
+    }
+}
+
+/// A request.
+#[derive(Clone, Copy, Debug, PartialEq, Eq)]
+pub struct Request {
+    /// What it is to do.
+    pub method: Method,
+    /// What it asks for; none where nothing is served there.
+    pub path: Option<Path>,
+}
+
+/// What the bytes that came on a connection say.
+#[derive(Clone, Copy, Debug, PartialEq, Eq)]
+pub enum Reading {
+    /// A head that has not ended.
+    More,
+    /// A request. What follows its head is not looked at.
+    Asked(Request),
+    /// No request, whatever follows.
+    Bad,
+    /// A head of `HEAD_MAX` bytes that has not ended, or one of more than `FIELDS_MAX` fields.
+    TooLong,
+}
+
+/// What the bytes say that came so far.
+pub fn read_request(bytes: &[u8]) -> Reading
+    ensures { IsReading bytes.now result }
+{
+    let mut fields = [EMPTY_HEADER_SPAN; FIELDS_MAX];
+    match parse_request(bytes, &mut fields) {
+        Ok(Status::Complete(head)) => Reading::Asked(Request {
+            method: Method::of(head.method.of(bytes)),
+            path: Path::of(path_in(head.path.of(bytes))),
+        }),
+        Ok(Status::Partial) => {
+            if bytes.len() < HEAD_MAX {
+                Reading::More
+            } else {
+                Reading::TooLong
+            }
+        }
+        Err(Error::TooManyHeaders) => Reading::TooLong,
+        Err(_) => Reading::Bad,
+    }
+}

@@ -1,0 +1,137 @@
+//! All connections, on one thread.
+
+use crate::known::Known;
+use crate::peer::Peer;
+use mio::net::TcpListener as Listener;
+use mio::{Events, Interest, Poll, Token};
+use std::alloc::{AllocError, Global};
+use std::net::{Net, TcpListener};
+use std::sync::{Mutex, Wait, WaitMethods};
+use std::time::{Clock, Duration};
+use std::{io, thread};
+use swim_pages::response;
+
+/// The most connections at a time. One more takes the place of the one that came so many before it.
+const PEERS_MAX: usize = 256;
+
+/// How many connections are taken in one turn, before those that are there have theirs.
+const TAKEN_MAX: u32 = 16;
+
+/// How many changes one wait takes note of. Those beyond end the next one.
+const CHANGES_MAX: usize = 64;
+
+/// How long a wait takes at most, in milliseconds, so that a connection whose time is over is found.
+const WAIT_MILLIS: u64 = 250;
+
+/// How long what the system refuses is left alone, in milliseconds.
+const PAUSE_MILLIS: u64 = 10;
+
+/// What each socket is watched by: a wait tells no socket from another, and then each has a turn.
+const SOCKET: Token = Token(0);
+
+/// Who serves. It has a place for each connection, and takes the next place for the next one.
+#[derive(Drop)]
+pub(crate) struct Server {
+    alloc: Global,
+    poll: Poll,
+    changes: Events<Global>,
+    listener: Listener,
+    peers: Vec<Option<Peer>>,
+    next: usize,
+}
+
+/// So many empty places.
+fn empty_places(alloc: Global) -> Result<Vec<Option<Peer>>, AllocError> {
+    let mut places = Vec::new(alloc);
+    for _ in 0..PEERS_MAX {
+        places.push(None)?;
+    }
+    Ok(places)
+}
+
+/// One turn of a connection. An error, or true, says that it has ended.
+fn turn<C: Clock, T: Wait>(
+    alloc: Global,
+    clock: &C,
+    wait: &T,
+    known: &Mutex<Known>,
+    peer: &mut Peer,
+) -> io::Result<bool> {
+    if let Some(reading) = peer.listen()? {
+        let answer = response(alloc, reading, known.lock(wait).seen(clock))?;
+        peer.answer(answer);
+    }
+    Ok(peer.speak()? || peer.is_late(clock))
+}
+
+impl Server {
+    /// A server over a bound listener. An error is the system's: there are too many descriptors, or no memory.
+    pub(crate) fn new<R: Net + AllocGlobal>(rt: &R, listener: TcpListener) -> io::Result<Server> {
+        listener.set_nonblocking(true)?;
+        let mut listener = Listener::from_std(listener);
+        let poll = Poll::new(rt)?;
+        let registry = poll.registry();
+        registry.register(&mut listener, SOCKET, Interest::READABLE)?;
+        Ok(Server {
+            alloc: rt.alloc(),
+            changes: Events::with_capacity(rt.alloc(), CHANGES_MAX)?,
+            peers: empty_places(rt.alloc())?,
+            poll,
+            listener,
+            next: 0,
+        })
+    }
+
+    /// Waits until a socket changes. A wait that the system refuses is a pause.
+    fn wait<C: Clock>(&mut self, clock: &C) {
+        let time = Duration::from_millis(WAIT_MILLIS);
+        if self.poll.poll(&mut self.changes, Some(time)).is_err() {
+            thread::sleep(clock, Duration::from_millis(PAUSE_MILLIS));
+        }
+    }
+
+    /// Takes the next connection that came; an error where there is none.
+    fn take<C: Clock>(&mut self, clock: &C) -> io::Result<()> {
+        let (mut stream, _) = self.listener.accept()?;
+        let both = Interest::READABLE | Interest::WRITABLE;
+        self.poll.registry().register(&mut stream, SOCKET, both)?;
+        let peer = Peer::new(self.alloc, clock, stream)?;
+        if let Some(place) = self.peers.get_mut(self.next) {
+            *place = Some(peer);
+        }
+        let next = self.next.saturating_add(1);
+        self.next = if next < PEERS_MAX { next } else { 0 };
+        Ok(())
+    }
+
+    /// Takes some of the connections that came.
+    fn take_some<C: Clock>(&mut self, clock: &C) {
+        for _ in 0..TAKEN_MAX {
+            if self.take(clock).is_err() {
+                return;
+            }
+        }
+    }
+
+    /// Gives each connection a turn. One that has ended leaves its place.
+    fn turns<C: Clock, T: Wait>(&mut self, clock: &C, wait: &T, known: &Mutex<Known>) {
+        for place in self.peers.iter_mut() {
+            let has_ended = match place {
+                Some(peer) => turn(self.alloc, clock, wait, known, peer).unwrap_or(true),
+                None => false,
+            };
+            if has_ended {
+                *place = None;
+            }
+        }
+    }
+
+    /// Serves what is known until the process is ended.
+    pub(crate) fn serve<C: Clock, T: Wait>(mut self, clock: &C, wait: &T, known: &Mutex<Known>) {
+        for _ in wait.forever() {
+            self.wait(clock);
+            self.take_some(clock);
+            self.turns(clock, wait, known);
+        }
+    }
+}

@@ -1,0 +1,66 @@
+//! `swim web`.
+
+use crate::known::{Known, follow};
+use crate::server::Server;
+use std::io::Error;
+use std::net::{Net, TcpListener, TcpStream};
+use std::rt::Clock;
+use std::sync::{Mutex, Wait};
+use std::thread::{self, Threads};
+use swim_ending::Ending;
+use swim_net::address_of;
+use swim_wire::Endpoint;
+use swim_words::read_endpoint;
+
+/// What `swim web` shows, and where. Both are words not yet judged.
+#[derive(Clone, Copy, Debug)]
+pub struct Web<'a> {
+    /// The control socket of the member.
+    pub of: &'a str,
+    /// Where it listens.
+    pub listen: &'a str,
+}
+
+/// Says on standard error why no socket listens there.
+fn refused<R: Eprint>(rt: &R, listen: &str, error: &Error) -> Ending {
+    let _ = eprintln!(rt; "swim: cannot listen at {listen}: {error}");
+    Ending::of(error, Ending::Socket)
+}
+
+/// Prints what is served where, and who can read it.
+fn announce<R: Print>(rt: &R, web: &Web<'_>, listen: Endpoint) -> Result<(), Ending> {
+    let Web { of, .. } = *web;
+    println!(rt; "http://{listen}/ shows what {of} says").map_err(|_| Ending::File)?;
+    if !address_of(listen).ip().is_loopback() {
+        println!(rt;
+            "everyone who reaches {listen} can read the group: there is no password"
+        ).map_err(|_| Ending::File)?;
+    }
+    Ok(())
+}
+
+/// Serves what a member says over HTTP until the process is ended, whether the member answers or not. An error is a word that is no
+/// endpoint, or the system's: the address is taken or not this machine's.
+pub fn serve_web<
+    R: Net<Listener = TcpListener, Stream = TcpStream>
+        + Clock
+        + AllocGlobal
+        + Print
+        + Eprint
+        + Sync,
+    T: Threads + Wait + Sync,
+>(rt: &R, threads: &T, web: &Web<'_>) -> Result<(), Ending> {
+    let of = read_endpoint(web.of.as_bytes()).ok_or(Ending::Address)?;
+    let listen = read_endpoint(web.listen.as_bytes()).ok_or(Ending::Address)?;
+    let bound = TcpListener::bind(rt, address_of(listen));
+    let listener = bound.map_err(|error| refused(rt, web.listen, &error))?;
+    let server = Server::new(rt, listener).map_err(|error| refused(rt, web.listen, &error))?;
+    announce(rt, web, listen)?;
+    let known = Mutex::new(Known::new());
+    thread::join(
+        threads,
+        || follow(rt, threads, of, &known),
+        || server.serve(rt, threads, &known),
+    );
+    Ok(())
+}
