@@ -1,7 +1,7 @@
 //! A member of a group, as a program: `swim init` makes its state file, `swim run` runs it, `swim ctl`,
-//! `swim members` and `swim watch` ask it, `swim show` says what a state file holds, `swim explain` what recordings tell of a
-//! member, `swim play` plays a script over a member in memory, or a recording, `swim check` looks at what the members of a
-//! group sent, and `swim simulate` plays whole groups.
+//! `swim members` and `swim watch` ask it, `swim web` shows it over HTTP, `swim show` says what a state file holds, `swim explain`
+//! what recordings tell of a member, `swim play` plays a script over a member in memory, or a recording, `swim check` looks at what
+//! the members of a group sent, and `swim simulate` plays whole groups.
 #![tactic(auto)]
 
 use clap::Error;
@@ -24,6 +24,7 @@ use swim_run::run;
 use swim_script::ScriptFault;
 use swim_show::ShowFault;
 use swim_survey::{Asked, AskedFault};
+use swim_web::{Web, serve_web};
 use swim_words::read_endpoint;
 
 /// The exit status where the words are refused.
@@ -209,6 +210,10 @@ fn answer<T: Threads + Wait + Log + Clock + Send + Sync + Copy + Drop>(
                 once,
             };
             watch_members(rt, logged, &watched)?;
+            Ok(ExitCode::SUCCESS)
+        }
+        Subcommand::Web { of, listen } => {
+            serve_web(rt, logged, &Web { of, listen })?;
             Ok(ExitCode::SUCCESS)
         }
         Subcommand::Show { file, as_json } => show_file(rt, file, as_json),

@@ -59,6 +59,13 @@ pub enum Subcommand<'a> {
         /// Whether to end where the member does not answer.
         once: bool,
     },
+    /// A server that shows what a member says.
+    Web {
+        /// The control socket, not yet judged.
+        of: &'a str,
+        /// Where it listens, not yet judged.
+        listen: &'a str,
+    },
     /// What a state file says.
     Show {
         /// Its path.
@@ -202,6 +209,27 @@ fn watch_command<'a>(alloc: Global) -> Result<Command<'a>, Error> {
     Ok(command)
 }
 
+/// `swim web --of ADDR [--listen ADDR]`.
+fn web_command<'a>(alloc: Global) -> Result<Command<'a>, Error> {
+    let of = word(
+        alloc,
+        "of",
+        "ADDR",
+        "The member's control socket, as 127.0.0.1:7100",
+    );
+    let listen = option(
+        alloc,
+        "listen",
+        "ADDR",
+        "Where it listens; everyone who reaches that can read the group",
+    );
+    let command = Command::new(alloc, "web")
+        .about("Serves what a member says over HTTP: a page, metrics, all rows and its health")
+        .arg(of.long("of"))?
+        .arg(listen.default_value("127.0.0.1:7080"))?;
+    Ok(command)
+}
+
 /// `swim ctl ADDR LINE [--json]`.
 fn ctl_command<'a>(alloc: Global) -> Result<Command<'a>, Error> {
     let line = word(
@@ -264,6 +292,7 @@ fn command<'a>(alloc: Global) -> Result<Command<'a>, Error> {
         .subcommand(ctl_command(alloc)?)?
         .subcommand(members_command(alloc)?)?
         .subcommand(watch_command(alloc)?)?
+        .subcommand(web_command(alloc)?)?
         .subcommand(show_command(alloc)?)?
         .subcommand(explain_command(alloc)?)?
         .subcommand(play)?
@@ -310,6 +339,10 @@ fn chosen<'a>(matches: &ArgMatches<'a>, all: &'a [String]) -> Option<Subcommand<
             as_json: words.get_flag("json"),
             every: words.get_one::<u64>("every")?,
             once: words.get_flag("once"),
+        }),
+        ("web", words) => Some(Subcommand::Web {
+            of: text(words, "of"),
+            listen: text(words, "listen"),
         }),
         ("show", words) => Some(Subcommand::Show {
             file: text(words, "file"),
