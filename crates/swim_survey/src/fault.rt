@@ -1,6 +1,6 @@
 //! Why nothing more is printed.
 
-use crate::placed::{PlacedRefusal, placed};
+use crate::placing::{PlacedRefusal, placed};
 use std::alloc::AllocError;
 use std::io::{self, ErrorKind};
 use swim_settings::Refusal;
