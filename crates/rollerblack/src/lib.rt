@@ -72,7 +72,6 @@
 //! }
 //!
 //! /// Each life begins above the numbers of the one before.
-//! #[test]
 //! fn lives_by_hand(rt: HostRuntime) -> Result<(), Fail> {
 //!     let alloc = rt.alloc();
 //!     let me = Endpoint::new(0x0a00_0001, 7000).ok_or("an endpoint")?;
