@@ -76,7 +76,7 @@ fn read_answer<R: Clock>(
 }
 
 /// Connects, sends the line and reads its answer, within the time limit.
-pub(crate) fn exchange<R: Net<Stream = TcpStream> + Clock + AllocGlobal>(
+fn talk<R: Net<Stream = TcpStream> + Clock + AllocGlobal>(
     rt: &R,
     to: Endpoint,
     line: &str,
@@ -91,6 +91,16 @@ pub(crate) fn exchange<R: Net<Stream = TcpStream> + Clock + AllocGlobal>(
     Ok(answer)
 }
 
+/// The whole answer to a control line. It takes at most 5 seconds. An error says that there was no memory, or that the member did
+/// not answer.
+pub(crate) fn exchange<R: Net<Stream = TcpStream> + Clock + AllocGlobal>(
+    rt: &R,
+    to: Endpoint,
+    line: &str,
+) -> Result<Vec<u8>, Ending> {
+    talk(rt, to, line).map_err(|error| Ending::of(&error, Ending::Socket))
+}
+
 /// Sends one control line as it is, with its end, and gives the whole answer. The address is a word not yet judged. It
 /// takes at most 5 seconds.
 pub fn ask<R: Net<Stream = TcpStream> + Clock + AllocGlobal>(
@@ -99,5 +109,5 @@ pub fn ask<R: Net<Stream = TcpStream> + Clock + AllocGlobal>(
     line: &str,
 ) -> Result<Vec<u8>, Ending> {
     let to = read_endpoint(to.as_bytes()).ok_or(Ending::Address)?;
-    exchange(rt, to, line).map_err(|error| Ending::of(&error, Ending::Socket))
+    exchange(rt, to, line)
 }

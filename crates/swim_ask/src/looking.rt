@@ -25,8 +25,7 @@ pub fn look<R: Net<Stream = TcpStream> + Clock + AllocGlobal>(
     rt: &R,
     to: Endpoint,
 ) -> Result<Shown, Ending> {
-    let answer = exchange(rt, to, "status");
-    let answer = answer.map_err(|error| Ending::of(&error, Ending::Socket))?;
+    let answer = exchange(rt, to, "status")?;
     let status = read_status(answer.as_slice()).ok_or(Ending::Answer)?;
     let rows = read_rows(rt, to)?;
     Ok(Shown { status, rows })

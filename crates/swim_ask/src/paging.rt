@@ -103,8 +103,7 @@ pub(crate) fn read_rows<R: Net<Stream = TcpStream> + Clock + AllocGlobal>(
     let mut rows = Rows::new();
     for _ in 0..PAGES_MAX {
         let line = next_line(&rows);
-        let answer = exchange(rt, to, line.as_str());
-        let answer = answer.map_err(|error| Ending::of(&error, Ending::Socket))?;
+        let answer = exchange(rt, to, line.as_str())?;
         match take_answer(&mut rows, answer.as_slice())? {
             Page::Full => {}
             Page::Last => break,

@@ -20,12 +20,7 @@ const PHASE: &str = "swim_phase";
 fn has_kind(kind: UpdateKind, row: &Update) -> bool
     ensures { result ≡ has_kind kind row.now }
 {
-    matches!(
-        (kind, row.kind),
-        (UpdateKind::Alive, UpdateKind::Alive)
-            | (UpdateKind::Suspect, UpdateKind::Suspect)
-            | (UpdateKind::Confirm, UpdateKind::Confirm)
-    )
+    kind == row.kind
 }
 
 /// How many rows are of this kind.
@@ -39,12 +34,7 @@ pub(crate) fn count_kind(kind: UpdateKind, rows: &[Update]) -> usize
 fn phase_flag(is: Phase, phase: Phase) -> u64
     ensures { result ≡ phase_flag is phase }
 {
-    match (is, phase) {
-        (Phase::Running, Phase::Running)
-        | (Phase::Left, Phase::Left)
-        | (Phase::Expelled, Phase::Expelled) => 1,
-        _ => 0,
-    }
+    u64::from(is == phase)
 }
 
 /// Adds what stands before the numbers of a metric.

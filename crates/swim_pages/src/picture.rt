@@ -35,9 +35,7 @@ impl Angle {
     {
         Angle(place * TURN / count)
     }
-}
 
-impl Angle {
     /// How high above the middle the name of a member there stands before it is turned, and which end of it: one beside the circle
     /// begins or ends there, and one above or below has its middle there.
     fn name_at(self) -> (u32, &'static str)
