@@ -7,13 +7,13 @@
 use clap::Error;
 use clap::error::ErrorKind;
 use log::{Log, Logged};
-use std::io::{self, Read, Write};
+use std::io::{self, IsTerminal, Read, Write};
 use std::process::ExitCode;
 use std::sync::Wait;
 use std::thread::Threads;
 use std::time::Clock;
 use std::{env, fs};
-use swim_ask::{StatusJson, Watched, ask, read_status, show_members, watch_members};
+use swim_ask::{Paint, StatusJson, Watched, ask, read_status, show_members, watch_members};
 use swim_check::{Stop, check};
 use swim_cli::{LogStream, Stamped, Subcommand, hold_standard, level, make, read_words};
 use swim_ending::Ending;
@@ -156,9 +156,20 @@ fn explain_files(
     Ok(status)
 }
 
+/// The colours of standard output.
+fn paint(rt: &HostRuntime) -> Paint {
+    Paint::of(rt, rt.stdout().is_terminal())
+}
+
 /// Simulates a group, and prints what was measured. A refused plan or sweep is named on standard error.
 fn simulate_group(rt: &HostRuntime, asked: &Asked<'_>) -> Result<ExitCode, Ending> {
-    let fault = match swim_survey::answer(rt, asked) {
+    let stream = rt.stderr();
+    let terminal = if stream.is_terminal() {
+        Some(stream)
+    } else {
+        None
+    };
+    let fault = match swim_survey::answer(rt, asked, terminal) {
         Ok(text) => {
             print_bytes(rt, text.as_bytes())?;
             return Ok(ExitCode::SUCCESS);
@@ -194,7 +205,7 @@ fn answer<T: Threads + Wait + Log + Clock + Send + Sync + Copy + Drop>(
         }
         Subcommand::Ctl { to, line, as_json } => ask_member(rt, to, line, as_json),
         Subcommand::Members { to, as_json } => {
-            show_members(rt, to, as_json)?;
+            show_members(rt, to, as_json, paint(rt))?;
             Ok(ExitCode::SUCCESS)
         }
         Subcommand::Watch {
@@ -208,6 +219,7 @@ fn answer<T: Threads + Wait + Log + Clock + Send + Sync + Copy + Drop>(
                 as_json,
                 every,
                 once,
+                paint: paint(rt),
             };
             watch_members(rt, logged, &watched)?;
             Ok(ExitCode::SUCCESS)

@@ -5,11 +5,13 @@ mod asking;
 mod gap;
 mod looking;
 mod paging;
+mod paint;
 mod status;
 mod timed;
 mod watching;
 
 pub use asking::ask;
 pub use looking::{Shown, look};
+pub use paint::Paint;
 pub use status::{StatusJson, read_status};
 pub use watching::{Watched, show_members, watch_members};

@@ -2,6 +2,7 @@
 
 use crate::gap::{Gap, GapJson};
 use crate::paging::read_rows;
+use crate::paint::{Paint, PaintedChange, PaintedKind};
 use crate::timed::{Timed, TimedJson};
 use arrayvec::ArrayString;
 use std::fmt::{self, Display, Write as _};
@@ -29,26 +30,28 @@ fn print_line<P: Print, D: Display>(rt: &P, line: &D) -> Result<(), Ending> {
 }
 
 /// Prints a row of the table.
-fn print_row<P: Print>(rt: &P, row: &Update) -> Result<(), Ending> {
+fn print_row<P: Print>(rt: &P, row: &Update, paint: Paint) -> Result<(), Ending> {
     let mut text = ArrayString::<ENDPOINT_WIDTH>::new();
     let _ = write!(text, "{}", row.who);
     let who = text.as_str();
-    let kind = row.kind.name();
+    let kind = PaintedKind(paint, row.kind);
     let number = row.number;
-    println!(rt; "{who:<21} {kind:<7} {number}").map_err(|_| Ending::File)
+    println!(rt; "{who:<21} {kind} {number}").map_err(|_| Ending::File)
 }
 
-/// Prints rows, as a table with a head or as JSON, a line each.
-fn print_rows<P: Print>(rt: &P, rows: &Rows, as_json: bool) -> Result<(), Ending> {
-    if !as_json {
-        println!(rt; "MEMBER                KIND    NUMBER").map_err(|_| Ending::File)?;
-    }
+/// Prints rows as JSON, a line each.
+fn print_objects<P: Print>(rt: &P, rows: &Rows) -> Result<(), Ending> {
     for row in rows.as_slice() {
-        if as_json {
-            print_line(rt, &RowJson(*row))?;
-        } else {
-            print_row(rt, row)?;
-        }
+        print_line(rt, &RowJson(*row))?;
+    }
+    Ok(())
+}
+
+/// Prints rows as a table with a head.
+fn print_table<P: Print>(rt: &P, rows: &Rows, paint: Paint) -> Result<(), Ending> {
+    println!(rt; "MEMBER                KIND    NUMBER").map_err(|_| Ending::File)?;
+    for row in rows.as_slice() {
+        print_row(rt, row, paint)?;
     }
     Ok(())
 }
@@ -58,11 +61,16 @@ pub fn show_members<R: Net<Stream = TcpStream> + Clock + AllocGlobal + Print>(
     rt: &R,
     to: &str,
     as_json: bool,
+    paint: Paint,
 ) -> Result<(), Ending> {
     let to = read_endpoint(to.as_bytes()).ok_or(Ending::Address)?;
     for _ in 0..AGAIN_MAX {
         if let Some(rows) = read_rows(rt, to)? {
-            return print_rows(rt, &rows, as_json);
+            return if as_json {
+                print_objects(rt, &rows)
+            } else {
+                print_table(rt, &rows, paint)
+            };
         }
         thread::sleep(rt, Duration::from_millis(AGAIN_MILLIS));
     }
@@ -91,6 +99,8 @@ pub struct Watched<'a> {
     pub every: u64,
     /// Whether to end where it does not answer.
     pub once: bool,
+    /// In which colours a line is that is no JSON object.
+    pub paint: Paint,
 }
 
 impl Watched<'_> {
@@ -113,7 +123,7 @@ impl Watched<'_> {
         let mut changes = Changes::new();
         compare(old, new, &mut changes);
         for change in changes.as_slice() {
-            self.tell(rt, *change, NamedChange(*change))?;
+            self.tell(rt, PaintedChange(self.paint, *change), NamedChange(*change))?;
         }
         Ok(())
     }

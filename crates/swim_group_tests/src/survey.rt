@@ -6,7 +6,7 @@ use std::test::Fail;
 use swim_group::Breach;
 use swim_simulate::{Key, Kill, Plan, SimulateFault, Stop, simulate};
 use swim_survey::{
-    Gathered, Made, Span, Stage, Sweep, Trial, draw_runs, draw_sweep, numbers_of, placed,
+    Gathered, Made, Series, Span, Stage, Sweep, Trial, draw_runs, draw_sweep, numbers_of, placed,
     read_span, report, run_all, run_sweep, shrunk, told, write_plan,
 };
 use swim_wire::{Endpoint, Update, UpdateKind};
@@ -14,7 +14,12 @@ use swim_wire::{Endpoint, Update, UpdateKind};
 /// What runs of a plan print.
 fn printed(alloc: Global, text: &str, seed: u64, runs: u64) -> Result<String, Fail> {
     let plan = Plan::read(alloc, text.as_bytes())?;
-    let runs = run_all(alloc, &plan, seed, runs, &mut Made::none())?;
+    let runs = run_all(
+        alloc,
+        &plan,
+        &mut Series::new(seed, runs),
+        &mut Made::none(),
+    )?;
     Ok(report(alloc, &plan, seed, &runs)?)
 }
 
@@ -150,7 +155,13 @@ fn a_sweep_has_a_line_for_each_choice(rt: HostRuntime) -> Result<(), Fail> {
     let alloc = rt.alloc();
     let plan = Plan::read(alloc, b"members = 3\nminutes = 1\nkills = 1\n")?;
     let sweep = Sweep::read(alloc, "suspect=20..40/20,loss=0..10/10")?;
-    let table = run_sweep(alloc, &plan, &sweep, 1, 1, &mut Made::none())?;
+    let table = run_sweep(
+        alloc,
+        &plan,
+        &sweep,
+        &mut Series::new(1, 1),
+        &mut Made::none(),
+    )?;
     let mut lines = table.as_str().lines();
     let head =
         "suspect,loss,suspected_s,confirmed_s,agreed_failed_s,agreed_alive_s,false_suspicions_by_hour,false_confirms_by_hour,datagrams_by_second,bytes_by_second,saves_by_hour";
@@ -221,7 +232,7 @@ fn a_run_is_told_as_a_plan(rt: HostRuntime) -> Result<(), Fail> {
 fn pictures_end_as_they_begin(rt: HostRuntime) -> Result<(), Fail> {
     let alloc = rt.alloc();
     let plan = Plan::read(alloc, b"members = 3\nminutes = 1\nkills = 1\n")?;
-    let runs = run_all(alloc, &plan, 1, 1, &mut Made::none())?;
+    let runs = run_all(alloc, &plan, &mut Series::new(1, 1), &mut Made::none())?;
     let picture = draw_runs(alloc, &plan, 1, runs)?;
     holds(
         &rt,

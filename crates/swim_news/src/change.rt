@@ -45,7 +45,7 @@ impl Change {
     }
 
     /// The row that it is, if there is one.
-    pub(crate) fn now(&self) -> Option<Update> {
+    pub fn now(&self) -> Option<Update> {
         match self {
             Change::New(now) | Change::Changed { now, .. } => Some(*now),
             Change::Gone(_) => None,

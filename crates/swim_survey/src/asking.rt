@@ -5,10 +5,12 @@ use crate::files::Made;
 use crate::pictures::draw_runs;
 use crate::rows::HEAD;
 use crate::runs::run_all;
+use crate::series::Series;
 use crate::sweep::Sweep;
 use crate::sweeping::{check_plans, run_sweep};
 use crate::table::report;
 use std::fs::{self, File};
+use std::io::Stderr;
 use std::rt::Files;
 use swim_simulate::Plan;
 
@@ -49,10 +51,14 @@ fn answer_runs<R: Files<File = File> + AllocGlobal>(
     rt: &R,
     asked: &Asked<'_>,
     plan: &Plan,
+    terminal: Option<Stderr>,
 ) -> Result<String, AskedFault> {
     let mut made = Made::new(rt, asked.csv, asked.svg)?;
     made.write_lines(HEAD)?;
-    let runs = run_all(rt.alloc(), plan, asked.seed, asked.runs, &mut made)?;
+    let mut series = Series::on(terminal, asked.seed, asked.runs, 1);
+    let runs = run_all(rt.alloc(), plan, &mut series, &mut made);
+    series.end();
+    let runs = runs?;
     let text = report(rt.alloc(), plan, asked.seed, &runs)?;
     if made.has_picture() {
         let picture = draw_runs(rt.alloc(), plan, asked.seed, runs)?;
@@ -67,6 +73,7 @@ fn answer_sweep<R: Files<File = File> + AllocGlobal>(
     asked: &Asked<'_>,
     plan: &Plan,
     words: &str,
+    terminal: Option<Stderr>,
 ) -> Result<String, AskedFault> {
     let sweep = match Sweep::read(rt.alloc(), words) {
         Ok(sweep) => sweep,
@@ -74,17 +81,22 @@ fn answer_sweep<R: Files<File = File> + AllocGlobal>(
     };
     check_plans(rt.alloc(), plan, &sweep)?;
     let mut made = Made::new(rt, asked.csv, asked.svg)?;
-    run_sweep(rt.alloc(), plan, &sweep, asked.seed, asked.runs, &mut made)
+    let mut series = Series::on(terminal, asked.seed, asked.runs, sweep.count() as u64);
+    let table = run_sweep(rt.alloc(), plan, &sweep, &mut series, &mut made);
+    series.end();
+    table
 }
 
-/// Does what is asked for, and gives what to print. A refused plan or sweep leaves no file.
+/// Does what is asked for, and gives what to print. A refused plan or sweep leaves no file. A terminal, if there is one, is told how
+/// far the runs are, and has nothing of it in the end.
 pub fn answer<R: Files<File = File> + AllocGlobal>(
     rt: &R,
     asked: &Asked<'_>,
+    terminal: Option<Stderr>,
 ) -> Result<String, AskedFault> {
     let plan = plan_at(rt, asked.plan)?;
     match asked.sweep {
-        Some(words) => answer_sweep(rt, asked, &plan, words),
-        None => answer_runs(rt, asked, &plan),
+        Some(words) => answer_sweep(rt, asked, &plan, words, terminal),
+        None => answer_runs(rt, asked, &plan, terminal),
     }
 }

@@ -6,6 +6,7 @@ use crate::figures::{FIGURES, Figure};
 use crate::files::Made;
 use crate::gathered::Gathered;
 use crate::rows::write_rows;
+use crate::series::Series;
 use std::alloc::{AllocError, Global};
 use swim_charts::Tally;
 use swim_simulate::{Done, Key, Plan, simulate};
@@ -70,19 +71,19 @@ fn one(alloc: Global, plan: &Plan, seed: u64, moments: u64) -> Result<Done, Aske
     Ok(done)
 }
 
-/// So many runs of a plan, the first one by this seed. The lines of a run go into the file when it is over.
+/// The runs of a plan. The lines of a run go into the file when it is over.
 pub fn run_all(
     alloc: Global,
     plan: &Plan,
-    seed: u64,
-    runs: u64,
+    series: &mut Series,
     made: &mut Made,
 ) -> Result<Runs, AskedFault> {
     let mut all = Runs::none(alloc);
-    for run in 0..runs {
+    for run in 0..series.runs {
+        series.begin_run();
         let is_drawn = run == 0 && made.has_picture();
         let moments = if is_drawn { MOMENTS } else { 0 };
-        let seed = seed.saturating_add(run);
+        let seed = series.seed.saturating_add(run);
         let done = one(alloc, plan, seed, moments)?;
         let rows = write_rows(alloc, plan, seed, done.measures.kills.as_slice())?;
         made.write_lines(rows.as_str())?;

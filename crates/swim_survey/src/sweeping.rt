@@ -5,6 +5,7 @@ use crate::figures::Figure;
 use crate::files::Made;
 use crate::pictures::draw_sweep;
 use crate::runs::run_all;
+use crate::series::Series;
 use crate::sweep::Sweep;
 use std::alloc::{AllocError, Global};
 use std::fmt::Write;
@@ -46,41 +47,36 @@ fn line(alloc: Global, choice: &[u64], figures: &[Option<u64>]) -> Result<String
     Ok(text)
 }
 
+/// The plan of a sweep with these numbers.
+fn plan_with(plan: &Plan, sweep: &Sweep, choice: &[u64]) -> Result<Plan, AskedFault> {
+    sweep.plan(plan, choice).map_err(AskedFault::of_sweep)
+}
+
 /// Whether each plan of the sweep is one.
 pub(crate) fn check_plans(alloc: Global, plan: &Plan, sweep: &Sweep) -> Result<(), AskedFault> {
     for place in 0..sweep.count() {
         let choice = sweep.choice(alloc, place)?;
-        if let Err(refusal) = sweep.plan(plan, choice.as_slice()) {
-            return Err(AskedFault::of_sweep(refusal));
-        }
+        plan_with(plan, sweep, choice.as_slice())?;
     }
     Ok(())
 }
 
-/// The figures of so many runs of a plan of the sweep.
-fn run_choice(
+/// The figures of the runs of a plan.
+fn figures_of(
     alloc: Global,
     plan: &Plan,
-    sweep: &Sweep,
-    choice: &[u64],
-    seed: u64,
-    runs: u64,
+    series: &mut Series,
 ) -> Result<Vec<Option<u64>>, AskedFault> {
-    let plan = match sweep.plan(plan, choice) {
-        Ok(plan) => plan,
-        Err(refusal) => return Err(AskedFault::of_sweep(refusal)),
-    };
-    let done = run_all(alloc, &plan, seed, runs, &mut Made::none())?;
+    let done = run_all(alloc, plan, series, &mut Made::none())?;
     Ok(Figure::all_of(alloc, &done.all)?)
 }
 
-/// So many runs of each plan of a sweep, and their table, a line a plan. A line goes into the file as soon as it is known.
+/// The runs of each plan of a sweep, and their table, a line a plan. A line goes into the file as soon as it is known.
 pub fn run_sweep(
     alloc: Global,
     plan: &Plan,
     sweep: &Sweep,
-    seed: u64,
-    runs: u64,
+    series: &mut Series,
     made: &mut Made,
 ) -> Result<String, AskedFault> {
     let mut table = head(alloc, sweep)?;
@@ -88,7 +84,8 @@ pub fn run_sweep(
     made.write_lines(table.as_str())?;
     for place in 0..sweep.count() {
         let choice = sweep.choice(alloc, place)?;
-        let figures = run_choice(alloc, plan, sweep, choice.as_slice(), seed, runs)?;
+        let plan = plan_with(plan, sweep, choice.as_slice())?;
+        let figures = figures_of(alloc, &plan, series)?;
         let line = line(alloc, choice.as_slice(), figures.as_slice())?;
         made.write_lines(line.as_str())?;
         table.push_str(line.as_str())?;
