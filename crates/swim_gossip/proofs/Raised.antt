@@ -38,7 +38,7 @@ length-raised [] queue = refl
 length-raised (x ∷ xs) queue = length-raised xs (set queue x (bump (at queue x))) ∙ length-set queue x (bump (at queue x))
 
 -- each of the places is raised once
-at-raised : (f : ℕ → ℕ) (low : ℕ) (xs : List ℕ) (queue : List Waiting) (y : ℕ) → RiseFrom f low xs → y < length queue → at (raised_at xs queue) y ≡ cond (stands y xs) (bump (at queue y)) (at queue y)
+pub at-raised : (f : ℕ → ℕ) (low : ℕ) (xs : List ℕ) (queue : List Waiting) (y : ℕ) → RiseFrom f low xs → y < length queue → at (raised_at xs queue) y ≡ cond (stands y xs) (bump (at queue y)) (at queue y)
 at-raised f low [] queue y h l = refl
 at-raised f low (x ∷ xs) queue y h l =
     let next : List Waiting = set queue x (bump (at queue x)) in

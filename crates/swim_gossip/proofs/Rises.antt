@@ -50,3 +50,16 @@ rise-append f low over (x ∷ xs) ys l b h k =
 
 pub stands-parts : (k : ℕ) (xs : List ℕ) (z : ℕ) → stands z xs ≡ (stands z (take k xs) || stands z (drop k xs))
 stands-parts k xs z = ap (λ (ys : List ℕ). stands z ys) (sym (take-append-drop k xs)) ∙ list_any-append (λ y. y == z) (take k xs) (drop k xs)
+
+-- the first of them are below the others
+pub rise-parts : (f : ℕ → ℕ) (low k : ℕ) (xs : List ℕ) (y z : ℕ) → RiseFrom f low xs → stands y (take k xs) ≡ true → stands z (drop k xs) ≡ true → f y < f z
+rise-parts f low zero xs y z h s t = absurd (false≢true s)
+rise-parts f low (suc k) [] y z h s t = absurd (false≢true s)
+rise-parts f low (suc k) (x ∷ xs) y z h s t =
+    elim (or_cases (x == y) (stands y (take k xs)) s) [
+      | inl e ↦
+          let same : f x ≡ f y = ap f (eqb-true x y e) in
+          let up : suc (f x) ≤ f z = rise-above f (suc (f x)) xs z h.1 (stands-parts k xs z ∙ or_right (stands z (take k xs)) (stands z (drop k xs)) t) in
+          omega arith
+      | inr e ↦ rise-parts f (suc (f x)) k xs y z h.1 e t
+    ]

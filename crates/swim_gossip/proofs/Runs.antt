@@ -1,12 +1,12 @@
 -- The buckets, one after another, are what is sent in turn.
-use Rattle.std.proofs.Common.{◌≡◌, ◌≢◌, ℕ, ◌+◌, ◌*◌, ◌<◌, ◌≤◌, ◌==◌, ◌||◌, ◌&&◌, nat_lt, Bool, true, false, refl, sym, ◌∙◌, ap, inl, inr, List, [], ◌∷◌, ◌++◌, length, map, take, drop, zero, suc, arith, min}
+use Rattle.std.proofs.Common.{◌≡◌, ◌≢◌, ℕ, ◌+◌, ◌*◌, ◌<◌, ◌≤◌, ◌==◌, ◌||◌, ◌&&◌, nat_lt, Bool, true, false, refl, sym, ◌∙◌, ap, inl, inr, List, [], ◌∷◌, ◌++◌, length, map, take, drop, zero, suc, arith}
 use Rattle.std.proofs.lemmas.Bool.{cases_Bool, cases_lt, false≢true, eqb-true, eqb-false, eq-eqb, ne_eqb, ltb-true, ltb-false, lt-ltb, le-ltb, or_cases, or_left, and_parts, and_left, and_right}
-use Rattle.std.proofs.lemmas.List.{append-nil, append_assoc, map-append, take-append-le, take-map, take_min, length-append}
+use Rattle.std.proofs.lemmas.List.{append-nil, append_assoc, map-append, take-append-le, take-map}
 use Rattle.std.proofs.lemmas.List.Folds.{list_any-append}
 use Rattle.swim_wire.specs.declared.update.Update.{Update}
 use Rattle.swim_gossip.specs.declared.buffer.Waiting.{Waiting}
 use Rattle.swim_gossip.specs.Queue.{sent_times, in_turn, update_of, picked_updates}
-use Rattle.swim_gossip.specs.Buckets.{at, below, spots, runs, AreWithin}
+use Rattle.swim_gossip.specs.Buckets.{at, spots, runs, AreWithin}
 use Rattle.swim_gossip.proofs.Rises.{rank, stands, RiseFrom, rise-weaker, rise-append, stands-parts}
 
 -- what stands there
@@ -64,7 +64,7 @@ stands-spots_from c i (suc k) (w ∷ queue) =
 stands-spots : (c x : ℕ) (queue : List Waiting) → stands x (spots c 0 queue) ≡ (nat_lt x (length queue) && ((at queue x).count == c))
 stands-spots c x queue = ap (λ (y : ℕ). stands y (spots c 0 queue)) (let e : x ≡ 0 + x = omega arith in e) ∙ stands-spots_from c 0 x queue
 
-stands-runs : (n x : ℕ) (queue : List Waiting) → stands x (runs n queue) ≡ (nat_lt x (length queue) && nat_lt (at queue x).count n)
+pub stands-runs : (n x : ℕ) (queue : List Waiting) → stands x (runs n queue) ≡ (nat_lt x (length queue) && nat_lt (at queue x).count n)
 stands-runs zero x queue = sym (and_right (nat_lt x (length queue)) (nat_lt (at queue x).count 0) (le-ltb (at queue x).count 0 (omega arith)))
 stands-runs (suc n) x queue =
     list_any-append (λ y. y == x) (runs n queue) (spots n 0 queue)
@@ -175,36 +175,3 @@ low-runs limit room x queue s =
 
 pub low-spots : (c x : ℕ) (queue : List Waiting) → stands x (spots c 0 queue) ≡ true → x < length queue
 low-spots c x queue s = ltb-true x (length queue) (and_parts (nat_lt x (length queue)) ((at queue x).count == c) (sym (stands-spots c x queue) ∙ s)).0
-
-below-none : (queue : List Waiting) → below 0 queue ≡ 0
-below-none [] = refl
-below-none (w ∷ queue) = rw (le-ltb w.count 0 (omega arith)) (below-none queue)
-
-below-suc : (n i : ℕ) (queue : List Waiting) → below (suc n) queue ≡ below n queue + length (spots n i queue)
-below-suc n i [] = refl
-below-suc n i (w ∷ queue) =
-    let rest : below (suc n) queue ≡ below n queue + length (spots n (suc i) queue) = below-suc n (suc i) queue in
-    elim (cases_Bool (nat_lt w.count n)) [
-      | inl t ↦
-          let l : w.count < n = ltb-true w.count n t in
-          rw (t, lt-ltb w.count (suc n) (omega arith), ne_eqb w.count n (λ e. omega arith)) (omega arith)
-      | inr t ↦
-          let l : n ≤ w.count = ltb-false w.count n t in
-          elim (cases_Bool (w.count == n)) [
-            | inl e ↦ let same : w.count ≡ n = eqb-true w.count n e in rw (t, e, lt-ltb w.count (suc n) (omega arith)) (omega arith)
-            | inr e ↦ rw (t, e, le-ltb w.count (suc n) (let no : w.count ≢ n = eqb-false w.count n e in omega arith)) rest
-          ]
-    ]
-
-length-runs : (n : ℕ) (queue : List Waiting) → length (runs n queue) ≡ below n queue
-length-runs zero queue = sym (below-none queue)
-length-runs (suc n) queue =
-    let a : length (runs n queue ++ spots n 0 queue) ≡ length (runs n queue) + length (spots n 0 queue) = length-append (runs n queue) (spots n 0 queue) in
-    let b : length (runs n queue) ≡ below n queue = length-runs n queue in
-    let d : below (suc n) queue ≡ below n queue + length (spots n 0 queue) = below-suc n 0 queue in
-    omega arith
-
--- no more room than there are
-pub runs-room : (limit room m : ℕ) (queue : List Waiting) → m ≡ min room (below limit queue) → take m (runs limit queue) ≡ take room (runs limit queue)
-runs-room limit room m queue e =
-    ap (λ (k : ℕ). take k (runs limit queue)) (e ∙ ap (min room) (sym (length-runs limit queue))) ∙ take_min room (runs limit queue)

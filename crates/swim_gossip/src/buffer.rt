@@ -3,7 +3,7 @@
 ghost use Rattle.std.specs.Prelude.{◌≡◌, ℕ, ◌+◌, ◌<◌, ◌≤◌, List, [], ◌∷◌, ◌++◌, length, map};
 ghost use Rattle.swim_wire.specs.Filler.{filler};
 ghost use Rattle.swim_gossip.specs.Queue.{without, offered_queue, queue_place, picked_updates, raise_all, AreApart};
-ghost use Rattle.swim_gossip.specs.Buckets.{AreWithin};
+ghost use Rattle.swim_gossip.specs.Buckets.{AreWithin, NeverRise};
 ghost use Rattle.swim_wire.specs.declared.datagram.TheConstants.{UPDATES_MAX};
 
 use crate::buckets::pick_from;
@@ -39,13 +39,12 @@ impl Default for Waiting {
 pub const BUCKETS_MAX: u32 = 144;
 
 /// The updates that wait, at most one about each member and at most `WAITING_MAX`, in the order in
-/// which they began. A pick puts them into the buckets 0 to `most` by how often they were sent.
+/// which they began. What began earlier was sent as often or more often. So those that were sent
+/// equally often stand side by side: they are the buckets `most` to 0, in this order.
 #[derive(Drop)]
 pub struct Buffer {
     queue: ArrayVec<Waiting, WAITING_MAX>,
     most: u32,
-    /// For each place the next one of its bucket. Each pick links anew.
-    links: [u16; WAITING_MAX],
 }
 
 impl Model for Buffer {
@@ -116,23 +115,22 @@ fn pick_in(
     queue: &mut ArrayVec<Waiting, WAITING_MAX>,
     limit: u32,
     room: usize,
-    links: &mut [u16],
     updates: &mut ArrayVec<Update, UPDATES_MAX>,
     visits: &mut Visits,
 )
     requires room { room ≤ UPDATES_MAX }
-    requires links { length links.old ≡ WAITING_MAX }
     requires apart { AreApart queue.old.items }
     requires counts { AreWithin BUCKETS_MAX queue.old.items }
-    requires limit { limit ≤ BUCKETS_MAX }
+    requires falling { NeverRise queue.old.items }
     requires empty { updates.old.items ≡ [] }
     requires begun { visits.old ≡ 0 }
     ensures picked { updates.new.items ≡ picked_updates limit room queue.old.items }
     ensures counted { queue.new.items
         ≡ map (raise_all (picked_updates limit room queue.old.items)) queue.old.items }
-    ensures visits { visits.new ≤ 975 }
+    ensures falling { NeverRise queue.new.items }
+    ensures visits { visits.new ≤ 378 }
 {
-    pick_from(queue, limit, room, links, updates, visits);
+    pick_from(queue, limit, room, updates, visits);
 }
 
 impl Buffer {
@@ -145,17 +143,15 @@ impl Buffer {
     }
 
     /// A buffer with the buckets 0 to `most` in which these updates wait, as they did in another one.
+    /// None was sent more often than one that began before it.
     pub fn with_queue(queue: ArrayVec<Waiting, WAITING_MAX>, most: u32) -> Buffer
         requires apart { AreApart queue.items }
         requires within { AreWithin most queue.items }
+        requires falling { NeverRise queue.items }
         requires most { most ≤ BUCKETS_MAX }
         ensures { result ≡ record { queue = queue.items; most = most } }
     {
-        Buffer {
-            queue,
-            most,
-            links: [0; WAITING_MAX],
-        }
+        Buffer { queue, most }
     }
 
     /// The updates that wait, in the order in which they began.
@@ -170,6 +166,7 @@ impl Buffer {
         ensures len { result ≡ length self.now.queue }
         ensures bound { result ≤ WAITING_MAX }
         ensures kept { AreApart self.now.queue }
+        ensures falling { NeverRise self.now.queue }
     {
         self.queue.len()
     }
@@ -225,14 +222,7 @@ impl Buffer {
         ensures visits { visits.new ≤ 1000 }
     {
         let mut updates = ArrayVec::new();
-        pick_in(
-            &mut self.queue,
-            limit,
-            room,
-            &mut self.links,
-            &mut updates,
-            visits,
-        );
+        pick_in(&mut self.queue, limit, room, &mut updates, visits);
         updates
     }
 }

@@ -4,8 +4,7 @@ ghost use Rattle.std.specs.Prelude.{◌≡◌, ℕ, ◌+◌, ◌<◌};
 
 use std::marker::Model;
 
-/// How many looks a call took: each at a bucket's head, at an update or at a link. An update that
-/// moves is one more.
+/// How many looks a call took: each at an update that waits. An update that moves is one more.
 #[derive(Drop)]
 pub struct Visits {
     made: u32,

@@ -1,5 +1,5 @@
 -- What the tests of a state show, from which a member goes on.
-use Rattle.std.proofs.Common.{◌≡◌, ℕ, ◌+◌, ◌*◌, ◌==◌, ◌||◌, nat_le, nat_lt, Bool, true, false, cond, not, refl, sym, ◌∙◌, ap, List, [], ◌∷◌, length, Option, Some, None}
+use Rattle.std.proofs.Common.{◌≡◌, ℕ, ◌+◌, ◌*◌, ◌≤◌, ◌==◌, ◌||◌, nat_le, nat_lt, Bool, true, false, cond, not, refl, sym, ◌∙◌, ap, List, [], ◌∷◌, length, Option, Some, None}
 use Rattle.std.specs.List.{filter, list_all, list_any, AllByRecursion, IsDistinct}
 use Rattle.std.proofs.lemmas.Bool.{and_parts, or_parts, not-true, ltb-true, leb-true, eqb-true, false≢true}
 use Rattle.std.proofs.lemmas.Map.Keys.{IsDistinct-cons}
@@ -8,15 +8,16 @@ use Rattle.swim_rules.specs.declared.table.Row.{Row}
 use Rattle.swim_rules.specs.Rules.{is_about}
 use Rattle.swim_rules.specs.Rows.{AreAbove, AreInOrder, row_of}
 use Rattle.swim_gossip.specs.declared.buffer.Waiting.{Waiting}
-use Rattle.swim_gossip.specs.Buckets.{AreWithin}
+use Rattle.swim_gossip.specs.Buckets.{AreWithin, NeverRise}
 use Rattle.swim_gossip.specs.Queue.{AreApart, is_queued}
+use Rattle.swim_gossip.proofs.Raised.{within-more}
 use Rattle.swim_member.specs.declared.resume.ResumeFault.{ResumeFault}
 use Rattle.swim_member.specs.declared.state.Relay.{Relay}
 use Rattle.swim_member.specs.declared.tick.TheConstants.{LAST_TIME}
 use Rattle.swim_member.specs.Fit.{is_low, may_stand, may_wait}
 use Rattle.swim_member.specs.Machinery.Kept.{is_row, AllWait}
 use Rattle.swim_member.specs.Machinery.Steps.{is_live}
-use Rattle.swim_member.specs.Resuming.{are_apart, are_ascending, are_distinct, is_known, is_queue, is_told, is_within_sends, may_be_rows, resume_fault}
+use Rattle.swim_member.specs.Resuming.{are_apart, are_ascending, are_distinct, are_falling, is_known, is_queue, is_told, is_within_sends, may_be_rows, resume_fault}
 use Rattle.swim_member.specs.State.{State}
 
 -- each test of the state holds
@@ -30,6 +31,7 @@ pub record Passes (s : State) : Type 0 where
   pub relays : list_all (is_live s.time s.settings.period) s.relays ≡ true
   pub listed : are_distinct s.listed ≡ true
   pub place : nat_le s.place (length s.listed) ≡ true
+  pub falling : are_falling (s.settings.lambda * 9) s.queue ≡ true
 
 passed : (b : Bool) (fault : ResumeFault) (rest : Option ResumeFault) → cond (not b) (Some fault) rest ≡ None → (b ≡ true) × (rest ≡ None)
 passed true fault rest h = (refl, h)
@@ -46,7 +48,8 @@ passes s h =
     let relays = passed (list_all (is_live s.time s.settings.period) s.relays) _ _ sent.1 in
     let listed = passed (are_distinct s.listed) _ _ relays.1 in
     let place = passed (nat_le s.place (length s.listed)) _ _ listed.1 in
-    record { number = number.0; time = time.0; rows = rows.0; queue = queue.0; said = said.0; sent = sent.0; relays = relays.0; listed = listed.0; place = place.0 }
+    let falling = passed (are_falling (s.settings.lambda * 9) s.queue) _ _ place.1 in
+    record { number = number.0; time = time.0; rows = rows.0; queue = queue.0; said = said.0; sent = sent.0; relays = relays.0; listed = listed.0; place = place.0; falling = falling.0 }
 
 -- Rows
 
@@ -86,6 +89,19 @@ within-tested most [] h = tt {0}
 within-tested most (w ∷ queue) h =
     let parts : (nat_le w.count most ≡ true) × (list_all (is_within_sends most) queue ≡ true) = and_parts (nat_le w.count most) (list_all (is_within_sends most) queue) h in
     (leb-true w.count most parts.0, within-tested most queue parts.1)
+
+within-falling : (most : ℕ) (queue : List Waiting) → are_falling most queue ≡ true → AreWithin most queue
+within-falling most [] h = tt {0}
+within-falling most (w ∷ queue) h =
+    let parts : (nat_le w.count most ≡ true) × (are_falling w.count queue ≡ true) = and_parts (nat_le w.count most) (are_falling w.count queue) h in
+    let first : w.count ≤ most = leb-true w.count most parts.0 in
+    (first, within-more w.count most queue first (within-falling w.count queue parts.1))
+
+pub falling-tested : (most : ℕ) (queue : List Waiting) → are_falling most queue ≡ true → NeverRise queue
+falling-tested most [] h = tt {0}
+falling-tested most (w ∷ queue) h =
+    let parts : (nat_le w.count most ≡ true) × (are_falling w.count queue ≡ true) = and_parts (nat_le w.count most) (are_falling w.count queue) h in
+    (within-falling w.count queue parts.1, falling-tested w.count queue parts.1)
 
 any-row : (x : ℕ) (rows : List Row) → list_any (is_about x) rows ≡ is_row (row_of rows x)
 any-row x [] = refl

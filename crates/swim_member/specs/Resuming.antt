@@ -48,6 +48,11 @@ is_queue me rows queue =
 abbrev pub is_within_sends : ℕ → Waiting → Bool
 is_within_sends most w = nat_le w.count most
 
+-- the first was sent at most so often, and each at most as often as the one before it
+abbrev pub are_falling : ℕ → List Waiting → Bool
+are_falling most [] = true
+are_falling most (w ∷ queue) = nat_le w.count most && are_falling w.count queue
+
 -- nobody stands in the list twice
 abbrev pub are_distinct : List ℕ → Bool
 are_distinct [] = true
@@ -64,9 +69,10 @@ resume_fault s =
     else (if not (list_all (is_within_sends (s.settings.lambda * 9)) s.queue) then Some fault.Sent
     else (if not (list_all (is_live s.time s.settings.period) s.relays) then Some fault.Relays
     else (if not (are_distinct s.listed) then Some fault.Listed
-    else (if not (nat_le s.place (length s.listed)) then Some fault.Place else None))))))))
+    else (if not (nat_le s.place (length s.listed)) then Some fault.Place
+    else (if not (are_falling (s.settings.lambda * 9) s.queue) then Some fault.Order else None)))))))))
 
--- the number, the name and the text of each
+-- the number, the name and the text of each; 10 to 13 are numbers of other faults of a beginning
 abbrev pub resume_number : ResumeFault → ℕ
 resume_number fault.Number = 1
 resume_number fault.Time = 2
@@ -77,6 +83,7 @@ resume_number fault.Sent = 6
 resume_number fault.Relays = 7
 resume_number fault.Listed = 8
 resume_number fault.Place = 9
+resume_number fault.Order = 14
 
 abbrev pub resume_name : ResumeFault → List ℕ
 resume_name fault.Number = codes "Number"
@@ -88,6 +95,7 @@ resume_name fault.Sent = codes "Sent"
 resume_name fault.Relays = codes "Relays"
 resume_name fault.Listed = codes "Listed"
 resume_name fault.Place = codes "Place"
+resume_name fault.Order = codes "Order"
 
 abbrev pub resume_text : ResumeFault → List ℕ
 resume_text fault = number_and_name (resume_number fault) (resume_name fault)

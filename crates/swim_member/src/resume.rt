@@ -9,7 +9,7 @@ ghost use Rattle.swim_member.specs.Checks.{AreSound};
 ghost use Rattle.swim_member.specs.Events.{state_of};
 ghost use Rattle.swim_member.specs.Fit.{may_stand, may_wait};
 ghost use Rattle.swim_member.specs.Machinery.Steps.{is_live};
-ghost use Rattle.swim_member.specs.Resuming.{are_apart, are_ascending, are_distinct, is_known, is_queue, is_told, is_within_sends, may_be_rows, resume_fault};
+ghost use Rattle.swim_member.specs.Resuming.{are_apart, are_ascending, are_distinct, are_falling, is_known, is_queue, is_told, is_within_sends, may_be_rows, resume_fault};
 
 use crate::member::{Member, RELAYS_MAX};
 use crate::settings::Settings;
@@ -95,6 +95,8 @@ pub enum ResumeFault {
     Listed,
     /// More members were probed or passed over than the turn list has.
     Place,
+    /// An update was sent more often than one that began to wait before it.
+    Order,
 }
 
 impl ResumeFault {
@@ -115,6 +117,7 @@ impl ResumeFault {
             ResumeFault::Relays => 7,
             ResumeFault::Listed => 8,
             ResumeFault::Place => 9,
+            ResumeFault::Order => 14,
         }
     }
 
@@ -132,6 +135,7 @@ impl ResumeFault {
             ResumeFault::Relays => "Relays",
             ResumeFault::Listed => "Listed",
             ResumeFault::Place => "Place",
+            ResumeFault::Order => "Order",
         }
     }
 }
@@ -275,6 +279,20 @@ fn are_within_sends(queue: &[Waiting], most: u32) -> bool
     queue.iter().all(|waiting| waiting.count <= most)
 }
 
+/// Whether the first was sent at most so often, and each at most as often as the one before it.
+fn are_falling(queue: &[Waiting], most: u32) -> bool
+    ensures { result ≡ are_falling most queue.now }
+{
+    let mut last = most;
+    for waiting in queue {
+        if waiting.count > last {
+            return false;
+        }
+        last = waiting.count;
+    }
+    true
+}
+
 /// Whether each relay is less than a period old.
 fn are_live(relays: &[Relay], now: u64, period: u64) -> bool
     ensures { result ≡ list_all (is_live now period) relays.now }
@@ -340,6 +358,9 @@ impl MemberState {
         }
         if self.place > self.listed.len() {
             return Err(ResumeFault::Place);
+        }
+        if !are_falling(&self.queue, lambda * 9) {
+            return Err(ResumeFault::Order);
         }
         Ok(())
     }

@@ -50,7 +50,7 @@ or_state None s = option_map (λ f. fault.State f) (resume_fault s)
 abbrev pub begin_fault : Base → Option BeginFault
 begin_fault b = or_state (bounds_fault b.limit b.state.number b.granted b.past) b.state
 
--- the number, the name and the text of each; a fault of the state keeps its number, 1 to 9
+-- the number, the name and the text of each; a fault of the state keeps its number, 1 to 9 or 14
 abbrev pub begin_number : BeginFault → ℕ
 begin_number (fault.State f) = resume_number f
 begin_number fault.Limit = 10

@@ -54,7 +54,7 @@ impl Beginning {
 /// Why no era begins so: the first that holds, in the order Limit, Ceiling, Past, State. It prints its number and name.
 #[derive(Clone, Copy, Debug, PartialEq, Eq)]
 pub enum BeginFault {
-    /// No member goes on from the state: 1 to 9, as the fault says.
+    /// No member goes on from the state: 1 to 9 and 14, as the fault says.
     State(ResumeFault),
     /// The limit of an era is 0 or above `LIMIT_MAX`.
     Limit,

@@ -189,6 +189,11 @@ fn spoil(rt: &impl Abort, beginning: &mut Beginning, row: u32) {
             state.listed.push(endpoint(rt, 2));
         }
         12 => state.place = 257,
+        13 => {
+            holds(rt, !state.queue.is_empty());
+            let last = state.queue.len() - 1;
+            state.queue[last].count = 2;
+        }
         _ => {}
     }
 }
@@ -210,6 +215,7 @@ fn refused_beginnings(rt: HostRuntime) {
         (10, Err(BeginFault::State(ResumeFault::Relays))),
         (11, Err(BeginFault::State(ResumeFault::Listed))),
         (12, Err(BeginFault::State(ResumeFault::Place))),
+        (13, Err(BeginFault::State(ResumeFault::Order))),
     ] {
         let (mut node, _) = opened(&rt, rt.alloc(), 32);
         let mut link = MemoryLink::new(rt.alloc(), 1);

@@ -2,7 +2,8 @@ use Rattle.std.proofs.Common.{◌<◌, ℕ, List, length, map, sym, subst, ◌�
 use Rattle.std.specs.List.{All}
 use Rattle.swim_wire.specs.declared.update.Update.{Update}
 use Rattle.swim_gossip.specs.Queue.{raise_all}
-use Rattle.swim_gossip.specs.Buckets.{at, raised_at}
+use Rattle.swim_gossip.specs.Buckets.{at, raised_at, NeverRise}
+use Rattle.swim_gossip.proofs.Falling.{falling-raised}
 use Rattle.swim_gossip.proofs.Runs.{picked-runs}
 use Rattle.swim_gossip.proofs.Raised.{low-all, raised-runs}
 use Rattle.swim_gossip.proofs.buckets.pick_from.Goals as goal
@@ -23,3 +24,8 @@ returns-clause-counted c =
     ∙ ap (λ (xs : List ℕ). raised_at xs c.args.queue.now) (c.deref.ensures.0 ∙ c.next_places-places.ensures.places)
     ∙ raised-runs c.args.limit c.args.room c.args.queue.now c.requires.few c.requires.apart
     ∙ ap (λ (us : List Update). map (raise_all us) c.args.queue.now) (picked-runs c.args.limit c.args.room c.args.queue.now)
+
+pub returns-clause-falling : goal.returns-clause-falling
+returns-clause-falling c =
+    subst NeverRise (sym (c.send_at.ensures.queue ∙ ap (λ (xs : List ℕ). raised_at xs c.args.queue.now) (c.deref.ensures.0 ∙ c.next_places-places.ensures.places)))
+    (falling-raised c.args.limit c.args.room c.args.queue.now c.requires.few c.requires.falling)

@@ -5,7 +5,7 @@ use Rattle.swim_member.specs.Checks.{AreSound}
 use Rattle.swim_member.specs.Resuming.{resume_fault}
 use Rattle.swim_member.specs.State.{State}
 use Rattle.swim_member.proofs.Bases.{base-itself}
-use Rattle.swim_member.proofs.Resuming.{Passes, passes, order-rows, stand-rows, lacks-stand, wait-tested, within-tested, live-tested, distinct-tested}
+use Rattle.swim_member.proofs.Resuming.{Passes, passes, order-rows, stand-rows, lacks-stand, wait-tested, within-tested, falling-tested, live-tested, distinct-tested}
 use Rattle.swim_member.proofs.member.Member.resume.Goals as goal
 
 -- each test of the state was passed
@@ -24,6 +24,9 @@ with_queue-requires-clause-apart c = (wait-tested c.state.inside.settings.me c.s
 
 pub with_queue-requires-clause-within : goal.with_queue-requires-clause-within
 with_queue-requires-clause-within c = within-tested _ c.state.inside.queue.items (tested (the_view c.state.inside) c.args.state c.state.view_is c.in_ok-check.ensures.ok).sent
+
+pub with_queue-requires-clause-falling : goal.with_queue-requires-clause-falling
+with_queue-requires-clause-falling c = falling-tested _ c.state.inside.queue.items (tested (the_view c.state.inside) c.args.state c.state.view_is c.in_ok-check.ensures.ok).falling
 
 pub with_list-requires : goal.with_list-requires
 with_list-requires c = record {
