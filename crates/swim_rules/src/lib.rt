@@ -13,6 +13,7 @@
 mod laws;
 mod overriding;
 mod table;
+mod tally;
 
 pub use laws::{order_is_of_no_matter, rows_are_tops};
 pub use overriding::overrides;

@@ -7,8 +7,10 @@ ghost use Rattle.std.specs.Option.{option_map, option_copied};
 ghost use Rattle.swim_rules.specs.Rules.{Told, row, rows};
 ghost use Rattle.swim_rules.specs.Rows.{AreInOrder, row_of, answer_to, hear_rows, told_with, is_due, is_eligible, is_of_kind, due_confirm, hear_option, due_to_forget, remove_option, remove_row, confirm_of, is_after, told_option, untold_option, IsTable, LacksRow};
 ghost use Rattle.swim_rules.specs.Machinery.Places.{IsRowAt, IsGapAt, row_place, is_there};
+ghost use Rattle.swim_rules.specs.Machinery.Tallies.{AreTallies};
 
 use crate::overriding::overrides;
+use crate::tally::Tallies;
 use arrayvec::ArrayVec;
 use std::marker::Model;
 use swim_wire::{Cursor, Endpoint, MEMBERS_MAX, Rules, Update, UpdateKind};
@@ -40,11 +42,18 @@ impl Row {
         self.update.kind != UpdateKind::Confirm
     }
 
+    /// Whether the row is of this kind.
+    pub(crate) fn is_of_kind(&self, kind: UpdateKind) -> bool
+        ensures { result ≡ is_of_kind kind self.now }
+    {
+        self.update.kind == kind
+    }
+
     /// Whether the row is of this kind and has stood for so many ticks.
-    fn is_due(&self, kind: UpdateKind, ticks: u64, now: u64) -> bool
+    pub(crate) fn is_due(&self, kind: UpdateKind, ticks: u64, now: u64) -> bool
         ensures { result ≡ is_due kind ticks now self.now }
     {
-        self.update.kind == kind && ticks <= now.saturating_sub(self.since)
+        self.is_of_kind(kind) && ticks <= now.saturating_sub(self.since)
     }
 
     /// The Confirm that a Suspect becomes.
@@ -92,14 +101,12 @@ pub struct Table {
     /// By which rules an update overrides another.
     rules: Rules,
     rows: ArrayVec<Row, ROWS_MAX>,
-    /// How many rows are Alive or Suspect.
-    eligible: usize,
+    tallies: Tallies,
 }
 
 impl Model for Table {
-    ghost use Rattle.std.specs.Prelude.{◌≡◌, length};
-    ghost use Rattle.std.specs.List.{filter};
-    ghost use Rattle.swim_rules.specs.Rows.{Members, AreInOrder, LacksRow, is_eligible};
+    ghost use Rattle.swim_rules.specs.Rows.{Members, AreInOrder, LacksRow};
+    ghost use Rattle.swim_rules.specs.Machinery.Tallies.{AreTallies};
 
     ghost Value = { Members };
 
@@ -113,7 +120,7 @@ impl Model for Table {
 
     ghost invariant = { λ t. AreInOrder t.rows.items
         × LacksRow t.me t.rows.items
-        × (t.eligible ≡ length (filter is_eligible t.rows.items)) };
+        × AreTallies t.tallies t.rows.items };
 }
 
 /// How many rows stand before `who`.
@@ -158,18 +165,6 @@ fn row_in(rows: &[Row], who: Endpoint) -> Option<Row>
     }
 }
 
-/// The first row of this kind that has stood for so many ticks.
-fn first_due(rows: &[Row], kind: UpdateKind, ticks: u64, now: u64) -> Option<Row>
-    ensures { result ≡ find (is_due kind ticks now) rows.now }
-{
-    for row in rows {
-        if row.is_due(kind, ticks, now) {
-            return Some(*row);
-        }
-    }
-    None
-}
-
 /// Puts a row in the place of another.
 fn put(rows: &mut ArrayVec<Row, ROWS_MAX>, place: usize, row: Row)
     requires { place < length rows.old.items }
@@ -179,44 +174,43 @@ fn put(rows: &mut ArrayVec<Row, ROWS_MAX>, place: usize, row: Row)
 }
 
 /// Puts a row in the place of another, and counts both.
-fn replace(rows: &mut ArrayVec<Row, ROWS_MAX>, eligible: &mut usize, place: usize, row: Row)
+fn replace(rows: &mut ArrayVec<Row, ROWS_MAX>, tallies: &mut Tallies, place: usize, row: Row)
     requires place { place < length rows.old.items }
-    requires counted { eligible.old ≡ length (filter is_eligible rows.old.items) }
+    requires counted { AreTallies tallies.old rows.old.items }
     ensures rows { rows.new.items ≡ slice_set rows.old.items place row }
-    ensures counted { eligible.new ≡ length (filter is_eligible rows.new.items) }
+    ensures counted { AreTallies tallies.new rows.new.items }
 {
     let old = rows[place];
     put(rows, place, row);
-    *eligible += usize::from(row.is_eligible());
-    *eligible -= usize::from(old.is_eligible());
+    tallies.remove(&old);
+    tallies.add(&row);
 }
 
-/// Puts a row that is Alive or Suspect before the one at this place.
-fn insert(rows: &mut ArrayVec<Row, ROWS_MAX>, eligible: &mut usize, place: usize, row: Row)
+/// Puts a row before the one at this place.
+fn insert(rows: &mut ArrayVec<Row, ROWS_MAX>, tallies: &mut Tallies, place: usize, row: Row)
     requires place { place ≤ length rows.old.items }
     requires room { length rows.old.items < ROWS_MAX }
-    requires new { is_eligible row ≡ true }
-    requires counted { eligible.old ≡ length (filter is_eligible rows.old.items) }
+    requires counted { AreTallies tallies.old rows.old.items }
     ensures rows { rows.new.items ≡ insert rows.old.items place row }
-    ensures counted { eligible.new ≡ length (filter is_eligible rows.new.items) }
+    ensures counted { AreTallies tallies.new rows.new.items }
 {
     rows.insert(place, row);
-    *eligible += 1;
+    tallies.add(&row);
 }
 
 /// Hears an update about the member of one of these rows, or about a new one, by these rules.
 fn hear_in(
     rows: &mut ArrayVec<Row, ROWS_MAX>,
-    eligible: &mut usize,
+    tallies: &mut Tallies,
     update: Update,
     now: u64,
     rules: Rules,
 ) -> Heard
     requires order { AreInOrder rows.old.items }
-    requires counted { eligible.old ≡ length (filter is_eligible rows.old.items) }
+    requires counted { AreTallies tallies.old rows.old.items }
     ensures answer { result ≡ answer_to rules rows.old.items update }
     ensures rows { rows.new.items ≡ hear_rows rules rows.old.items update now }
-    ensures counted { eligible.new ≡ length (filter is_eligible rows.new.items) }
+    ensures counted { AreTallies tallies.new rows.new.items }
     ensures most { length rows.new.items ≤ ROWS_MAX }
 {
     let row = Row { update, since: now };
@@ -225,7 +219,7 @@ fn hear_in(
             if !overrides(&update, &rows[place].update, rules) {
                 return Heard::Kept;
             }
-            replace(rows, eligible, place, row);
+            replace(rows, tallies, place, row);
             Heard::Accepted
         }
         Err(place) => {
@@ -235,36 +229,34 @@ fn hear_in(
             if rows.is_full() {
                 return Heard::Full;
             }
-            insert(rows, eligible, place, row);
+            insert(rows, tallies, place, row);
             Heard::Accepted
         }
     }
 }
 
 /// Removes the row at this place.
-fn remove(rows: &mut ArrayVec<Row, ROWS_MAX>, eligible: &mut usize, place: usize)
+fn remove(rows: &mut ArrayVec<Row, ROWS_MAX>, tallies: &mut Tallies, place: usize)
     requires place { place < length rows.old.items }
-    requires counted { eligible.old ≡ length (filter is_eligible rows.old.items) }
+    requires counted { AreTallies tallies.old rows.old.items }
     ensures rows { rows.new.items ≡ remove rows.old.items place }
-    ensures counted { eligible.new ≡ length (filter is_eligible rows.new.items) }
+    ensures counted { AreTallies tallies.new rows.new.items }
     ensures one_less { length rows.new.items + 1 ≡ length rows.old.items }
 {
     let row = rows.remove(place);
-    if row.is_eligible() {
-        *eligible -= 1;
-    }
+    tallies.remove(&row);
 }
 
 /// Removes the row of a member, if there is one.
-fn remove_in(rows: &mut ArrayVec<Row, ROWS_MAX>, eligible: &mut usize, who: Endpoint)
+fn remove_in(rows: &mut ArrayVec<Row, ROWS_MAX>, tallies: &mut Tallies, who: Endpoint)
     requires order { AreInOrder rows.old.items }
-    requires counted { eligible.old ≡ length (filter is_eligible rows.old.items) }
+    requires counted { AreTallies tallies.old rows.old.items }
     ensures rows { rows.new.items ≡ remove_row rows.old.items who }
-    ensures counted { eligible.new ≡ length (filter is_eligible rows.new.items) }
+    ensures counted { AreTallies tallies.new rows.new.items }
     ensures most { length rows.new.items ≤ ROWS_MAX }
 {
     if let Ok(place) = find_row(rows, who) {
-        remove(rows, eligible, place);
+        remove(rows, tallies, place);
     }
 }
 
@@ -298,13 +290,6 @@ fn nth_eligible(rows: &[Row], number: usize) -> Option<Row>
         }
     }
     None
-}
-
-/// How many of these rows are Alive or Suspect.
-fn count_eligible(rows: &[Row]) -> usize
-    ensures { result ≡ length (filter is_eligible rows.now) }
-{
-    rows.iter().filter(|row| row.is_eligible()).count()
 }
 
 impl Table {
@@ -341,14 +326,14 @@ impl Table {
           rows = rows.items;
         } }
     {
-        let eligible = count_eligible(&rows);
+        let tallies = Tallies::of(&rows);
         Table {
             me,
             suspect,
             forget,
             rules,
             rows,
-            eligible,
+            tallies,
         }
     }
 
@@ -364,7 +349,7 @@ impl Table {
             → rows self.old.rules base told ≡ self.old.rows
             → rows self.old.rules base (told_with result told update now) ≡ self.new.rows }
     {
-        hear_in(&mut self.rows, &mut self.eligible, update, now, self.rules)
+        hear_in(&mut self.rows, &mut self.tallies, update, now, self.rules)
     }
 
     /// Turns the first Suspect that is due at the tick `now`, in the order of the members, into a
@@ -379,19 +364,16 @@ impl Table {
             → rows self.old.rules base told ≡ self.old.rows
             → rows self.old.rules base (told_option told result now) ≡ self.new.rows }
     {
-        match first_due(&self.rows, UpdateKind::Suspect, self.suspect, now) {
-            None => None,
-            Some(row) => {
-                hear_in(
-                    &mut self.rows,
-                    &mut self.eligible,
-                    row.confirm(),
-                    now,
-                    self.rules,
-                );
-                Some(row.confirm())
-            }
-        }
+        let suspects = &mut self.tallies.suspects;
+        let row = suspects.first_due(&self.rows, UpdateKind::Suspect, self.suspect, now)?;
+        hear_in(
+            &mut self.rows,
+            &mut self.tallies,
+            row.confirm(),
+            now,
+            self.rules,
+        );
+        Some(row.confirm())
     }
 
     /// Forgets the first member whose Confirm is due at the tick `now`, in the order of the members,
@@ -405,14 +387,11 @@ impl Table {
             → rows self.old.rules base told ≡ self.old.rows
             → rows self.old.rules base (untold_option told result) ≡ self.new.rows }
     {
-        match first_due(&self.rows, UpdateKind::Confirm, self.forget, now) {
-            None => None,
-            Some(row) => {
-                let who = row.who();
-                remove_in(&mut self.rows, &mut self.eligible, who);
-                Some(who)
-            }
-        }
+        let confirms = &mut self.tallies.confirms;
+        let row = confirms.first_due(&self.rows, UpdateKind::Confirm, self.forget, now)?;
+        let who = row.who();
+        remove_in(&mut self.rows, &mut self.tallies, who);
+        Some(who)
     }
 
     /// The row of a member, or none.
@@ -440,10 +419,14 @@ impl Table {
         ensures count { result ≡ length (filter (is_of_kind kind) self.now.rows) }
         ensures bound { result ≤ ROWS_MAX }
     {
-        self.rows
-            .iter()
-            .filter(|row| row.update.kind == kind)
-            .count()
+        // no more than there are rows
+        let _ = self.rows.len();
+        let suspects = self.tallies.suspects.count;
+        match kind {
+            UpdateKind::Alive => self.count() - suspects,
+            UpdateKind::Suspect => suspects,
+            UpdateKind::Confirm => self.tallies.confirms.count,
+        }
     }
 
     /// The first row after a cursor, in the order of the members, or none.
@@ -458,9 +441,7 @@ impl Table {
         ensures count { result ≡ length (filter is_eligible self.now.rows) }
         ensures bound { result ≤ ROWS_MAX }
     {
-        // no more than there are rows
-        let _ = self.rows.len();
-        self.eligible
+        self.rows.len() - self.tallies.confirms.count
     }
 
     /// The row with this number, from 0, among those that are Alive or Suspect, in the order of the
