@@ -1,5 +1,6 @@
 //! `swim ctl`.
 
+use crate::place::Place;
 use std::io::{self, ErrorKind, Read, Write};
 use std::net::{Net, TcpStream};
 use std::rt::Clock;
@@ -7,7 +8,7 @@ use std::time::{Duration, Instant};
 use swim_ending::Ending;
 use swim_net::address_of;
 use swim_wire::Endpoint;
-use swim_words::{read_endpoint, read_number, split_at_byte};
+use swim_words::{read_number, split_at_byte};
 
 /// How many milliseconds the whole exchange may take.
 const LIMIT_MILLIS: u64 = 5000;
@@ -101,13 +102,12 @@ pub(crate) fn exchange<R: Net<Stream = TcpStream> + Clock + AllocGlobal>(
     talk(rt, to, line).map_err(|error| Ending::of(&error, Ending::Socket))
 }
 
-/// Sends one control line as it is, with its end, and gives the whole answer. The address is a word not yet judged. It
-/// takes at most 5 seconds.
+/// Sends one control line as it is, with its end, and gives the whole answer. The address is an endpoint, or a host name
+/// and a port, not yet judged. The exchange takes at most 5 seconds.
 pub fn ask<R: Net<Stream = TcpStream> + Clock + AllocGlobal>(
     rt: &R,
     to: &str,
     line: &str,
 ) -> Result<Vec<u8>, Ending> {
-    let to = read_endpoint(to.as_bytes()).ok_or(Ending::Address)?;
-    exchange(rt, to, line)
+    exchange(rt, Place::read(to)?.find(rt)?, line)
 }

@@ -2,13 +2,13 @@
 
 use crate::asking::exchange;
 use crate::paging::read_rows;
+use crate::place::Place;
 use crate::status::read_status;
 use std::net::{Net, TcpStream};
 use std::rt::Clock;
 use swim_ending::Ending;
 use swim_news::Rows;
 use swim_node::Status;
-use swim_wire::Endpoint;
 
 /// What a member said of itself and of all members.
 #[derive(Drop)]
@@ -23,8 +23,9 @@ pub struct Shown {
 /// answer, or not so.
 pub fn look<R: Net<Stream = TcpStream> + Clock + AllocGlobal>(
     rt: &R,
-    to: Endpoint,
+    place: Place<'_>,
 ) -> Result<Shown, Ending> {
+    let to = place.find(rt)?;
     let answer = exchange(rt, to, "status")?;
     let status = read_status(answer.as_slice()).ok_or(Ending::Answer)?;
     let rows = read_rows(rt, to)?;

@@ -3,6 +3,7 @@
 use crate::gap::{Gap, GapJson};
 use crate::paging::read_rows;
 use crate::paint::{Paint, PaintedChange, PaintedKind};
+use crate::place::Place;
 use crate::timed::{Timed, TimedJson};
 use arrayvec::ArrayString;
 use std::fmt::{self, Display, Write as _};
@@ -13,8 +14,7 @@ use std::thread;
 use std::time::Duration;
 use swim_ending::Ending;
 use swim_news::{Change, ChangeJson, Changes, RowJson, Rows, compare};
-use swim_wire::{Endpoint, Update};
-use swim_words::read_endpoint;
+use swim_wire::Update;
 
 /// How long `swim members` waits until it asks a member again whose era was full, in milliseconds, and how often.
 const AGAIN_MILLIS: u64 = 100;
@@ -63,7 +63,7 @@ pub fn show_members<R: Net<Stream = TcpStream> + Clock + AllocGlobal + Print>(
     as_json: bool,
     paint: Paint,
 ) -> Result<(), Ending> {
-    let to = read_endpoint(to.as_bytes()).ok_or(Ending::Address)?;
+    let to = Place::read(to)?.find(rt)?;
     for _ in 0..AGAIN_MAX {
         if let Some(rows) = read_rows(rt, to)? {
             return if as_json {
@@ -103,6 +103,14 @@ pub struct Watched<'a> {
     pub paint: Paint,
 }
 
+/// The rows of the member that is at a place now.
+fn rows_at<R: Net<Stream = TcpStream> + Clock + AllocGlobal>(
+    rt: &R,
+    place: Place<'_>,
+) -> Result<Option<Rows>, Ending> {
+    read_rows(rt, place.find(rt)?)
+}
+
 impl Watched<'_> {
     /// Tells something with the time: as this line, or as this part of a JSON object.
     fn tell<R: Print + Clock, L: Display + Copy, J: Display + Copy>(
@@ -132,11 +140,11 @@ impl Watched<'_> {
     fn rows_now<R: Net<Stream = TcpStream> + Clock + AllocGlobal + Print>(
         &self,
         rt: &R,
-        to: Endpoint,
+        place: Place<'_>,
         is_lost: &mut bool,
     ) -> Result<Option<Rows>, Ending> {
-        let read = read_rows(rt, to);
-        let answers = !matches!(read, Err(Ending::Socket | Ending::Answer));
+        let read = rows_at(rt, place);
+        let answers = !matches!(read, Err(Ending::Host | Ending::Socket | Ending::Answer));
         if !answers && self.once {
             return read;
         }
@@ -155,11 +163,11 @@ pub fn watch_members<R: Net<Stream = TcpStream> + Clock + AllocGlobal + Print, T
     wait: &T,
     watched: &Watched<'_>,
 ) -> Result<(), Ending> {
-    let to: Endpoint = read_endpoint(watched.to.as_bytes()).ok_or(Ending::Address)?;
+    let place = Place::read(watched.to)?;
     let mut before = Rows::new();
     let mut is_lost = false;
     for _ in wait.forever() {
-        if let Some(rows) = watched.rows_now(rt, to, &mut is_lost)? {
+        if let Some(rows) = watched.rows_now(rt, place, &mut is_lost)? {
             watched.tell_news(rt, &before, &rows)?;
             before = rows;
         }

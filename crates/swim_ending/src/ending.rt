@@ -33,6 +33,9 @@ pub enum Ending {
     /// A socket was not bound or connected, or a connection ended before the whole answer.
     #[error("socket refused")]
     Socket,
+    /// No IPv4 address was found of a host.
+    #[error("host refused")]
+    Host,
     /// A member did not answer with its rows.
     #[error("answer refused")]
     Answer,

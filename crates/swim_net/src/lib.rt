@@ -10,5 +10,5 @@ mod waits;
 
 pub use connection::{ConnectionReader, ConnectionWriter};
 pub use doors::TcpDoors;
-pub use udp::{UdpInbound, UdpLink, address_of, bind_datagrams, take};
+pub use udp::{UdpInbound, UdpLink, address_of, bind_datagrams, endpoint_of, take};
 pub use waits::{SocketAlarm, Waits};

@@ -31,7 +31,7 @@ pub fn address_of(endpoint: Endpoint) -> SocketAddr
 }
 
 /// The endpoint that a socket address is; none for IPv6 and for port 0.
-fn endpoint_of(from: SocketAddr) -> Option<Endpoint>
+pub fn endpoint_of(from: SocketAddr) -> Option<Endpoint>
     ensures { IsEndpointAt from result }
 {
     match from {

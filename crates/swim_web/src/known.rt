@@ -4,10 +4,9 @@ use std::net::{Net, TcpStream};
 use std::sync::{Mutex, Wait, WaitMethods};
 use std::thread;
 use std::time::{Clock, Duration, Instant};
-use swim_ask::{Shown, look};
+use swim_ask::{Place, Shown, look};
 use swim_news::Rows;
 use swim_pages::Seen;
-use swim_wire::Endpoint;
 
 /// How long the member is left alone after it was asked, in milliseconds.
 const EVERY_MILLIS: u64 = 1000;
@@ -96,11 +95,11 @@ impl Known {
 pub(crate) fn follow<R: Net<Stream = TcpStream> + Clock + AllocGlobal, T: Wait>(
     rt: &R,
     wait: &T,
-    to: Endpoint,
+    place: Place<'_>,
     known: &Mutex<Known>,
 ) {
     for _ in wait.forever() {
-        let look = look(rt, to).ok();
+        let look = look(rt, place).ok();
         known.lock(wait).take(rt, look);
         thread::sleep(rt, Duration::from_millis(EVERY_MILLIS));
     }

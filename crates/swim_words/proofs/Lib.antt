@@ -1,3 +1,4 @@
 pub mod Digits
 pub mod Endpoints
+pub mod Naming
 pub mod Splits
