@@ -1,10 +1,13 @@
--- Where an update stands, and the list without it.
-use Rattle.std.proofs.Common.{◌≡◌, ◌≢◌, ℕ, ◌+◌, ◌<◌, ◌≤◌, ◌==◌, Bool, true, false, not, cond, refl, sym, ◌∙◌, ap, List, [], ◌∷◌, length, drop, suc, zero, get_or, inl, inr, arith}
-use Rattle.std.specs.List.{remove}
-use Rattle.std.proofs.lemmas.Bool.{cases_Bool, cases_lt, false≢true, eqb-true, eq-eqb, ne_eqb, or_parts, or_right}
-use Rattle.std.proofs.lemmas.List.{drop_more}
+-- Where an update stands, and the slots with a gap in its place.
+use Rattle.std.proofs.Common.{◌≡◌, ℕ, ◌+◌, ◌<◌, ◌≤◌, ◌==◌, true, false, refl, sym, ◌∙◌, ap, List, [], ◌∷◌, ◌++◌, length, drop, suc, zero, set, inl, inr, arith}
+use Rattle.std.specs.List.{filter, refill}
+use Rattle.std.proofs.lemmas.Bool.{cases_Bool, false≢true, eq-eqb, ne_eqb, or_parts, or_right}
+use Rattle.std.proofs.lemmas.List.{drop_more, take-append-le, take_all}
+use Rattle.swim_wire.specs.Filler.{filler}
 use Rattle.swim_gossip.specs.declared.buffer.Waiting.{Waiting}
-use Rattle.swim_gossip.specs.Queue.{without, queue_place, is_queued, AreApart}
+use Rattle.swim_gossip.specs.declared.slots.Slot.{Slot}
+use Rattle.swim_gossip.specs.Queue.{without, is_queued, AreApart}
+use Rattle.swim_gossip.specs.Buckets.{at, is_about, wait_of, waiting}
 
 -- nothing is taken out where nothing is about x
 without-absent : (x : ℕ) (queue : List Waiting) → is_queued x queue ≡ false → without x queue ≡ queue
@@ -13,65 +16,100 @@ without-absent x (w ∷ queue) h =
     let parts : ((w.update.who == x) ≡ false) × (is_queued x queue ≡ false) = or_parts (w.update.who == x) (is_queued x queue) h in
     rw parts.0 (ap (λ rest. w ∷ rest) (without-absent x queue parts.1))
 
--- the update about x is removed at its place
-pub remove-place : (x : ℕ) (queue : List Waiting) → AreApart queue → queue_place x queue < length queue → remove queue (queue_place x queue) ≡ without x queue
-remove-place x [] h k = absurd (omega arith)
-remove-place x (w ∷ queue) h k = at (w.update.who == x) refl k (λ l. remove-place x queue h.1 l)
-  where
-    at : (b : Bool) → (w.update.who == x) ≡ b → cond b 0 (suc (queue_place x queue)) < length (w ∷ queue) → (queue_place x queue < length queue → remove queue (queue_place x queue) ≡ without x queue) → remove (w ∷ queue) (cond b 0 (suc (queue_place x queue))) ≡ cond (not b) (w ∷ without x queue) (without x queue)
-    at true e k f = sym (without-absent x queue (ap (λ y. is_queued y queue) (sym (eqb-true w.update.who x e)) ∙ h.0))
-    at false e k f = ap (λ rest. w ∷ rest) (f (omega arith))
+pub without-none : (x : ℕ) (slots : List Slot) → is_queued x (waiting slots) ≡ false → waiting slots ≡ without x (waiting slots)
+without-none x slots h = sym (without-absent x (waiting slots) h)
 
-pub without-place : (x : ℕ) (queue : List Waiting) → length queue ≤ queue_place x queue → queue ≡ without x queue
-without-place x [] h = refl
-without-place x (w ∷ queue) h = at (w.update.who == x) h (λ l. without-place x queue l)
-  where
-    at : (b : Bool) → length (w ∷ queue) ≤ cond b 0 (suc (queue_place x queue)) → (length queue ≤ queue_place x queue → queue ≡ without x queue) → w ∷ queue ≡ cond (not b) (w ∷ without x queue) (without x queue)
-    at true k f = absurd (omega arith)
-    at false k f = ap (λ rest. w ∷ rest) (f (omega arith))
-
-queued-at : (x : ℕ) (queue : List Waiting) (i : ℕ) (d : Waiting) → i < length queue → (get_or queue i d).update.who ≡ x → is_queued x queue ≡ true
-queued-at x [] i d h k = absurd (omega arith)
-queued-at x (w ∷ queue) zero d h k = rw (eq-eqb w.update.who x k) refl
-queued-at x (w ∷ queue) (suc i) d h k = or_right (w.update.who == x) (is_queued x queue) (queued-at x queue i d (omega arith) k)
-
--- of those that are apart one alone is about x
-pub place-at : (x : ℕ) (queue : List Waiting) (i : ℕ) (d : Waiting) → AreApart queue → i < length queue → (get_or queue i d).update.who ≡ x → i ≡ queue_place x queue
-place-at x [] i d h l k = absurd (omega arith)
-place-at x (w ∷ queue) zero d h l k = rw (eq-eqb w.update.who x k) refl
-place-at x (w ∷ queue) (suc i) d h l k =
-    let other : (w.update.who == x) ≡ false = ne_eqb w.update.who x (λ e. false≢true (sym h.0 ∙ ap (λ y. is_queued y queue) e ∙ queued-at x queue i d (omega arith) k)) in
-    rw other (ap suc (place-at x queue i d h.1 (omega arith) k))
-
--- one more that is not about x
-pub place-more : (x : ℕ) (queue : List Waiting) (i : ℕ) (d : Waiting) → i < length queue → ((get_or queue i d).update.who == x) ≡ false → i + queue_place x (drop i queue) ≡ i + 1 + queue_place x (drop (i + 1) queue)
-place-more x queue i d l n =
-    let e : queue_place x (drop i queue) ≡ suc (queue_place x (drop (i + 1) queue)) = ap (queue_place x) (drop_more queue i d l) ∙ rw n refl in
-    omega arith
-
-about-place : (x : ℕ) (queue : List Waiting) (d : Waiting) → queue_place x queue < length queue → (get_or queue (queue_place x queue) d).update.who ≡ x
-about-place x [] d l = absurd (omega arith)
-about-place x (w ∷ queue) d l =
-    elim (cases_Bool (w.update.who == x)) [
-      | inl t ↦ rw t (eqb-true w.update.who x t)
-      | inr n ↦ let m : suc (queue_place x queue) < length (w ∷ queue) = rw n at l in rw n (about-place x queue d (omega arith))
+queued-at : (slots : List Slot) (i x : ℕ) → (at slots i).waits ≡ true → (at slots i).update.who ≡ x → is_queued x (waiting slots) ≡ true
+queued-at [] i x l k = absurd (false≢true l)
+queued-at (s ∷ slots) zero x l k = rw (l, eq-eqb s.update.who x k) refl
+queued-at (s ∷ slots) (suc i) x l k =
+    elim (cases_Bool s.waits) [
+      | inl w ↦ rw w (or_right (s.update.who == x) (is_queued x (waiting slots)) (queued-at slots i x l k))
+      | inr w ↦ rw w (queued-at slots i x l k)
     ]
 
-place-most : (x : ℕ) (queue : List Waiting) → queue_place x queue ≤ length queue
-place-most x [] = omega arith
-place-most x (w ∷ queue) =
-    elim (cases_Bool (w.update.who == x)) [
-      | inl t ↦ rw t (omega arith)
-      | inr n ↦ let e : queue_place x queue ≤ length queue = place-most x queue in rw n (omega arith)
+apart-tail : (s : Slot) (slots : List Slot) → AreApart (waiting (s ∷ slots)) → AreApart (waiting slots)
+apart-tail s slots h =
+    elim (cases_Bool s.waits) [
+      | inl w ↦ let parts : (is_queued s.update.who (waiting slots) ≡ false) × AreApart (waiting slots) = rw w at h in parts.1
+      | inr w ↦ let rest : AreApart (waiting slots) = rw w at h in rest
     ]
 
--- where none of the first and none of the last is about x, and these are all
-pub place-absent : (x : ℕ) (queue : List Waiting) (i : ℕ) (d : Waiting) → length queue ≤ i + i → queue_place x queue ≡ i + queue_place x (drop i queue) → ((k : ℕ) → k < length queue → length queue ≤ k + i → (get_or queue k d).update.who ≢ x) → length queue ≡ queue_place x queue
-place-absent x queue i d l e h =
-    let most : queue_place x queue ≤ length queue = place-most x queue in
-    elim (cases_lt (queue_place x queue) (length queue)) [
-      | inl m ↦ absurd (h (queue_place x queue) m (omega arith) (about-place x queue d m))
-      | inr m ↦ omega arith
+apart-head : (s : Slot) (slots : List Slot) → s.waits ≡ true → AreApart (waiting (s ∷ slots)) → is_queued s.update.who (waiting slots) ≡ false
+apart-head s slots w h = let parts : (is_queued s.update.who (waiting slots) ≡ false) × AreApart (waiting slots) = rw w at h in parts.0
+
+-- of those that are apart one alone is about a member
+pub place-one : (slots : List Slot) (i j : ℕ) → AreApart (waiting slots) → (at slots i).waits ≡ true → (at slots j).waits ≡ true → (at slots i).update.who ≡ (at slots j).update.who → i ≡ j
+place-one [] i j h l m e = absurd (false≢true l)
+place-one (s ∷ slots) zero zero h l m e = refl
+place-one (s ∷ slots) zero (suc j) h l m e = absurd (false≢true (sym (apart-head s slots l h) ∙ queued-at slots j s.update.who m (sym e)))
+place-one (s ∷ slots) (suc i) zero h l m e = absurd (false≢true (sym (apart-head s slots m h) ∙ queued-at slots i s.update.who l e))
+place-one (s ∷ slots) (suc i) (suc j) h l m e = ap suc (place-one slots i j (apart-tail s slots h) l m e)
+
+abbrev none : Slot
+none = record { update = filler; count = 0; waits = false }
+
+-- a slot that is a gap from now on
+abbrev pub gap : Slot → Slot
+gap s = record { update = s.update; count = s.count; waits = false }
+
+-- a gap in the place of the update about x leaves all others
+pub waiting-cleared : (slots : List Slot) (i x : ℕ) → AreApart (waiting slots) → (at slots i).waits ≡ true → (at slots i).update.who ≡ x → waiting (set slots i (gap (at slots i))) ≡ without x (waiting slots)
+waiting-cleared [] i x h l k = absurd (false≢true l)
+waiting-cleared (s ∷ slots) zero x h l k =
+    let absent : is_queued x (waiting slots) ≡ false = ap (λ (y : ℕ). is_queued y (waiting slots)) (sym k) ∙ apart-head s slots l h in
+    rw (l, eq-eqb s.update.who x k) (sym (without-absent x (waiting slots) absent))
+waiting-cleared (s ∷ slots) (suc i) x h l k =
+    let rest : waiting (set slots i (gap (at slots i))) ≡ without x (waiting slots) = waiting-cleared slots i x (apart-tail s slots h) l k in
+    elim (cases_Bool s.waits) [
+      | inl w ↦
+          let other : (s.update.who == x) ≡ false = ne_eqb s.update.who x (λ e. false≢true (sym (apart-head s slots w h) ∙ queued-at slots i s.update.who l (k ∙ sym e))) in
+          rw (w, other) (ap (λ (ws : List Waiting). wait_of s ∷ ws) rest)
+      | inr w ↦ rw w rest
+    ]
+
+-- one less waits
+pub fewer-cleared : (slots : List Slot) (i : ℕ) → (at slots i).waits ≡ true → length (waiting (set slots i (gap (at slots i)))) + 1 ≡ length (waiting slots)
+fewer-cleared [] i l = absurd (false≢true l)
+fewer-cleared (s ∷ slots) zero l = rw l (omega arith)
+fewer-cleared (s ∷ slots) (suc i) l =
+    let rest : length (waiting (set slots i (gap (at slots i)))) + 1 ≡ length (waiting slots) = fewer-cleared slots i l in
+    elim (cases_Bool s.waits) [ inl w ↦ rw w (omega arith) | inr w ↦ rw w rest ]
+
+-- one more slot that is not about x
+pub queued-more : (x : ℕ) (slots : List Slot) (i : ℕ) → i < length slots → is_about x (at slots i) ≡ false → is_queued x (waiting (drop i slots)) ≡ is_queued x (waiting (drop (i + 1) slots))
+queued-more x slots i l h =
+    ap (λ (rest : List Slot). is_queued x (waiting rest)) (drop_more slots i none l)
+    ∙ elim (cases_Bool (at slots i).waits) [
+      | inl w ↦ let other : ((at slots i).update.who == x) ≡ false = rw w at h in rw (w, other) refl
+      | inr w ↦ rw w refl
+    ]
+
+-- closed gaps and one more slot
+pub waiting-closed : (slots : List Slot) → waiting (filter (λ s. s.waits) slots) ≡ waiting slots
+waiting-closed [] = refl
+waiting-closed (s ∷ slots) =
+    elim (cases_Bool s.waits) [
+      | inl w ↦ rw w (ap (λ (ws : List Waiting). wait_of s ∷ ws) (waiting-closed slots))
+      | inr w ↦ rw w (waiting-closed slots)
+    ]
+
+pub length-closed : (slots : List Slot) → length (filter (λ s. s.waits) slots) ≡ length (waiting slots)
+length-closed [] = refl
+length-closed (s ∷ slots) =
+    let rest : length (filter (λ s. s.waits) slots) ≡ length (waiting slots) = length-closed slots in
+    elim (cases_Bool s.waits) [ inl w ↦ rw w (omega arith) | inr w ↦ rw w rest ]
+
+-- a list of slots that is lent keeps its length
+pub refilled : (slots next : List Slot) → length next ≡ length slots → refill (length slots) slots next ≡ next
+refilled slots next e = take-append-le (length slots) next (drop (length next) slots) (omega arith) ∙ take_all (length slots) next (omega arith)
+
+pub waiting-append : (slots more : List Slot) → waiting (slots ++ more) ≡ waiting slots ++ waiting more
+waiting-append [] more = refl
+waiting-append (s ∷ slots) more =
+    elim (cases_Bool s.waits) [
+      | inl w ↦ rw w (ap (λ (ws : List Waiting). wait_of s ∷ ws) (waiting-append slots more))
+      | inr w ↦ rw w (waiting-append slots more)
     ]
 
 -- no more are left than there were

@@ -1,109 +1,147 @@
 -- To raise what stands at places is to raise the updates that stand there.
-use Rattle.std.proofs.Common.{◌≡◌, ℕ, ◌+◌, ◌<◌, ◌≤◌, ◌==◌, nat_lt, Bool, true, false, cond, refl, sym, subst, ◌∙◌, ap, inl, inr, List, [], ◌∷◌, ◌++◌, length, map, take, zero, suc, get_or, set, arith}
+use Rattle.std.proofs.Common.{◌≡◌, ℕ, ◌+◌, ◌<◌, ◌≤◌, ◌==◌, nat_lt, Bool, true, false, cond, refl, sym, subst, ◌∙◌, ap, inl, inr, List, [], ◌∷◌, ◌++◌, length, map, take, suc, get_or, set, arith}
 use Rattle.std.specs.List.{All}
 use Rattle.std.proofs.lemmas.Bool.{cases_Bool, eqb-true, eqb-false, eq-eqb, ne_eqb, ltb-true, or_left, or_right, cond-false}
-use Rattle.std.proofs.lemmas.List.{get_or_default, get_or-set_same, get_or-set_other, length-set, length-map, ext_get_or, get_or-map}
+use Rattle.std.proofs.lemmas.List.{get_or_default, get_or-set_same, get_or-set_other, length-set}
 use Rattle.std.proofs.lemmas.List.Folds.{list_any_at}
 use Rattle.swim_wire.specs.Filler.{filler}
 use Rattle.swim_wire.specs.declared.update.Update.{Update}
 use Rattle.swim_gossip.specs.declared.buffer.Waiting.{Waiting}
-use Rattle.swim_gossip.specs.Queue.{is_about_any, raise_all, without, AreApart}
+use Rattle.swim_gossip.specs.declared.slots.Slot.{Slot}
+use Rattle.swim_gossip.specs.Queue.{is_about_any, raise_all, without, AreApart, AreWithin}
 use Rattle.swim_gossip.proofs.Apart.{raise, raised}
-use Rattle.swim_gossip.specs.Buckets.{at, runs, AreWithin, bump, raised_at}
-use Rattle.swim_gossip.proofs.Places.{place-at}
+use Rattle.swim_gossip.specs.Buckets.{at, runs, wait_of, waiting, bump, raised_at}
+use Rattle.swim_gossip.proofs.Places.{place-one}
 use Rattle.swim_gossip.proofs.Rises.{rank, stands, RiseFrom, rise-take, rise-once}
-use Rattle.swim_gossip.proofs.Runs.{rise-runs, low-runs}
+use Rattle.swim_gossip.proofs.Runs.{rise-runs, live-below, live-runs}
 
-abbrev none : Waiting
-none = record { update = filler; count = 0 }
+abbrev none : Slot
+none = record { update = filler; count = 0; waits = false }
 
-pub at-read : (queue : List Waiting) (x : ℕ) (d : Waiting) → x < length queue → get_or queue x d ≡ at queue x
-at-read queue x d l = get_or_default queue x d none l
+pub at-read : (slots : List Slot) (x : ℕ) (d : Slot) → x < length slots → get_or slots x d ≡ at slots x
+at-read slots x d l = get_or_default slots x d none l
 
--- one more send leaves each update as it is
-pub update-kept : (queue : List Waiting) (x y : ℕ) → x < length queue → (at (set queue x (bump (at queue x))) y).update ≡ (at queue y).update
-update-kept queue x y l =
-    let next : List Waiting = set queue x (bump (at queue x)) in
+-- one more send leaves each update as it is, and each gap
+pub update-kept : (slots : List Slot) (x y : ℕ) → x < length slots → (at (set slots x (bump (at slots x))) y).update ≡ (at slots y).update
+update-kept slots x y l =
+    let next : List Slot = set slots x (bump (at slots x)) in
     elim (cases_Bool (x == y)) [
       | inl t ↦
           let e : x ≡ y = eqb-true x y t in
           ap (λ (v : ℕ). (at next v).update) (sym e)
-          ∙ ap (λ (w : Waiting). w.update) (get_or-set_same queue x (bump (at queue x)) none l)
-          ∙ ap (λ (v : ℕ). (at queue v).update) e
-      | inr n ↦ ap (λ (w : Waiting). w.update) (get_or-set_other queue x y (bump (at queue x)) none (λ e. eqb-false x y n (sym e)))
+          ∙ ap (λ (s : Slot). s.update) (get_or-set_same slots x (bump (at slots x)) none l)
+          ∙ ap (λ (v : ℕ). (at slots v).update) e
+      | inr n ↦ ap (λ (s : Slot). s.update) (get_or-set_other slots x y (bump (at slots x)) none (λ e. eqb-false x y n (sym e)))
     ]
 
-pub length-raised : (xs : List ℕ) (queue : List Waiting) → length (raised_at xs queue) ≡ length queue
-length-raised [] queue = refl
-length-raised (x ∷ xs) queue = length-raised xs (set queue x (bump (at queue x))) ∙ length-set queue x (bump (at queue x))
+pub waits-kept : (slots : List Slot) (x y : ℕ) → x < length slots → (at (set slots x (bump (at slots x))) y).waits ≡ (at slots y).waits
+waits-kept slots x y l =
+    let next : List Slot = set slots x (bump (at slots x)) in
+    elim (cases_Bool (x == y)) [
+      | inl t ↦
+          let e : x ≡ y = eqb-true x y t in
+          ap (λ (v : ℕ). (at next v).waits) (sym e)
+          ∙ ap (λ (s : Slot). s.waits) (get_or-set_same slots x (bump (at slots x)) none l)
+          ∙ ap (λ (v : ℕ). (at slots v).waits) e
+      | inr n ↦ ap (λ (s : Slot). s.waits) (get_or-set_other slots x y (bump (at slots x)) none (λ e. eqb-false x y n (sym e)))
+    ]
+
+-- no count rises above one more
+pub count-raised : (most more : ℕ) (slots : List Slot) (x y : ℕ) → x < length slots → more ≡ most + 1 → (at slots x).count ≤ most → (at slots y).count ≤ most → (at (set slots x (bump (at slots x))) y).count ≤ more
+count-raised most more slots x y l e h k =
+    let next : List Slot = set slots x (bump (at slots x)) in
+    elim (cases_Bool (x == y)) [
+      | inl t ↦
+          let same : (at next y).count ≡ (at slots x).count + 1 =
+          ap (λ (v : ℕ). (at next v).count) (sym (eqb-true x y t)) ∙ ap (λ (s : Slot). s.count) (get_or-set_same slots x (bump (at slots x)) none l) in
+          omega arith
+      | inr n ↦
+          let same : (at next y).count ≡ (at slots y).count = ap (λ (s : Slot). s.count) (get_or-set_other slots x y (bump (at slots x)) none (λ e. eqb-false x y n (sym e))) in
+          omega arith
+    ]
+
+pub length-raised : (xs : List ℕ) (slots : List Slot) → length (raised_at xs slots) ≡ length slots
+length-raised [] slots = refl
+length-raised (x ∷ xs) slots = length-raised xs (set slots x (bump (at slots x))) ∙ length-set slots x (bump (at slots x))
 
 -- each of the places is raised once
-pub at-raised : (f : ℕ → ℕ) (low : ℕ) (xs : List ℕ) (queue : List Waiting) (y : ℕ) → RiseFrom f low xs → y < length queue → at (raised_at xs queue) y ≡ cond (stands y xs) (bump (at queue y)) (at queue y)
-at-raised f low [] queue y h l = refl
-at-raised f low (x ∷ xs) queue y h l =
-    let next : List Waiting = set queue x (bump (at queue x)) in
-    let same : length next ≡ length queue = length-set queue x (bump (at queue x)) in
+pub at-raised : (f : ℕ → ℕ) (low : ℕ) (xs : List ℕ) (slots : List Slot) (y : ℕ) → RiseFrom f low xs → y < length slots → at (raised_at xs slots) y ≡ cond (stands y xs) (bump (at slots y)) (at slots y)
+at-raised f low [] slots y h l = refl
+at-raised f low (x ∷ xs) slots y h l =
+    let next : List Slot = set slots x (bump (at slots x)) in
+    let same : length next ≡ length slots = length-set slots x (bump (at slots x)) in
     let rest : at (raised_at xs next) y ≡ cond (stands y xs) (bump (at next y)) (at next y) = at-raised f (suc (f x)) xs next y h.1 (omega arith) in
     elim (cases_Bool (x == y)) [
       | inl t ↦
           let e : x ≡ y = eqb-true x y t in
           let once : stands y xs ≡ false = ap (λ (v : ℕ). stands v xs) (sym e) ∙ rise-once f x xs h.1 in
-          let here : at next y ≡ bump (at queue y) = ap (λ (v : ℕ). at next v) (sym e) ∙ get_or-set_same queue x (bump (at queue x)) none (subst (λ (v : ℕ). v < length queue) (sym e) l) ∙ ap (λ (v : ℕ). bump (at queue v)) e in
+          let here : at next y ≡ bump (at slots y) = ap (λ (v : ℕ). at next v) (sym e) ∙ get_or-set_same slots x (bump (at slots x)) none (subst (λ (v : ℕ). v < length slots) (sym e) l) ∙ ap (λ (v : ℕ). bump (at slots v)) e in
           rw t (rest ∙ cond-false (stands y xs) (bump (at next y)) (at next y) once ∙ here)
       | inr n ↦
-          let here : at next y ≡ at queue y = get_or-set_other queue x y (bump (at queue x)) none (λ e. eqb-false x y n (sym e)) in
-          rw n (rest ∙ ap (λ (v : Waiting). cond (stands y xs) (bump v) v) here)
+          let here : at next y ≡ at slots y = get_or-set_other slots x y (bump (at slots x)) none (λ e. eqb-false x y n (sym e)) in
+          rw n (rest ∙ ap (λ (v : Slot). cond (stands y xs) (bump v) v) here)
     ]
 
-same-who : (queue : List Waiting) (x y : ℕ) → AreApart queue → x < length queue → y < length queue → ((at queue x).update.who == (at queue y).update.who) ≡ (x == y)
-same-who queue x y h l m =
+same-who : (slots : List Slot) (x y : ℕ) → AreApart (waiting slots) → (at slots x).waits ≡ true → (at slots y).waits ≡ true → ((at slots x).update.who == (at slots y).update.who) ≡ (x == y)
+same-who slots x y h l m =
     elim (cases_Bool (x == y)) [
-      | inl t ↦ rw t (eq-eqb (at queue x).update.who (at queue y).update.who (ap (λ (v : ℕ). (at queue v).update.who) (eqb-true x y t)))
-      | inr n ↦ rw n (ne_eqb (at queue x).update.who (at queue y).update.who (λ e.
-          eqb-false x y n (place-at (at queue y).update.who queue x none h l e ∙ sym (place-at (at queue y).update.who queue y none h m refl))))
+      | inl t ↦ rw t (eq-eqb (at slots x).update.who (at slots y).update.who (ap (λ (v : ℕ). (at slots v).update.who) (eqb-true x y t)))
+      | inr n ↦ rw n (ne_eqb (at slots x).update.who (at slots y).update.who (λ e. eqb-false x y n (place-one slots x y h l m e)))
     ]
 
-about-places : (queue : List Waiting) (xs : List ℕ) (y : ℕ) → AreApart queue → ((x : ℕ) → stands x xs ≡ true → x < length queue) → y < length queue → is_about_any (at queue y).update.who (map (λ x. (at queue x).update) xs) ≡ stands y xs
-about-places queue [] y h l m = refl
-about-places queue (x ∷ xs) y h l m =
-    rw (same-who queue x y h (l x (or_left (x == x) (stands x xs) (eq-eqb x x refl))) m, about-places queue xs y h (λ z s. l z (or_right (x == z) (stands z xs) s)) m) refl
+about-places : (slots : List Slot) (xs : List ℕ) (y : ℕ) → AreApart (waiting slots) → ((x : ℕ) → stands x xs ≡ true → (at slots x).waits ≡ true) → (at slots y).waits ≡ true → is_about_any (at slots y).update.who (map (λ x. (at slots x).update) xs) ≡ stands y xs
+about-places slots [] y h l m = refl
+about-places slots (x ∷ xs) y h l m =
+    rw (same-who slots x y h (l x (or_left (x == x) (stands x xs) (eq-eqb x x refl))) m, about-places slots xs y h (λ z s. l z (or_right (x == z) (stands z xs) s)) m) refl
 
-pub low-all : (limit room : ℕ) (queue : List Waiting) → All (λ x. x < length queue) (take room (runs limit queue))
-low-all limit room queue = λ k d l.
-    low-runs limit room (get_or (take room (runs limit queue)) k d) queue
-    (list_any_at (λ y. y == get_or (take room (runs limit queue)) k d) (take room (runs limit queue)) k d l (eq-eqb (get_or (take room (runs limit queue)) k d) (get_or (take room (runs limit queue)) k d) refl))
+pub live-all : (limit room : ℕ) (slots : List Slot) → All (λ x. (at slots x).waits ≡ true) (take room (runs limit slots))
+live-all limit room slots = λ k d l.
+    live-runs limit room (get_or (take room (runs limit slots)) k d) slots
+    (list_any_at (λ y. y == get_or (take room (runs limit slots)) k d) (take room (runs limit slots)) k d l (eq-eqb (get_or (take room (runs limit slots)) k d) (get_or (take room (runs limit slots)) k d) refl))
+
+-- the same slots wait, and what waits there is what f makes of it
+waiting-map : (f : Waiting → Waiting) (next slots : List Slot) → length next ≡ length slots → ((y : ℕ) → y < length slots → (at next y).waits ≡ (at slots y).waits) → ((y : ℕ) → (at slots y).waits ≡ true → wait_of (at next y) ≡ f (wait_of (at slots y))) → waiting next ≡ map f (waiting slots)
+waiting-map f [] [] e h k = refl
+waiting-map f [] (s ∷ slots) e h k = absurd (omega arith)
+waiting-map f (r ∷ next) [] e h k = absurd (omega arith)
+waiting-map f (r ∷ next) (s ∷ slots) e h k =
+    let rest : waiting next ≡ map f (waiting slots) = waiting-map f next slots (omega arith) (λ y l. h (suc y) (omega arith)) (λ y l. k (suc y) l) in
+    let same : r.waits ≡ s.waits = h 0 (omega arith) in
+    elim (cases_Bool s.waits) [
+      | inl w ↦ rw (same, w) (ap (λ (v : Waiting). v ∷ waiting next) (k 0 w) ∙ ap (λ (ws : List Waiting). f (wait_of s) ∷ ws) rest)
+      | inr w ↦ rw (same, w) rest
+    ]
 
 -- to raise what stands at places is to raise the updates that stand there
-pub raised-runs : (limit room : ℕ) (queue : List Waiting) → length queue ≤ 257 → AreApart queue → raised_at (take room (runs limit queue)) queue ≡ map (raise_all (map (λ x. (at queue x).update) (take room (runs limit queue)))) queue
-raised-runs limit room queue few h =
-    ext_get_or none (raised_at (take room (runs limit queue)) queue) (map (raise_all sent) queue) (length-raised (take room (runs limit queue)) queue ∙ sym (length-map queue (raise_all sent)))
-    (λ i l. one i (let e : length (raised_at (take room (runs limit queue)) queue) ≡ length queue = length-raised (take room (runs limit queue)) queue in omega arith))
+pub raised-runs : (limit room : ℕ) (slots : List Slot) → length slots ≤ 368 → AreApart (waiting slots) → waiting (raised_at (take room (runs limit slots)) slots) ≡ map (raise_all (map (λ x. (at slots x).update) (take room (runs limit slots)))) (waiting slots)
+raised-runs limit room slots few h = waiting-map (raise_all sent) (raised_at places slots) slots (length-raised places slots) (λ y l. ap (λ (s : Slot). s.waits) (raised-is y l) ∙ gap (stands y places) (at slots y)) one
   where
+    places : List ℕ
+    places = take room (runs limit slots)
+
     sent : List Update
-    sent = map (λ x. (at queue x).update) (take room (runs limit queue))
+    sent = map (λ x. (at slots x).update) (take room (runs limit slots))
 
-    both : (b : Bool) (w : Waiting) → is_about_any w.update.who sent ≡ b → cond b (bump w) w ≡ raise_all sent w
-    both true w e = rw e refl
-    both false w e = rw e refl
+    raised-is : (y : ℕ) → y < length slots → at (raised_at (take room (runs limit slots)) slots) y ≡ cond (stands y (take room (runs limit slots))) (bump (at slots y)) (at slots y)
+    raised-is y l = at-raised (rank slots) 0 (take room (runs limit slots)) slots y (rise-take (rank slots) 0 room (runs limit slots) (rise-runs limit slots few)) l
 
-    one : (i : ℕ) → i < length queue → get_or (raised_at (take room (runs limit queue)) queue) i none ≡ get_or (map (raise_all sent) queue) i none
-    one i l =
-        at-raised (rank queue) 0 (take room (runs limit queue)) queue i (rise-take (rank queue) 0 room (runs limit queue) (rise-runs limit queue few)) l
-        ∙ both (stands i (take room (runs limit queue))) (at queue i) (about-places queue (take room (runs limit queue)) i h (λ x s. low-runs limit room x queue s) l)
-        ∙ sym (get_or-map (raise_all sent) queue i none none l)
+    gap : (b : Bool) (s : Slot) → (cond b (bump s) s).waits ≡ s.waits
+    gap true s = refl
+    gap false s = refl
+
+    both : (b : Bool) (s : Slot) → is_about_any s.update.who sent ≡ b → wait_of (cond b (bump s) s) ≡ raise_all sent (wait_of s)
+    both true s e = rw e refl
+    both false s e = rw e refl
+
+    one : (y : ℕ) → (at slots y).waits ≡ true → wait_of (at (raised_at (take room (runs limit slots)) slots) y) ≡ raise_all sent (wait_of (at slots y))
+    one y w =
+        ap wait_of (raised-is y (live-below slots y w))
+        ∙ both (stands y (take room (runs limit slots))) (at slots y) (about-places slots (take room (runs limit slots)) y h (λ x s. live-runs limit room x slots s) w)
 
 -- counts stay within the last bucket
-within-set : (most : ℕ) (queue : List Waiting) (x : ℕ) (w : Waiting) → AreWithin most queue → w.count ≤ most → AreWithin most (set queue x w)
-within-set most [] x w h l = h
-within-set most (v ∷ queue) zero w h l = (l, h.1)
-within-set most (v ∷ queue) (suc x) w h l = (h.0, within-set most queue x w h.1 l)
-
 within-weaker : (most more : ℕ) (queue : List Waiting) → most ≤ more → AreWithin most queue → AreWithin more queue
 within-weaker most more [] l h = tt
 within-weaker most more (w ∷ queue) l h = (let e : w.count ≤ most = h.0 in omega arith, within-weaker most more queue l h.1)
-
-pub within-raised : (most more : ℕ) (queue : List Waiting) (x : ℕ) (w : Waiting) → more ≡ most + 1 → AreWithin most queue → w.count ≤ most + 1 → AreWithin more (set queue x w)
-within-raised most more queue x w e h l = within-set more queue x w (within-weaker most more queue (omega arith) h) (omega arith)
 
 pub within-more : (most more : ℕ) (queue : List Waiting) → most ≤ more → AreWithin most queue → AreWithin more queue
 within-more most more queue l h = within-weaker most more queue l h

@@ -1,74 +1,71 @@
--- The buckets, one after another, are what is sent in turn.
+-- The places in the buckets are those of the updates in turn.
 use Rattle.std.proofs.Common.{◌≡◌, ◌≢◌, ℕ, ◌+◌, ◌*◌, ◌<◌, ◌≤◌, ◌==◌, ◌||◌, ◌&&◌, nat_lt, Bool, true, false, refl, sym, ◌∙◌, ap, inl, inr, List, [], ◌∷◌, ◌++◌, length, map, take, drop, zero, suc, arith}
-use Rattle.std.proofs.lemmas.Bool.{cases_Bool, cases_lt, false≢true, eqb-true, eqb-false, eq-eqb, ne_eqb, ltb-true, ltb-false, lt-ltb, le-ltb, or_cases, or_left, and_parts, and_left, and_right}
+use Rattle.std.proofs.lemmas.Bool.{cases_Bool, cases_lt, false≢true, eqb-true, eqb-false, eq-eqb, ne_eqb, ltb-true, ltb-false, lt-ltb, le-ltb, or_left, and_parts, and_right}
 use Rattle.std.proofs.lemmas.List.{append-nil, append_assoc, map-append, take-append-le, take-map}
 use Rattle.std.proofs.lemmas.List.Folds.{list_any-append}
 use Rattle.swim_wire.specs.declared.update.Update.{Update}
 use Rattle.swim_gossip.specs.declared.buffer.Waiting.{Waiting}
-use Rattle.swim_gossip.specs.Queue.{sent_times, in_turn, update_of, picked_updates}
-use Rattle.swim_gossip.specs.Buckets.{at, spots, runs, AreWithin}
+use Rattle.swim_gossip.specs.declared.slots.Slot.{Slot}
+use Rattle.swim_gossip.specs.Queue.{sent_times, in_turn, update_of, picked_updates, AreWithin}
+use Rattle.swim_gossip.specs.Buckets.{at, spots, runs, wait_of, waiting}
 use Rattle.swim_gossip.proofs.Rises.{rank, stands, RiseFrom, rise-weaker, rise-append, stands-parts}
 
--- what stands there
-spots-at_from : (g : ℕ → Waiting) (c i : ℕ) (queue : List Waiting) → ((k : ℕ) → k < length queue → g (i + k) ≡ at queue k) → map g (spots c i queue) ≡ sent_times c queue
+-- what waits there
+spots-at_from : (g : ℕ → Slot) (c i : ℕ) (slots : List Slot) → ((k : ℕ) → k < length slots → g (i + k) ≡ at slots k) → map (λ x. wait_of (g x)) (spots c i slots) ≡ sent_times c (waiting slots)
 spots-at_from g c i [] h = refl
-spots-at_from g c i (w ∷ queue) h =
-    let first : g i ≡ w = ap g (let e : i ≡ i + 0 = omega arith in e) ∙ h 0 (omega arith) in
-    let rest : map g (spots c (suc i) queue) ≡ sent_times c queue =
-    spots-at_from g c (suc i) queue (λ k l. ap g (let e : suc i + k ≡ i + suc k = omega arith in e) ∙ h (suc k) (omega arith)) in
-    elim (cases_Bool (w.count == c)) [
-      | inl t ↦ rw t (ap (λ (v : Waiting). v ∷ map g (spots c (suc i) queue)) first ∙ ap (λ (ws : List Waiting). w ∷ ws) rest)
-      | inr n ↦ rw n rest
+spots-at_from g c i (s ∷ slots) h =
+    let first : g i ≡ s = ap g (let e : i ≡ i + 0 = omega arith in e) ∙ h 0 (omega arith) in
+    let rest : map (λ x. wait_of (g x)) (spots c (suc i) slots) ≡ sent_times c (waiting slots) =
+    spots-at_from g c (suc i) slots (λ k l. ap g (let e : suc i + k ≡ i + suc k = omega arith in e) ∙ h (suc k) (omega arith)) in
+    elim (cases_Bool s.waits) [
+      | inl w ↦ elim (cases_Bool (s.count == c)) [
+        | inl t ↦ rw (w, t) (ap (λ (v : Slot). wait_of v ∷ map (λ x. wait_of (g x)) (spots c (suc i) slots)) first ∙ ap (λ (ws : List Waiting). wait_of s ∷ ws) rest)
+        | inr n ↦ rw (w, n) rest
+      ]
+      | inr w ↦ rw w rest
     ]
 
-spots-at : (c : ℕ) (queue : List Waiting) → map (at queue) (spots c 0 queue) ≡ sent_times c queue
-spots-at c queue = spots-at_from (at queue) c 0 queue (λ k l. ap (at queue) (let e : 0 + k ≡ k = omega arith in e))
+spots-at : (c : ℕ) (slots : List Slot) → map (λ x. wait_of (at slots x)) (spots c 0 slots) ≡ sent_times c (waiting slots)
+spots-at c slots = spots-at_from (at slots) c 0 slots (λ k l. ap (at slots) (let e : 0 + k ≡ k = omega arith in e))
 
-runs-at : (n : ℕ) (queue : List Waiting) → map (at queue) (runs n queue) ≡ in_turn n queue
-runs-at zero queue = refl
-runs-at (suc n) queue = map-append (at queue) (runs n queue) (spots n 0 queue) ∙ rw (runs-at n queue, spots-at n queue) refl
+runs-at : (n : ℕ) (slots : List Slot) → map (λ x. wait_of (at slots x)) (runs n slots) ≡ in_turn n (waiting slots)
+runs-at zero slots = refl
+runs-at (suc n) slots = map-append (λ x. wait_of (at slots x)) (runs n slots) (spots n 0 slots) ∙ rw (runs-at n slots, spots-at n slots) refl
 
-spots-before : (c i x : ℕ) (queue : List Waiting) → x < i → stands x (spots c i queue) ≡ false
+spots-before : (c i x : ℕ) (slots : List Slot) → x < i → stands x (spots c i slots) ≡ false
 spots-before c i x [] l = refl
-spots-before c i x (w ∷ queue) l =
-    let rest : stands x (spots c (suc i) queue) ≡ false = spots-before c (suc i) x queue (omega arith) in
-    elim (cases_Bool (w.count == c)) [
+spots-before c i x (s ∷ slots) l =
+    let rest : stands x (spots c (suc i) slots) ≡ false = spots-before c (suc i) x slots (omega arith) in
+    elim (cases_Bool (s.waits && (s.count == c))) [
       | inl t ↦ rw (t, ne_eqb i x (λ e. omega arith)) rest
       | inr n ↦ rw n rest
     ]
 
-lt-suc : (a b : ℕ) → nat_lt (suc a) (suc b) ≡ nat_lt a b
-lt-suc a b = elim (cases_Bool (nat_lt a b)) [
-  | inl t ↦ let l : a < b = ltb-true a b t in rw (t, lt-ltb (suc a) (suc b) (omega arith)) refl
-  | inr t ↦ let l : b ≤ a = ltb-false a b t in rw (t, le-ltb (suc a) (suc b) (omega arith)) refl
-]
-
-stands-spots_from : (c i k : ℕ) (queue : List Waiting) → stands (i + k) (spots c i queue) ≡ (nat_lt k (length queue) && ((at queue k).count == c))
-stands-spots_from c i k [] = sym (and_left (nat_lt k 0) ((at [] k).count == c) (le-ltb k 0 (omega arith)))
-stands-spots_from c i zero (w ∷ queue) =
-    let same : i + 0 ≡ i = omega arith in
-    let none : stands (i + 0) (spots c (suc i) queue) ≡ false = spots-before c (suc i) (i + 0) queue (omega arith) in
-    elim (cases_Bool (w.count == c)) [
-      | inl t ↦ rw (t, eq-eqb i (i + 0) (omega arith), lt-ltb 0 (suc (length queue)) (omega arith)) refl
-      | inr n ↦ rw (n, none) (sym (and_right (nat_lt 0 (suc (length queue))) false refl))
+stands-spots_from : (c i k : ℕ) (slots : List Slot) → stands (i + k) (spots c i slots) ≡ ((at slots k).waits && ((at slots k).count == c))
+stands-spots_from c i k [] = refl
+stands-spots_from c i zero (s ∷ slots) =
+    let none : stands (i + 0) (spots c (suc i) slots) ≡ false = spots-before c (suc i) (i + 0) slots (omega arith) in
+    elim (cases_Bool (s.waits && (s.count == c))) [
+      | inl t ↦ rw (t, eq-eqb i (i + 0) (omega arith)) refl
+      | inr n ↦ rw (n, none) refl
     ]
-stands-spots_from c i (suc k) (w ∷ queue) =
+stands-spots_from c i (suc k) (s ∷ slots) =
     let same : i + suc k ≡ suc i + k = omega arith in
-    let rest : stands (i + suc k) (spots c (suc i) queue) ≡ (nat_lt k (length queue) && ((at queue k).count == c)) =
-    ap (λ (x : ℕ). stands x (spots c (suc i) queue)) same ∙ stands-spots_from c (suc i) k queue in
-    elim (cases_Bool (w.count == c)) [
-      | inl t ↦ rw (t, ne_eqb i (i + suc k) (λ e. omega arith), lt-suc k (length queue)) rest
-      | inr n ↦ rw (n, lt-suc k (length queue)) rest
+    let rest : stands (i + suc k) (spots c (suc i) slots) ≡ ((at slots k).waits && ((at slots k).count == c)) =
+    ap (λ (x : ℕ). stands x (spots c (suc i) slots)) same ∙ stands-spots_from c (suc i) k slots in
+    elim (cases_Bool (s.waits && (s.count == c))) [
+      | inl t ↦ rw (t, ne_eqb i (i + suc k) (λ e. omega arith)) rest
+      | inr n ↦ rw n rest
     ]
 
-stands-spots : (c x : ℕ) (queue : List Waiting) → stands x (spots c 0 queue) ≡ (nat_lt x (length queue) && ((at queue x).count == c))
-stands-spots c x queue = ap (λ (y : ℕ). stands y (spots c 0 queue)) (let e : x ≡ 0 + x = omega arith in e) ∙ stands-spots_from c 0 x queue
+stands-spots : (c x : ℕ) (slots : List Slot) → stands x (spots c 0 slots) ≡ ((at slots x).waits && ((at slots x).count == c))
+stands-spots c x slots = ap (λ (y : ℕ). stands y (spots c 0 slots)) (let e : x ≡ 0 + x = omega arith in e) ∙ stands-spots_from c 0 x slots
 
-pub stands-runs : (n x : ℕ) (queue : List Waiting) → stands x (runs n queue) ≡ (nat_lt x (length queue) && nat_lt (at queue x).count n)
-stands-runs zero x queue = sym (and_right (nat_lt x (length queue)) (nat_lt (at queue x).count 0) (le-ltb (at queue x).count 0 (omega arith)))
-stands-runs (suc n) x queue =
-    list_any-append (λ y. y == x) (runs n queue) (spots n 0 queue)
-    ∙ rw (stands-runs n x queue, stands-spots n x queue) (join (nat_lt x (length queue)) (at queue x).count)
+pub stands-runs : (n x : ℕ) (slots : List Slot) → stands x (runs n slots) ≡ ((at slots x).waits && nat_lt (at slots x).count n)
+stands-runs zero x slots = sym (and_right (at slots x).waits (nat_lt (at slots x).count 0) (le-ltb (at slots x).count 0 (omega arith)))
+stands-runs (suc n) x slots =
+    list_any-append (λ y. y == x) (runs n slots) (spots n 0 slots)
+    ∙ rw (stands-runs n x slots, stands-spots n x slots) (join (at slots x).waits (at slots x).count)
   where
     below : (m : ℕ) → (nat_lt m n || (m == n)) ≡ nat_lt m (suc n)
     below m = elim (cases_Bool (nat_lt m n)) [
@@ -83,95 +80,95 @@ stands-runs (suc n) x queue =
     join true m = below m
     join false m = refl
 
-rise-spots_from : (f : ℕ → ℕ) (c i : ℕ) (queue : List Waiting) → ((k : ℕ) → k < length queue → (at queue k).count ≡ c → f (i + k) ≡ 512 * c + (i + k)) → RiseFrom f (512 * c + i) (spots c i queue)
+-- behind the slots there are but gaps
+pub live-below : (slots : List Slot) (x : ℕ) → (at slots x).waits ≡ true → x < length slots
+live-below [] x h = absurd (false≢true h)
+live-below (s ∷ slots) zero h = omega arith
+live-below (s ∷ slots) (suc x) h = let l : x < length slots = live-below slots x h in omega arith
+
+rise-spots_from : (f : ℕ → ℕ) (c i : ℕ) (slots : List Slot) → ((k : ℕ) → k < length slots → (at slots k).count ≡ c → f (i + k) ≡ 512 * c + (i + k)) → RiseFrom f (512 * c + i) (spots c i slots)
 rise-spots_from f c i [] h = tt
-rise-spots_from f c i (w ∷ queue) h =
-    let rest : RiseFrom f (512 * c + suc i) (spots c (suc i) queue) =
-    rise-spots_from f c (suc i) queue (λ k l e. let same : suc i + k ≡ i + suc k = omega arith in ap f same ∙ h (suc k) (omega arith) e ∙ ap (λ (x : ℕ). 512 * c + x) (sym same)) in
-    elim (cases_Bool (w.count == c)) [
+rise-spots_from f c i (s ∷ slots) h =
+    let rest : RiseFrom f (512 * c + suc i) (spots c (suc i) slots) =
+    rise-spots_from f c (suc i) slots (λ k l e. let same : suc i + k ≡ i + suc k = omega arith in ap f same ∙ h (suc k) (omega arith) e ∙ ap (λ (x : ℕ). 512 * c + x) (sym same)) in
+    elim (cases_Bool (s.waits && (s.count == c))) [
       | inl t ↦
-          let here : f (i + 0) ≡ 512 * c + (i + 0) = h 0 (omega arith) (eqb-true w.count c t) in
+          let here : f (i + 0) ≡ 512 * c + (i + 0) = h 0 (omega arith) (eqb-true s.count c (and_parts s.waits (s.count == c) t).1) in
           let same : f i ≡ f (i + 0) = ap f (let e : i ≡ i + 0 = omega arith in e) in
-          rw t (omega arith, rise-weaker f (512 * c + suc i) (suc (f i)) (spots c (suc i) queue) (omega arith) rest)
-      | inr n ↦ rw n (rise-weaker f (512 * c + suc i) (512 * c + i) (spots c (suc i) queue) (omega arith) rest)
+          rw t (omega arith, rise-weaker f (512 * c + suc i) (suc (f i)) (spots c (suc i) slots) (omega arith) rest)
+      | inr n ↦ rw n (rise-weaker f (512 * c + suc i) (512 * c + i) (spots c (suc i) slots) (omega arith) rest)
     ]
 
-rise-spots : (c : ℕ) (queue : List Waiting) → RiseFrom (rank queue) (512 * c) (spots c 0 queue)
-rise-spots c queue =
-    rise-weaker (rank queue) (512 * c + 0) (512 * c) (spots c 0 queue) (omega arith)
-    (rise-spots_from (rank queue) c 0 queue (λ k l e. let same : 0 + k ≡ k = omega arith in ap (rank queue) same ∙ ap (λ (m : ℕ). 512 * m + k) e ∙ ap (λ (x : ℕ). 512 * c + x) (sym same)))
+rise-spots : (c : ℕ) (slots : List Slot) → RiseFrom (rank slots) (512 * c) (spots c 0 slots)
+rise-spots c slots =
+    rise-weaker (rank slots) (512 * c + 0) (512 * c) (spots c 0 slots) (omega arith)
+    (rise-spots_from (rank slots) c 0 slots (λ k l e. let same : 0 + k ≡ k = omega arith in ap (rank slots) same ∙ ap (λ (m : ℕ). 512 * m + k) e ∙ ap (λ (x : ℕ). 512 * c + x) (sym same)))
 
-pub rise-runs : (n : ℕ) (queue : List Waiting) → length queue ≤ 257 → RiseFrom (rank queue) 0 (runs n queue)
-rise-runs zero queue l = tt
-rise-runs (suc n) queue l =
-    rise-append (rank queue) 0 (512 * n) (runs n queue) (spots n 0 queue) (omega arith)
-    (λ z s. let both : (nat_lt z (length queue) && nat_lt (at queue z).count n) ≡ true = sym (stands-runs n z queue) ∙ s in
-    let parts : (nat_lt z (length queue) ≡ true) × (nat_lt (at queue z).count n ≡ true) = and_parts (nat_lt z (length queue)) (nat_lt (at queue z).count n) both in
-    let low : z < length queue = ltb-true z (length queue) parts.0 in
-    let few : (at queue z).count < n = ltb-true (at queue z).count n parts.1 in
+pub rise-runs : (n : ℕ) (slots : List Slot) → length slots ≤ 368 → RiseFrom (rank slots) 0 (runs n slots)
+rise-runs zero slots l = tt
+rise-runs (suc n) slots l =
+    rise-append (rank slots) 0 (512 * n) (runs n slots) (spots n 0 slots) (omega arith)
+    (λ z s. let both : ((at slots z).waits && nat_lt (at slots z).count n) ≡ true = sym (stands-runs n z slots) ∙ s in
+    let parts : ((at slots z).waits ≡ true) × (nat_lt (at slots z).count n ≡ true) = and_parts (at slots z).waits (nat_lt (at slots z).count n) both in
+    let low : z < length slots = live-below slots z parts.0 in
+    let few : (at slots z).count < n = ltb-true (at slots z).count n parts.1 in
     omega arith)
-    (rise-runs n queue l) (rise-spots n queue)
-
-pub within-at : (most : ℕ) (queue : List Waiting) (x : ℕ) → AreWithin most queue → x < length queue → (at queue x).count ≤ most
-within-at most [] x h l = absurd (omega arith)
-within-at most (w ∷ queue) zero h l = h.0
-within-at most (w ∷ queue) (suc x) h l = within-at most queue x h.1 (omega arith)
+    (rise-runs n slots l) (rise-spots n slots)
 
 -- what the higher buckets add
-record Higher (limit n : ℕ) (queue : List Waiting) : Type 0 where
+record Higher (limit n : ℕ) (slots : List Slot) : Type 0 where
   rest : List ℕ
-  is : runs n queue ≡ runs limit queue ++ rest
-  high : (z : ℕ) → stands z rest ≡ true → limit ≤ (at queue z).count
+  is : runs n slots ≡ runs limit slots ++ rest
 
-higher : (limit n : ℕ) (queue : List Waiting) → limit ≤ n → Higher limit n queue
-higher limit zero queue l =
+higher : (limit n : ℕ) (slots : List Slot) → limit ≤ n → Higher limit n slots
+higher limit zero slots l =
     let none : zero ≡ limit = omega arith in
-    record { rest = []; is = ap (λ (m : ℕ). runs m queue) none ∙ sym (append-nil (runs limit queue)); high = λ z s. absurd (false≢true s) }
-higher limit (suc n) queue l =
+    record { rest = []; is = ap (λ (m : ℕ). runs m slots) none ∙ sym (append-nil (runs limit slots)) }
+higher limit (suc n) slots l =
     elim (cases_lt n limit) [
       | inl o ↦
           let same : suc n ≡ limit = omega arith in
-          record { rest = []; is = ap (λ (m : ℕ). runs m queue) same ∙ sym (append-nil (runs limit queue)); high = λ z s. absurd (false≢true s) }
+          record { rest = []; is = ap (λ (m : ℕ). runs m slots) same ∙ sym (append-nil (runs limit slots)) }
       | inr o ↦
-          let under : Higher limit n queue = higher limit n queue o in
+          let under : Higher limit n slots = higher limit n slots o in
           record {
-            rest = under.rest ++ spots n 0 queue;
-            is = ap (λ (xs : List ℕ). xs ++ spots n 0 queue) under.is ∙ append_assoc (runs limit queue) under.rest (spots n 0 queue);
-            high = λ z s. elim (or_cases (stands z under.rest) (stands z (spots n 0 queue)) (sym (list_any-append (λ y. y == z) under.rest (spots n 0 queue)) ∙ s)) [
-              | inl e ↦ under.high z e
-              | inr e ↦
-                  let same : (at queue z).count ≡ n = eqb-true (at queue z).count n (and_parts (nat_lt z (length queue)) ((at queue z).count == n) (sym (stands-spots n z queue) ∙ e)).1 in
-                  omega arith
-            ];
+            rest = under.rest ++ spots n 0 slots;
+            is = ap (λ (xs : List ℕ). xs ++ spots n 0 slots) under.is ∙ append_assoc (runs limit slots) under.rest (spots n 0 slots);
           }
     ]
 
-pub picked-runs : (limit room : ℕ) (queue : List Waiting) → map (λ x. (at queue x).update) (take room (runs limit queue)) ≡ picked_updates limit room queue
-picked-runs limit room queue =
-    sym (take-map (λ x. (at queue x).update) room (runs limit queue))
-    ∙ ap (take room) (both (runs limit queue) ∙ ap (map update_of) (runs-at limit queue))
+pub picked-runs : (limit room : ℕ) (slots : List Slot) → map (λ x. (at slots x).update) (take room (runs limit slots)) ≡ picked_updates limit room (waiting slots)
+picked-runs limit room slots =
+    sym (take-map (λ x. (at slots x).update) room (runs limit slots))
+    ∙ ap (take room) (both (runs limit slots) ∙ ap (map update_of) (runs-at limit slots))
   where
-    both : (xs : List ℕ) → map (λ x. (at queue x).update) xs ≡ map update_of (map (at queue) xs)
+    both : (xs : List ℕ) → map (λ x. (at slots x).update) xs ≡ map update_of (map (λ x. wait_of (at slots x)) xs)
     both [] = refl
-    both (x ∷ xs) = ap (λ (us : List Update). (at queue x).update ∷ us) (both xs)
+    both (x ∷ xs) = ap (λ (us : List Update). (at slots x).update ∷ us) (both xs)
 
 -- once there is no more room, the higher buckets add nothing
-pub runs-full : (n limit room : ℕ) (queue : List Waiting) → n ≤ limit → room ≤ length (take room (runs n queue)) → take room (runs n queue) ≡ take room (runs limit queue)
-runs-full n limit room queue l m =
-    let more : Higher n limit queue = higher n limit queue l in
-    let short : length (take room (runs n queue)) ≤ length (runs n queue) = length-take-short room (runs n queue) in
-    sym (ap (take room) more.is ∙ take-append-le room (runs n queue) more.rest (omega arith))
+pub runs-full : (n limit room : ℕ) (slots : List Slot) → n ≤ limit → room ≤ length (take room (runs n slots)) → take room (runs n slots) ≡ take room (runs limit slots)
+runs-full n limit room slots l m =
+    let more : Higher n limit slots = higher n limit slots l in
+    let short : length (take room (runs n slots)) ≤ length (runs n slots) = length-take-short room (runs n slots) in
+    sym (ap (take room) more.is ∙ take-append-le room (runs n slots) more.rest (omega arith))
   where
     length-take-short : (k : ℕ) (xs : List ℕ) → length (take k xs) ≤ length xs
     length-take-short zero xs = omega arith
     length-take-short (suc k) [] = omega arith
     length-take-short (suc k) (x ∷ xs) = let e : length (take k xs) ≤ length xs = length-take-short k xs in omega arith
 
--- each of the places is one of the queue's
-pub low-runs : (limit room x : ℕ) (queue : List Waiting) → stands x (take room (runs limit queue)) ≡ true → x < length queue
-low-runs limit room x queue s =
-    ltb-true x (length queue) (and_parts (nat_lt x (length queue)) (nat_lt (at queue x).count limit)
-    (sym (stands-runs limit x queue) ∙ stands-parts room (runs limit queue) x ∙ or_left (stands x (take room (runs limit queue))) (stands x (drop room (runs limit queue))) s)).0
+-- an update waits at each of the places
+pub live-runs : (limit room x : ℕ) (slots : List Slot) → stands x (take room (runs limit slots)) ≡ true → (at slots x).waits ≡ true
+live-runs limit room x slots s =
+    (and_parts (at slots x).waits (nat_lt (at slots x).count limit)
+    (sym (stands-runs limit x slots) ∙ stands-parts room (runs limit slots) x ∙ or_left (stands x (take room (runs limit slots))) (stands x (drop room (runs limit slots))) s)).0
 
-pub low-spots : (c x : ℕ) (queue : List Waiting) → stands x (spots c 0 queue) ≡ true → x < length queue
-low-spots c x queue s = ltb-true x (length queue) (and_parts (nat_lt x (length queue)) ((at queue x).count == c) (sym (stands-spots c x queue) ∙ s)).0
+pub within-at : (most : ℕ) (slots : List Slot) (x : ℕ) → AreWithin most (waiting slots) → (at slots x).waits ≡ true → (at slots x).count ≤ most
+within-at most [] x h l = absurd (false≢true l)
+within-at most (s ∷ slots) zero h l = let parts : (s.count ≤ most) × AreWithin most (waiting slots) = rw l at h in parts.0
+within-at most (s ∷ slots) (suc x) h l =
+    elim (cases_Bool s.waits) [
+      | inl w ↦ let parts : (s.count ≤ most) × AreWithin most (waiting slots) = rw w at h in within-at most slots x parts.1 l
+      | inr w ↦ let rest : AreWithin most (waiting slots) = rw w at h in within-at most slots x rest l
+    ]

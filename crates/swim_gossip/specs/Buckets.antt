@@ -1,35 +1,45 @@
 -- The buckets of a buffer: the places of its updates, bucket
 -- after bucket, in each by who began to wait earlier.
-use Rattle.std.specs.Prelude.{ℕ, ◌+◌, ◌≤◌, ◌==◌, List, [], ◌∷◌, ◌++◌, cond}
+use Rattle.std.specs.Prelude.{ℕ, ◌+◌, ◌≤◌, ◌==◌, ◌&&◌, false, Bool, List, [], ◌∷◌, ◌++◌, cond}
 use Rattle.std.specs.Prelude.{slice_index_or, slice_set, zero, suc}
 use Rattle.swim_wire.specs.Filler.{filler}
 use Rattle.swim_gossip.specs.declared.buffer.Waiting.{Waiting}
 use Rattle.swim_gossip.specs.declared.buffer.TheConstants.{BUCKETS_MAX}
-use Rattle.swim_gossip.specs.Queue.{AreApart}
+use Rattle.swim_gossip.specs.declared.slots.Slot.{Slot}
+use Rattle.swim_gossip.specs.Queue.{AreApart, AreWithin, NeverRise}
 
--- what stands at a place of the queue
-abbrev pub at : List Waiting → ℕ → Waiting
-at queue x = slice_index_or queue x (record { update = filler; count = 0 })
+-- what stands at a place; a gap where there is no slot
+abbrev pub at : List Slot → ℕ → Slot
+at slots x = slice_index_or slots x (record { update = filler; count = 0; waits = false })
 
--- each count is at most this
-abbrev pub AreWithin : ℕ → List Waiting → Type 0
-AreWithin most [] = Unit {0}
-AreWithin most (w ∷ queue) = (w.count ≤ most) × AreWithin most queue
+-- an update about x waits in the slot
+abbrev pub is_about : ℕ → Slot → Bool
+is_about x s = s.waits && (s.update.who == x)
 
--- none was sent more often than one that began before it
-abbrev pub NeverRise : List Waiting → Type 0
-NeverRise [] = Unit {0}
-NeverRise (w ∷ queue) = AreWithin w.count queue × NeverRise queue
+-- what waits in a slot that is no gap
+abbrev pub wait_of : Slot → Waiting
+wait_of s = record { update = s.update; count = s.count }
+
+-- the updates in slots that are no gaps
+abbrev pub waiting : List Slot → List Waiting
+waiting [] = []
+waiting (s ∷ slots) = cond s.waits (wait_of s ∷ waiting slots) (waiting slots)
+
+-- of n places from i on those that are no gaps
+abbrev pub lives : List Slot → ℕ → ℕ → List ℕ
+lives slots i zero = []
+lives slots i (suc n) = cond (at slots i).waits (i ∷ lives slots (suc i) n) (lives slots (suc i) n)
 
 -- the places of those that were sent so many times, i being the first place
-abbrev pub spots : ℕ → ℕ → List Waiting → List ℕ
+abbrev pub spots : ℕ → ℕ → List Slot → List ℕ
 spots c i [] = []
-spots c i (w ∷ queue) = cond (w.count == c) (i ∷ spots c (suc i) queue) (spots c (suc i) queue)
+spots c i (s ∷ slots) =
+    cond (s.waits && (s.count == c)) (i ∷ spots c (suc i) slots) (spots c (suc i) slots)
 
 -- the places of those that were sent fewer than n times, bucket after bucket
-abbrev pub runs : ℕ → List Waiting → List ℕ
-runs zero queue = []
-runs (suc n) queue = runs n queue ++ spots n 0 queue
+abbrev pub runs : ℕ → List Slot → List ℕ
+runs zero slots = []
+runs (suc n) slots = runs n slots ++ spots n 0 slots
 
 -- what holds of a buffer at all times
 pub record AreKept (queue : List Waiting) (most : ℕ) : Type 0 where
@@ -39,10 +49,10 @@ pub record AreKept (queue : List Waiting) (most : ℕ) : Type 0 where
   pub last : most ≤ BUCKETS_MAX
 
 -- one more send
-abbrev pub bump : Waiting → Waiting
-bump w = record { update = w.update; count = w.count + 1 }
+abbrev pub bump : Slot → Slot
+bump s = record { update = s.update; count = s.count + 1; waits = s.waits }
 
 -- one more send of what stands at these places
-abbrev pub raised_at : List ℕ → List Waiting → List Waiting
-raised_at [] queue = queue
-raised_at (x ∷ xs) queue = raised_at xs (slice_set queue x (bump (at queue x)))
+abbrev pub raised_at : List ℕ → List Slot → List Slot
+raised_at [] slots = slots
+raised_at (x ∷ xs) slots = raised_at xs (slice_set slots x (bump (at slots x)))

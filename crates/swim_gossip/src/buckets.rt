@@ -1,15 +1,16 @@
-//! The buckets: of the updates that were sent equally often. Counts never rise along the queue, so
-//! each bucket is a run of it, and the bucket of the lowest count stands last. Each function of this
-//! file counts what it looks at.
+//! The buckets: of the updates that were sent equally often. Counts never rise along the slots, so
+//! each bucket is a run of them, and the bucket of the lowest count stands last. Each function of
+//! this file counts what it looks at.
 
-ghost use Rattle.std.specs.Prelude.{◌≡◌, ◌≢◌, ℕ, ◌+◌, ◌-◌, ◌<◌, ◌≤◌, List, [], ◌++◌, length, map, take, All};
-ghost use Rattle.std.specs.List.{range_with_len};
-ghost use Rattle.swim_gossip.specs.Queue.{picked_updates, raise_all, AreApart};
-ghost use Rattle.swim_gossip.specs.Buckets.{at, runs, raised_at, AreWithin, NeverRise};
-ghost use Rattle.swim_gossip.specs.declared.buffer.TheConstants.{BUCKETS_MAX, WAITING_MAX};
+ghost use Rattle.std.specs.Prelude.{◌≡◌, ◌≢◌, ℕ, ◌+◌, ◌-◌, ◌*◌, ◌<◌, ◌≤◌, ◌==◌, ◌&&◌, not, true, false, List, [], ◌++◌, length, map, take, All};
+ghost use Rattle.swim_gossip.specs.Queue.{picked_updates, raise_all, AreApart, AreWithin, NeverRise};
+ghost use Rattle.swim_gossip.specs.Buckets.{at, lives, runs, raised_at, waiting};
+ghost use Rattle.swim_gossip.specs.declared.buffer.TheConstants.{BUCKETS_MAX};
+ghost use Rattle.swim_gossip.specs.declared.slots.TheConstants.{SLOTS_MAX};
 ghost use Rattle.swim_wire.specs.declared.datagram.TheConstants.{UPDATES_MAX};
 
-use crate::buffer::{BUCKETS_MAX, WAITING_MAX, Waiting};
+use crate::buffer::BUCKETS_MAX;
+use crate::slots::{SLOTS_MAX, Slot};
 use crate::visits::Visits;
 use arrayvec::ArrayVec;
 use swim_wire::{UPDATES_MAX, Update};
@@ -17,86 +18,157 @@ use swim_wire::{UPDATES_MAX, Update};
 /// How many places are passed at once, at first, on the way to the begin of a bucket.
 const STRIDE: usize = 16;
 
-/// Goes back from a place by strides, as long as the updates there were sent so often.
-fn go_back(queue: &[Waiting], place: usize, count: u32, stride: usize, visits: &mut Visits) -> usize
-    requires few { length queue.now ≤ WAITING_MAX }
-    requires place { place < length queue.now }
-    requires stride { 0 < stride }
-    requires here { (at queue.now place).count ≡ count }
-    requires begun { visits.old ≤ 1000 }
+impl Slot {
+    /// Whether an update that was sent so often waits here.
+    fn is_sent(&self, count: u32) -> bool
+        ensures { result ≡ (self.now.waits && (self.now.count == count)) }
+    {
+        self.waits && self.count == count
+    }
+
+    /// Whether an update that was not sent so often waits here.
+    fn is_sent_otherwise(&self, count: u32) -> bool
+        ensures { result ≡ (self.now.waits && not (self.now.count == count)) }
+    {
+        self.waits && self.count != count
+    }
+}
+
+/// The end of the slots, without the gaps there.
+fn end_of(slots: &[Slot], visits: &mut Visits) -> usize
+    requires few { length slots.now ≤ SLOTS_MAX }
+    requires begun { visits.old ≡ 0 }
+    ensures end { result ≤ length slots.now }
+    ensures last { 0 < result → (at slots.now (result - 1)).waits ≡ true }
+    ensures gaps { (x : ℕ) → result ≤ x → (at slots.now x).waits ≡ false }
+    ensures visits { visits.new + result ≤ length slots.now + 1 }
+{
+    let mut end = slots.len();
+    while 0 < end && !slots[end - 1].waits {
+        end -= 1;
+    }
+    visits.look_at(slots.len() - end + 1);
+    end
+}
+
+/// Goes back from a place by strides, as long as updates that were sent so often wait there.
+fn stride_back(slots: &[Slot], place: usize, count: u32, visits: &mut Visits) -> usize
+    requires few { length slots.now ≤ SLOTS_MAX }
+    requires place { place < length slots.now }
+    requires here { (at slots.now place).waits ≡ true }
+    requires same { (at slots.now place).count ≡ count }
+    requires begun { visits.old ≤ 2000 }
     ensures back { result ≤ place }
-    ensures same { (at queue.now result).count ≡ count }
-    ensures other { stride ≤ result → (at queue.now (result - stride)).count ≢ count }
+    ensures here { (at slots.now result).waits ≡ true }
+    ensures same { (at slots.now result).count ≡ count }
     ensures visits { visits.new + result ≤ visits.old + place + 1 }
 {
     let mut begin = place;
     let mut strides = 0;
-    while stride <= begin && queue[begin - stride].count == count {
-        begin -= stride;
+    while STRIDE <= begin && slots[begin - STRIDE].is_sent(count) {
+        begin -= STRIDE;
         strides += 1;
     }
     visits.look_at(strides + 1);
     begin
 }
 
-/// The first place of the bucket that ends before `end`.
-fn begin_of(queue: &[Waiting], end: usize, visits: &mut Visits) -> usize
-    requires few { length queue.now ≤ WAITING_MAX }
+/// Goes back from a place to the first behind all updates that were not sent so often.
+fn step_back(slots: &[Slot], place: usize, count: u32, visits: &mut Visits) -> usize
+    requires few { length slots.now ≤ SLOTS_MAX }
+    requires place { place < length slots.now }
+    requires begun { visits.old ≤ 3000 }
+    ensures back { result ≤ place }
+    ensures same { (x : ℕ) → result ≤ x → x < place
+        → (at slots.now x).waits ≡ true → (at slots.now x).count ≡ count }
+    ensures live { 0 < result → (at slots.now (result - 1)).waits ≡ true }
+    ensures other { 0 < result → (at slots.now (result - 1)).count ≢ count }
+    ensures visits { visits.new + result ≤ visits.old + place + 1 }
+{
+    let mut begin = place;
+    while 0 < begin && !slots[begin - 1].is_sent_otherwise(count) {
+        begin -= 1;
+    }
+    visits.look_at(place - begin + 1);
+    begin
+}
+
+/// The first place of the bucket that ends before `end`, or of gaps before it.
+fn begin_of(slots: &[Slot], end: usize, visits: &mut Visits) -> usize
+    requires few { length slots.now ≤ SLOTS_MAX }
+    requires falling { NeverRise (waiting slots.now) }
     requires some { 0 < end }
-    requires end { end ≤ length queue.now }
-    requires begun { visits.old ≤ 700 }
+    requires end { end ≤ length slots.now }
+    requires last { (at slots.now (end - 1)).waits ≡ true }
+    requires begun { visits.old ≤ 1000 }
     ensures before { result < end }
-    ensures same { (at queue.now result).count ≡ (at queue.now (end - 1)).count }
-    ensures first { 0 < result
-        → (at queue.now (result - 1)).count ≢ (at queue.now (end - 1)).count }
+    ensures same { (x : ℕ) → result ≤ x → x < end → (at slots.now x).waits ≡ true
+        → (at slots.now x).count ≡ (at slots.now (end - 1)).count }
+    ensures live { 0 < result → (at slots.now (result - 1)).waits ≡ true }
+    ensures other { 0 < result
+        → (at slots.now (result - 1)).count ≢ (at slots.now (end - 1)).count }
     ensures visits { visits.new + result ≤ visits.old + end + 2 }
 {
     visits.look();
-    let count = queue[end - 1].count;
-    let near = go_back(queue, end - 1, count, STRIDE, visits);
-    go_back(queue, near, count, 1, visits)
+    let count = slots[end - 1].count;
+    let near = stride_back(slots, end - 1, count, visits);
+    step_back(slots, near, count, visits)
 }
 
-/// Takes the places from `begin` to before `end`, as long as there is room.
-fn take_bucket(begin: usize, end: usize, room: usize, places: &mut ArrayVec<u16, UPDATES_MAX>)
-    requires begin { begin ≤ end }
-    requires end { end ≤ WAITING_MAX }
+/// Takes the places from `begin` to before `end` that are no gaps, as long as there is room.
+fn take_bucket(
+    slots: &[Slot],
+    begin: usize,
+    end: usize,
+    room: usize,
+    places: &mut ArrayVec<u16, UPDATES_MAX>,
+    visits: &mut Visits,
+)
+    requires few { length slots.now ≤ SLOTS_MAX }
+    requires begin { begin < end }
+    requires end { end ≤ length slots.now }
+    requires last { (at slots.now (end - 1)).waits ≡ true }
     requires room { room ≤ UPDATES_MAX }
-    requires before { length places.old.items ≤ room }
+    requires before { length places.old.items < room }
+    requires begun { visits.old ≤ 2000 }
     ensures places { places.new.items
-        ≡ take room (places.old.items ++ range_with_len begin (end - begin)) }
+        ≡ take room (places.old.items ++ lives slots.now begin (end - begin)) }
     ensures room { length places.new.items ≤ room }
-    ensures taken { length places.old.items < room → begin < end
-        → length places.old.items < length places.new.items }
+    ensures some { length places.old.items < length places.new.items }
+    ensures visits { visits.new + begin ≤ visits.old + end }
 {
-    let count = (end - begin).min(room - places.len());
-    for place in begin..begin + count {
-        places.push(place as u16);
+    let mut place = begin;
+    while place < end && places.len() < room {
+        if slots[place].waits {
+            places.push(place as u16);
+        }
+        place += 1;
     }
+    visits.look_at(place - begin);
 }
 
-/// The places of the updates that the next datagram carries: bucket after bucket, from the end of the
-/// queue, as long as there is room.
+/// The places of the updates that the next datagram carries: bucket after bucket, from the last slot
+/// on, as long as there is room.
 fn next_places(
-    queue: &[Waiting],
+    slots: &[Slot],
     limit: u32,
     room: usize,
     visits: &mut Visits,
 ) -> ArrayVec<u16, UPDATES_MAX>
-    requires few { length queue.now ≤ WAITING_MAX }
-    requires falling { NeverRise queue.now }
+    requires few { length slots.now ≤ SLOTS_MAX }
+    requires falling { NeverRise (waiting slots.now) }
     requires room { room ≤ UPDATES_MAX }
     requires begun { visits.old ≡ 0 }
-    ensures places { result.items ≡ take room (runs limit queue.now) }
+    ensures places { result.items ≡ take room (runs limit slots.now) }
     ensures room { length result.items ≤ room }
-    ensures visits { visits.new ≤ 348 }
+    ensures visits { visits.new ≤ 828 }
 {
     let mut places = ArrayVec::new();
-    let mut end = queue.len();
+    let mut end = end_of(slots, visits);
     visits.look();
-    while 0 < end && queue[end - 1].count < limit && places.len() < room {
-        let begin = begin_of(queue, end, visits);
-        take_bucket(begin, end, room, &mut places);
+    while 0 < end && slots[end - 1].count < limit && places.len() < room {
+        let begin = begin_of(slots, end, visits);
+        take_bucket(slots, begin, end, room, &mut places, visits);
         visits.look();
         end = begin;
     }
@@ -105,47 +177,50 @@ fn next_places(
 
 /// Puts the updates at these places into an empty list, and counts one more send of each.
 fn send_at(
-    queue: &mut [Waiting],
+    slots: &mut [Slot],
     places: &[u16],
     updates: &mut ArrayVec<Update, UPDATES_MAX>,
     visits: &mut Visits,
 )
-    requires places { All (λ x. x < length queue.old) places.now }
-    requires counts { AreWithin BUCKETS_MAX queue.old }
+    requires places { All (λ x. (at slots.old x).waits ≡ true) places.now }
+    requires counts { AreWithin BUCKETS_MAX (waiting slots.old) }
     requires few { length places.now ≤ UPDATES_MAX }
     requires empty { updates.old.items ≡ [] }
     requires begun { visits.old ≤ 1000 }
-    ensures updates { updates.new.items ≡ map (λ x. (at queue.old x).update) places.now }
-    ensures queue { queue.new ≡ raised_at places.now queue.old }
+    ensures updates { updates.new.items ≡ map (λ x. (at slots.old x).update) places.now }
+    ensures slots { slots.new ≡ raised_at places.now slots.old }
+    ensures long { length slots.new ≡ length slots.old }
     ensures visits { visits.new ≤ visits.old + UPDATES_MAX }
 {
     visits.look_at(places.len());
     for place in places {
-        updates.push(queue[*place as usize].update);
-        queue[*place as usize].count += 1;
+        updates.push(slots[*place as usize].update);
+        slots[*place as usize].count += 1;
     }
 }
 
 /// Puts the updates that the next datagram carries into an empty list, and counts the send of each.
 pub(crate) fn pick_from(
-    queue: &mut [Waiting],
+    slots: &mut [Slot],
     limit: u32,
     room: usize,
     updates: &mut ArrayVec<Update, UPDATES_MAX>,
     visits: &mut Visits,
 )
     requires room { room ≤ UPDATES_MAX }
-    requires apart { AreApart queue.old }
-    requires few { length queue.old ≤ WAITING_MAX }
-    requires counts { AreWithin BUCKETS_MAX queue.old }
-    requires falling { NeverRise queue.old }
+    requires apart { AreApart (waiting slots.old) }
+    requires few { length slots.old ≤ SLOTS_MAX }
+    requires counts { AreWithin BUCKETS_MAX (waiting slots.old) }
+    requires falling { NeverRise (waiting slots.old) }
     requires empty { updates.old.items ≡ [] }
     requires begun { visits.old ≡ 0 }
-    ensures picked { updates.new.items ≡ picked_updates limit room queue.old }
-    ensures counted { queue.new ≡ map (raise_all (picked_updates limit room queue.old)) queue.old }
-    ensures falling { NeverRise queue.new }
-    ensures visits { visits.new ≤ 378 }
+    ensures picked { updates.new.items ≡ picked_updates limit room (waiting slots.old) }
+    ensures counted { waiting slots.new
+        ≡ map (raise_all (picked_updates limit room (waiting slots.old))) (waiting slots.old) }
+    ensures falling { NeverRise (waiting slots.new) }
+    ensures long { length slots.new ≡ length slots.old }
+    ensures visits { visits.new ≤ 858 }
 {
-    let places = next_places(queue, limit, room, visits);
-    send_at(queue, &places, updates, visits);
+    let places = next_places(slots, limit, room, visits);
+    send_at(slots, &places, updates, visits);
 }

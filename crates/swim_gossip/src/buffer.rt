@@ -2,11 +2,12 @@
 
 ghost use Rattle.std.specs.Prelude.{◌≡◌, ℕ, ◌+◌, ◌<◌, ◌≤◌, List, [], ◌∷◌, ◌++◌, length, map};
 ghost use Rattle.swim_wire.specs.Filler.{filler};
-ghost use Rattle.swim_gossip.specs.Queue.{without, offered_queue, queue_place, picked_updates, raise_all, AreApart};
-ghost use Rattle.swim_gossip.specs.Buckets.{AreWithin, NeverRise};
+ghost use Rattle.swim_gossip.specs.Queue.{without, offered_queue, picked_updates, raise_all, AreApart, AreWithin, NeverRise};
+ghost use Rattle.swim_gossip.specs.Buckets.{waiting};
 ghost use Rattle.swim_wire.specs.declared.datagram.TheConstants.{UPDATES_MAX};
 
 use crate::buckets::pick_from;
+use crate::slots::{HINTS_MAX, SLOTS_MAX, Slot, clear_about, fill, hint_of, put, waiting_in};
 use crate::visits::Visits;
 use arrayvec::ArrayVec;
 use std::marker::Model;
@@ -43,94 +44,52 @@ pub const BUCKETS_MAX: u32 = 144;
 /// equally often stand side by side: they are the buckets `most` to 0, in this order.
 #[derive(Drop)]
 pub struct Buffer {
-    queue: ArrayVec<Waiting, WAITING_MAX>,
+    /// What waits, and gaps where what waited was removed.
+    slots: ArrayVec<Slot, SLOTS_MAX>,
+    /// How many wait.
+    len: usize,
+    /// For each member where its update may stand. Members may share a hint, so it is only a hint.
+    hints: [u16; HINTS_MAX],
     most: u32,
 }
 
 impl Model for Buffer {
+    ghost use Rattle.std.specs.Prelude.{◌≡◌, ◌≤◌, length};
     ghost use Rattle.swim_gossip.specs.Queue.{Gossip};
-    ghost use Rattle.swim_gossip.specs.Buckets.{AreKept};
+    ghost use Rattle.swim_gossip.specs.Buckets.{waiting, AreKept};
+    ghost use Rattle.swim_gossip.specs.declared.buffer.TheConstants.{WAITING_MAX};
 
     ghost Value = { Gossip };
 
-    ghost view = { λ b. record { queue = b.queue.items; most = b.most } };
+    ghost view = { λ b. record { queue = waiting b.slots.items; most = b.most } };
 
-    ghost invariant = { λ b. AreKept b.queue.items b.most };
-}
-
-/// Where the update about a member stands, or how many wait. It is looked for from both ends: what
-/// is told anew began to wait mostly long ago or just now.
-fn place_of(queue: &[Waiting], who: Endpoint, visits: &mut Visits) -> usize
-    requires apart { AreApart queue.now }
-    requires few { length queue.now ≤ WAITING_MAX }
-    requires begun { visits.old ≡ 0 }
-    ensures place { result ≡ queue_place who queue.now }
-    ensures visits { visits.new ≤ 258 }
-{
-    let half = queue.len() - queue.len() / 2;
-    for i in 0..half {
-        if queue[i].update.who == who {
-            visits.look_at(2 * i + 1);
-            return i;
-        }
-        let back = queue.len() - 1 - i;
-        if queue[back].update.who == who {
-            visits.look_at(2 * i + 2);
-            return back;
-        }
-    }
-    visits.look_at(2 * half);
-    queue.len()
-}
-
-/// Removes the update about a member, if there is one. Each one behind it moves.
-fn remove_about(queue: &mut ArrayVec<Waiting, WAITING_MAX>, who: Endpoint, visits: &mut Visits)
-    requires apart { AreApart queue.old.items }
-    requires begun { visits.old ≡ 0 }
-    ensures queue { queue.new.items ≡ without who queue.old.items }
-    ensures visits { visits.new ≤ 515 }
-{
-    let place = place_of(queue, who, visits);
-    if place < queue.len() {
-        visits.look_at(queue.len() - place);
-        queue.remove(place);
-    }
-}
-
-/// Puts an update at the end, in the place of the one about the same member.
-fn offer_in(queue: &mut ArrayVec<Waiting, WAITING_MAX>, update: Update, visits: &mut Visits)
-    requires apart { AreApart queue.old.items }
-    requires room { length (without update.who queue.old.items) < WAITING_MAX }
-    requires begun { visits.old ≡ 0 }
-    ensures queue { queue.new.items ≡ offered_queue queue.old.items update }
-    ensures visits { visits.new ≤ 516 }
-{
-    remove_about(queue, update.who, visits);
-    visits.look();
-    queue.push(Waiting { update, count: 0 });
+    ghost invariant = { λ b. AreKept (waiting b.slots.items) b.most
+        × (b.len ≡ length (waiting b.slots.items))
+        × (b.len ≤ WAITING_MAX) };
 }
 
 /// Puts the updates that the next datagram carries into an empty list, and counts the send of each.
 fn pick_in(
-    queue: &mut ArrayVec<Waiting, WAITING_MAX>,
+    slots: &mut ArrayVec<Slot, SLOTS_MAX>,
     limit: u32,
     room: usize,
     updates: &mut ArrayVec<Update, UPDATES_MAX>,
     visits: &mut Visits,
 )
     requires room { room ≤ UPDATES_MAX }
-    requires apart { AreApart queue.old.items }
-    requires counts { AreWithin BUCKETS_MAX queue.old.items }
-    requires falling { NeverRise queue.old.items }
+    requires apart { AreApart (waiting slots.old.items) }
+    requires counts { AreWithin BUCKETS_MAX (waiting slots.old.items) }
+    requires falling { NeverRise (waiting slots.old.items) }
     requires empty { updates.old.items ≡ [] }
     requires begun { visits.old ≡ 0 }
-    ensures picked { updates.new.items ≡ picked_updates limit room queue.old.items }
-    ensures counted { queue.new.items
-        ≡ map (raise_all (picked_updates limit room queue.old.items)) queue.old.items }
-    ensures falling { NeverRise queue.new.items }
-    ensures visits { visits.new ≤ 378 }
+    ensures picked { updates.new.items ≡ picked_updates limit room (waiting slots.old.items) }
+    ensures counted { waiting slots.new.items
+        ≡ map (raise_all (picked_updates limit room (waiting slots.old.items)))
+        (waiting slots.old.items) }
+    ensures falling { NeverRise (waiting slots.new.items) }
+    ensures visits { visits.new ≤ 858 }
 {
-    pick_from(queue, limit, room, updates, visits);
+    pick_from(slots, limit, room, updates, visits);
 }
 
 impl Buffer {
@@ -139,7 +98,12 @@ impl Buffer {
         requires { most ≤ BUCKETS_MAX }
         ensures { result ≡ record { queue = []; most = most } }
     {
-        Buffer::with_queue(ArrayVec::new(), most)
+        Buffer {
+            slots: ArrayVec::new(),
+            len: 0,
+            hints: [0; HINTS_MAX],
+            most,
+        }
     }
 
     /// A buffer with the buckets 0 to `most` in which these updates wait, as they did in another one.
@@ -151,14 +115,22 @@ impl Buffer {
         requires most { most ≤ BUCKETS_MAX }
         ensures { result ≡ record { queue = queue.items; most = most } }
     {
-        Buffer { queue, most }
+        let mut slots = ArrayVec::new();
+        let mut hints = [0; HINTS_MAX];
+        fill(&queue, &mut slots, &mut hints);
+        Buffer {
+            slots,
+            len: queue.len(),
+            hints,
+            most,
+        }
     }
 
     /// The updates that wait, in the order in which they began.
-    pub fn queue(&self) -> &[Waiting]
-        ensures { result.now ≡ self.now.queue }
+    pub fn queue(&self) -> ArrayVec<Waiting, WAITING_MAX>
+        ensures { result.items ≡ self.now.queue }
     {
-        &self.queue
+        waiting_in(&self.slots)
     }
 
     /// How many updates stand in the buffer.
@@ -168,7 +140,7 @@ impl Buffer {
         ensures kept { AreApart self.now.queue }
         ensures falling { NeverRise self.now.queue }
     {
-        self.queue.len()
+        self.len
     }
 
     /// The last of its buckets.
@@ -187,7 +159,10 @@ impl Buffer {
         ensures kept { AreApart self.new.queue }
         ensures visits { visits.new ≤ 1000 }
     {
-        offer_in(&mut self.queue, update, visits);
+        let hint = self.hints[hint_of(update.who)] as usize;
+        self.len -= clear_about(&mut self.slots, update.who, hint, visits);
+        put(&mut self.slots, &mut self.hints, self.len, update, visits);
+        self.len += 1;
     }
 
     /// Takes out the update about a member, if there is one.
@@ -197,7 +172,8 @@ impl Buffer {
         ensures kept { AreApart self.new.queue }
         ensures visits { visits.new ≤ 1000 }
     {
-        remove_about(&mut self.queue, who, visits);
+        let hint = self.hints[hint_of(who)] as usize;
+        self.len -= clear_about(&mut self.slots, who, hint, visits);
     }
 
     /// Gives the updates that the next datagram carries, at most `room`, and counts the send of each.
@@ -222,7 +198,7 @@ impl Buffer {
         ensures visits { visits.new ≤ 1000 }
     {
         let mut updates = ArrayVec::new();
-        pick_in(&mut self.queue, limit, room, &mut updates, visits);
+        pick_in(&mut self.slots, limit, room, &mut updates, visits);
         updates
     }
 }

@@ -4,7 +4,7 @@ ghost use Rattle.std.specs.Prelude.{◌≡◌, ℕ, ◌+◌, ◌<◌};
 
 use std::marker::Model;
 
-/// How many looks a call took: each at an update that waits. An update that moves is one more.
+/// How many looks a call took: each at a slot. A slot that moves is one more.
 #[derive(Drop)]
 pub struct Visits {
     made: u32,

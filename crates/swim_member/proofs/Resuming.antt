@@ -8,8 +8,7 @@ use Rattle.swim_rules.specs.declared.table.Row.{Row}
 use Rattle.swim_rules.specs.Rules.{is_about}
 use Rattle.swim_rules.specs.Rows.{AreAbove, AreInOrder, row_of}
 use Rattle.swim_gossip.specs.declared.buffer.Waiting.{Waiting}
-use Rattle.swim_gossip.specs.Buckets.{AreWithin, NeverRise}
-use Rattle.swim_gossip.specs.Queue.{AreApart, is_queued}
+use Rattle.swim_gossip.specs.Queue.{AreApart, is_queued, AreWithin, NeverRise}
 use Rattle.swim_gossip.proofs.Raised.{within-more}
 use Rattle.swim_member.specs.declared.resume.ResumeFault.{ResumeFault}
 use Rattle.swim_member.specs.declared.state.Relay.{Relay}

@@ -436,7 +436,7 @@ impl Member {
             phase: self.phase,
             time: self.time,
             rows: copy_rows(self.table.rows()),
-            queue: copy_queue(self.buffer.queue()),
+            queue: self.buffer.queue(),
             seq: self.seq,
             probe: self.probe,
             relays: copy_relays(&self.relays),

@@ -36,7 +36,7 @@ pub(crate) fn pick(
     holds(rt, room <= UPDATES_MAX && limit <= buffer.most());
     let mut visits = Visits::new();
     let updates = buffer.pick(limit, room, &mut visits);
-    holds(rt, visits.made() <= 378);
+    holds(rt, visits.made() <= 858);
     updates
 }
 

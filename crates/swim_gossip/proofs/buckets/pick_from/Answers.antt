@@ -1,31 +1,32 @@
-use Rattle.std.proofs.Common.{◌<◌, ℕ, List, length, map, sym, subst, ◌∙◌, ap}
+use Rattle.std.proofs.Common.{◌≡◌, true, ℕ, List, map, sym, subst, ◌∙◌, ap}
 use Rattle.std.specs.List.{All}
 use Rattle.swim_wire.specs.declared.update.Update.{Update}
-use Rattle.swim_gossip.specs.Queue.{raise_all}
-use Rattle.swim_gossip.specs.Buckets.{at, raised_at, NeverRise}
+use Rattle.swim_gossip.specs.declared.slots.Slot.{Slot}
+use Rattle.swim_gossip.specs.Queue.{raise_all, NeverRise}
+use Rattle.swim_gossip.specs.Buckets.{at, raised_at, waiting}
 use Rattle.swim_gossip.proofs.Falling.{falling-raised}
 use Rattle.swim_gossip.proofs.Runs.{picked-runs}
-use Rattle.swim_gossip.proofs.Raised.{low-all, raised-runs}
+use Rattle.swim_gossip.proofs.Raised.{live-all, raised-runs}
 use Rattle.swim_gossip.proofs.buckets.pick_from.Goals as goal
 
 pub send_at-requires-clause-places : goal.send_at-requires-clause-places
 send_at-requires-clause-places c =
-    subst (λ (xs : List ℕ). All (λ (x : ℕ). x < length c.args.queue.now) xs) (sym (c.deref.ensures.0 ∙ c.next_places-places.ensures.places)) (low-all c.args.limit c.args.room c.args.queue.now)
+    subst (λ (xs : List ℕ). All (λ (x : ℕ). (at c.args.slots.now x).waits ≡ true) xs) (sym (c.deref.ensures.0 ∙ c.next_places-places.ensures.places)) (live-all c.args.limit c.args.room c.args.slots.now)
 
 pub returns-clause-picked : goal.returns-clause-picked
 returns-clause-picked c =
     c.send_at.ensures.updates
-    ∙ ap (map (λ (x : ℕ). (at c.args.queue.now x).update)) (c.deref.ensures.0 ∙ c.next_places-places.ensures.places)
-    ∙ picked-runs c.args.limit c.args.room c.args.queue.now
+    ∙ ap (map (λ (x : ℕ). (at c.args.slots.now x).update)) (c.deref.ensures.0 ∙ c.next_places-places.ensures.places)
+    ∙ picked-runs c.args.limit c.args.room c.args.slots.now
 
 pub returns-clause-counted : goal.returns-clause-counted
 returns-clause-counted c =
-    c.send_at.ensures.queue
-    ∙ ap (λ (xs : List ℕ). raised_at xs c.args.queue.now) (c.deref.ensures.0 ∙ c.next_places-places.ensures.places)
-    ∙ raised-runs c.args.limit c.args.room c.args.queue.now c.requires.few c.requires.apart
-    ∙ ap (λ (us : List Update). map (raise_all us) c.args.queue.now) (picked-runs c.args.limit c.args.room c.args.queue.now)
+    ap waiting c.send_at.ensures.slots
+    ∙ ap (λ (xs : List ℕ). waiting (raised_at xs c.args.slots.now)) (c.deref.ensures.0 ∙ c.next_places-places.ensures.places)
+    ∙ raised-runs c.args.limit c.args.room c.args.slots.now c.requires.few c.requires.apart
+    ∙ ap (λ (us : List Update). map (raise_all us) (waiting c.args.slots.now)) (picked-runs c.args.limit c.args.room c.args.slots.now)
 
 pub returns-clause-falling : goal.returns-clause-falling
 returns-clause-falling c =
-    subst NeverRise (sym (c.send_at.ensures.queue ∙ ap (λ (xs : List ℕ). raised_at xs c.args.queue.now) (c.deref.ensures.0 ∙ c.next_places-places.ensures.places)))
-    (falling-raised c.args.limit c.args.room c.args.queue.now c.requires.few c.requires.falling)
+    subst (λ (slots : List Slot). NeverRise (waiting slots)) (sym (c.send_at.ensures.slots ∙ ap (λ (xs : List ℕ). raised_at xs c.args.slots.now) (c.deref.ensures.0 ∙ c.next_places-places.ensures.places)))
+    (falling-raised c.args.limit c.args.room c.args.slots.now c.requires.few c.requires.falling)

@@ -1,10 +1,11 @@
-use Rattle.std.proofs.Common.{◌≡◌, ◌+◌, ◌≤◌}
+use Rattle.std.proofs.Common.{◌≡◌, ◌+◌, ◌≤◌, true}
 use Rattle.swim_gossip.specs.Buckets.{at}
-use Rattle.swim_gossip.proofs.buckets.go_back.Given as goal
+use Rattle.swim_gossip.proofs.buckets.stride_back.Given as goal
 
 abbrev pub invariant-loop-begin : goal.invariant-loop-begin
 invariant-loop-begin l = record {
-  same : (at l.queue l.begin).count ≡ l.count;
+  here : (at l.slots l.begin).waits ≡ true;
+  same : (at l.slots l.begin).count ≡ l.count;
   back : l.begin + l.strides ≤ l.place;
 }
 
