@@ -89,8 +89,9 @@ pub extern "C" fn swim_bench_ticks(before: &[u8], period: u64, turns: u32, out: 
     let Some(mut member) = member_after(before, period) else {
         return 0;
     };
-    let mut sent = 0;
     let event = Event::Tick { deal: deal() };
+    let mut answer = Answer::nothing();
+    let mut sent = 0;
     for _ in 0..turns {
         sent += turn_of(&mut member, &event, &mut answer, out) as u64;
     }
