@@ -8,7 +8,7 @@ ghost use Rattle.swim_member.specs.declared.answer.TheConstants.{OUTS_MAX};
 
 use crate::codec::write;
 use crate::scene::{deal, make_newer, member_after, received};
-use swim_member::{Event, Member, Out};
+use swim_member::{Answer, Event, Member, Out};
 
 /// Writes the datagrams over the first bytes, one after the other, and answers how many there are.
 pub(crate) fn write_all(outs: &[Out], out: &mut [u8]) -> usize
@@ -24,15 +24,16 @@ pub(crate) fn write_all(outs: &[Out], out: &mut [u8]) -> usize
     outs.len()
 }
 
-/// One step, in which no number is granted above the own one, and what it sends.
-fn turn_of(member: &mut Member, event: &Event, out: &mut [u8]) -> usize
+/// One step, in which no number is granted above the own one, and what it sends. The answer is lent, as a node lends it.
+fn turn_of(member: &mut Member, event: &Event, answer: &mut Answer, out: &mut [u8]) -> usize
     requires { DATAGRAM_MAX ≤ length out.old }
     ensures few { result ≤ OUTS_MAX }
     ensures text { 0 < result → BeginsWithText out.new }
     ensures kept { result ≡ 0 → out.new ≡ out.old }
 {
+    answer.clear();
     let granted = member.number();
-    let answer = member.step(event, granted);
+    member.step_into(event, granted, answer);
     write_all(&answer.outs, out)
 }
 
@@ -47,9 +48,10 @@ pub extern "C" fn swim_bench_pings(before: &[u8], text: &[u8], turns: u32, out: 
         return 0;
     };
     let event = received(text);
+    let mut answer = Answer::nothing();
     let mut sent = 0;
     for _ in 0..turns {
-        sent += turn_of(&mut member, &event, out) as u64;
+        sent += turn_of(&mut member, &event, &mut answer, out) as u64;
     }
     sent
 }
@@ -69,10 +71,11 @@ pub extern "C" fn swim_bench_newer_pings(
     let Some(mut member) = member_after(before, 1000) else {
         return 0;
     };
+    let mut answer = Answer::nothing();
     let mut sent = 0;
     for turn in 0..turns {
         make_newer(text, turn);
-        sent += turn_of(&mut member, &received(text), out) as u64;
+        sent += turn_of(&mut member, &received(text), &mut answer, out) as u64;
     }
     sent
 }
@@ -86,10 +89,11 @@ pub extern "C" fn swim_bench_ticks(before: &[u8], period: u64, turns: u32, out: 
     let Some(mut member) = member_after(before, period) else {
         return 0;
     };
-    let mut sent = 0;
     let event = Event::Tick { deal: deal() };
+    let mut answer = Answer::nothing();
+    let mut sent = 0;
     for _ in 0..turns {
-        sent += turn_of(&mut member, &event, out) as u64;
+        sent += turn_of(&mut member, &event, &mut answer, out) as u64;
     }
     sent
 }

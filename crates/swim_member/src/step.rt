@@ -7,8 +7,8 @@ ghost use Rattle.swim_wire.specs.declared.rules.Rules.TheVariants.{Two};
 ghost use Rattle.swim_member.specs.declared.state.Phase.TheVariants.{Expelled};
 ghost use Rattle.swim_member.specs.Checks.{rules_of};
 ghost use Rattle.swim_member.specs.State.{State};
-ghost use Rattle.swim_member.specs.Judge.{judge, wanted, number_wanted, MayAct};
-ghost use Rattle.swim_member.specs.Events.{Step, state_of, answer, number_after, actions_of, Show, no_answer};
+ghost use Rattle.swim_member.specs.Judge.{judge, wanted, number_wanted, MayAct, HasDeal};
+ghost use Rattle.swim_member.specs.Events.{Step, state_of, answer, number_after, actions, actions_of, Show, no_answer};
 ghost use Rattle.swim_member.specs.Fit.{is_fit, AreAll, own_numbers_in};
 ghost use Rattle.swim_member.specs.Machinery.Steps.{after, answer_by};
 ghost use Rattle.swim_member.specs.declared.event.Event.{Event as Events};
@@ -17,6 +17,8 @@ use crate::answer::Answer;
 use crate::event::Event;
 use crate::judge::Judgement;
 use crate::member::Member;
+use crate::state::Phase;
+use crate::tick::LAST_TIME;
 use swim_wire::Cursor;
 
 impl Member {
@@ -87,6 +89,74 @@ impl Member {
         let _ = &self.settings;
     }
 
+    /// Judges an event, and does what was judged.
+    fn obey_judged(&mut self, event: &Event, granted: u64, answer: &mut Answer)
+        requires { answer.old ≡ no_answer }
+        ensures state { self.new ≡ after self.old (actions self.old event.now granted) }
+        ensures answer { answer.new ≡ answer_by self.old (actions self.old event.now granted) }
+        ensures fit { list_all (is_fit self.new.settings.me self.new.number) answer.new.outs.items
+            ≡ true }
+        ensures few { length answer.new.outs.items ≤ self.old.settings.helpers + 2 }
+        ensures deal { HasDeal event.now }
+    {
+        let judged = self.judge(event);
+        self.obey(&judged, granted, answer);
+    }
+
+    /// Does what is judged of an event. A tick that counts goes without a judgement, which has room for a datagram.
+    fn obey_event(&mut self, event: &Event, granted: u64, answer: &mut Answer)
+        requires { answer.old ≡ no_answer }
+        ensures state { self.new ≡ after self.old (actions self.old event.now granted) }
+        ensures answer { answer.new ≡ answer_by self.old (actions self.old event.now granted) }
+        ensures fit { list_all (is_fit self.new.settings.me self.new.number) answer.new.outs.items
+            ≡ true }
+        ensures few { length answer.new.outs.items ≤ self.old.settings.helpers + 2 }
+        ensures deal { HasDeal event.now }
+    {
+        if let Event::Tick { deal } = event {
+            if self.phase == Phase::Running && self.time < LAST_TIME {
+                // the type's invariant holds
+                let _ = deal.numbers();
+                self.tick(deal, answer);
+                return;
+            }
+        }
+        self.obey_judged(event, granted, answer);
+    }
+
+    /// Takes an event as `step` does, and says in the answer, which must be empty, what is sent, noted and shown.
+    pub fn step_into(&mut self, event: &Event, granted: u64, said: &mut Answer)
+        requires nothing { said.old ≡ no_answer }
+        requires low { self.old.number ≤ granted }
+        // whatever history this member's state is that of, with this event it goes on
+        ensures state { (base : State) → (steps : List Step)
+            → state_of base steps ≡ self.old
+            → state_of base (steps ++ record { event = event.now; granted = granted } ∷ [])
+            ≡ self.new }
+        ensures answer { (base : State) → (steps : List Step)
+            → state_of base steps ≡ self.old
+            → answer base steps event.now granted ≡ said.new }
+        ensures few { length said.new.outs.items ≤ self.old.settings.helpers + 2 }
+        // what is sent can be written
+        ensures fit { All (λ out. HasText out.datagram) said.new.outs.items }
+        // what is said of oneself is said with the own number as it then is
+        ensures own { AreAll self.new.number
+            (own_numbers_in self.new.settings.me said.new.outs.items) }
+        ensures number { self.new.number
+            ≡ number_after (wanted self.old event.now) granted self.old.number }
+        ensures settings { self.new.settings ≡ self.old.settings }
+        // by rules 2 no event expels
+        ensures stays { rules_of self.old.settings ≡ Two
+            → self.old.phase ≢ Expelled → self.new.phase ≢ Expelled }
+        // a history may begin anew from the new state
+        ensures base { state_of self.new [] ≡ self.new }
+        ensures deal { HasDeal event.now }
+    {
+        self.obey_event(event, granted, said);
+        // the type's invariant holds of the new state
+        let _ = &self.settings;
+    }
+
     /// Takes an event, with the ceiling that was granted for it, and gives what is sent, noted and
     /// shown. The member takes the number that the event wants where the ceiling is at least that,
     /// and else keeps its own.
@@ -115,9 +185,8 @@ impl Member {
         // a history may begin anew from the new state
         ensures base { state_of self.new [] ≡ self.new }
     {
-        let judged = self.judge(event);
         let mut answer = Answer::nothing();
-        self.act(&judged, granted, &mut answer);
+        self.step_into(event, granted, &mut answer);
         answer
     }
 }

@@ -2,6 +2,7 @@
 
 ghost use Rattle.std.specs.Prelude.{◌≡◌, ◌≤◌, All};
 ghost use Rattle.swim_wire.specs.Spelling.{HasText};
+ghost use Rattle.swim_member.specs.Events.{no_answer};
 ghost use Rattle.swim_member.specs.Judge.{wanted, HasDeal};
 ghost use Rattle.swim_node.specs.Peers.{known_peers};
 ghost use Rattle.swim_node.specs.Saving.{Saved};
@@ -22,6 +23,51 @@ pub(crate) struct Done {
     pub granted: u64,
     pub save: Save,
     pub outcomes: ArrayVec<Outcome, OUTS_MAX>,
+}
+
+/// Judges an event, saves what it wants, and acts with the ceiling that stands.
+fn step_judged<D: Disk>(
+    member: &mut Member,
+    store: &mut Store<D>,
+    event: &Event,
+    answer: &mut Answer,
+) -> Save
+    requires low { member.old.number ≤ store.old.ceiling }
+    requires nothing { answer.old ≡ no_answer }
+    ensures saved { Saved D.keeps_model D.state member.old.settings.block
+        (known_peers member.old) (wanted member.old event.now) result store.old store.new }
+    ensures steps { Steps member.old member.new event.now store.new.ceiling answer.new }
+    ensures deal { HasDeal event.now }
+    ensures texts { All (λ out. HasText out.datagram) answer.new.outs.items }
+{
+    let judged = member.judge(event);
+    let save = save(store, member, judged.wanted());
+    member.act(&judged, store.ceiling(), answer);
+    save
+}
+
+/// Saves what an event wants, and steps with the ceiling that stands. A tick wants no number, and goes without a
+/// judgement, which has room for a datagram.
+fn step<D: Disk>(
+    member: &mut Member,
+    store: &mut Store<D>,
+    event: &Event,
+    answer: &mut Answer,
+) -> Save
+    requires low { member.old.number ≤ store.old.ceiling }
+    requires nothing { answer.old ≡ no_answer }
+    ensures saved { Saved D.keeps_model D.state member.old.settings.block
+        (known_peers member.old) (wanted member.old event.now) result store.old store.new }
+    ensures steps { Steps member.old member.new event.now store.new.ceiling answer.new }
+    ensures deal { HasDeal event.now }
+    ensures texts { All (λ out. HasText out.datagram) answer.new.outs.items }
+{
+    if let Event::Tick { deal: _ } = event {
+        let save = save(store, member, None);
+        member.step_into(event, store.ceiling(), answer);
+        return save;
+    }
+    step_judged(member, store, event, answer)
 }
 
 /// Judges an event, saves what it wants, acts with the ceiling that stands, and sends. The answer is what the member
@@ -45,13 +91,10 @@ pub(crate) fn enter<D: Disk, L: Link>(
         (L.failures link.new) answer.new.outs.items result.outcomes.items }
 {
     answer.clear();
-    let judged = member.judge(event);
-    let save = save(store, member, judged.wanted());
-    let granted = store.ceiling();
-    member.act(&judged, granted, answer);
+    let save = step(member, store, event, answer);
     let outcomes = send_all(link, &answer.outs);
     Done {
-        granted,
+        granted: store.ceiling(),
         save,
         outcomes,
     }

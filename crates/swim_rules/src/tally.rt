@@ -14,8 +14,8 @@ use swim_wire::UpdateKind;
 pub(crate) struct Tally {
     /// How many there are.
     pub(crate) count: usize,
-    /// A tick before which none of them was heard. It falls with a row that was heard earlier, and a walk that finds
-    /// none that is due makes it the earliest. So a row that goes leaves it too low, for one walk at most.
+    /// A tick before which none of them was heard. A row that was heard earlier lowers it. One that goes may leave it
+    /// too low, until a walk finds none that is due.
     pub(crate) since: u64,
 }
 

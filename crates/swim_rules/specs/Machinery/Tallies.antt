@@ -1,4 +1,5 @@
--- What a table keeps of its rows, so that it looks at none of them for a count, or while none is due.
+-- What a table keeps of its rows, so that it looks at
+-- none of them for a count, or while none is due.
 use Rattle.std.specs.Prelude.{◌≡◌, ℕ, ◌-◌, ◌^◌, ◌≤◌, min, List, [], ◌∷◌, length, if◌then◌else◌}
 use Rattle.std.specs.List.{filter}
 use Rattle.swim_wire.specs.declared.update.UpdateKind.{UpdateKind}
@@ -8,7 +9,8 @@ use Rattle.swim_rules.specs.declared.tally.Tally.{Tally}
 use Rattle.swim_rules.specs.declared.tally.Tallies.{Tallies}
 use Rattle.swim_rules.specs.Rows.{is_of_kind}
 
--- the earliest tick at which a row of this kind was heard, or the greatest number where there is none
+-- the earliest tick at which a row of this kind was heard,
+-- or the greatest number where there is none
 abbrev pub earliest : UpdateKind → List Row → ℕ
 earliest kind [] = 2 ^ 64 - 1
 earliest kind (r ∷ rows) =
