@@ -46,8 +46,10 @@ def tagged(pairs):
 
 def command_section(help):
     """A command: what it does, how it is called, and what its words mean."""
+    examples = help.lists.pop("Examples", [])
     pairs = [pair for heading in help.lists.values() for pair in heading]
-    return [spelled(help.about), ".PP", f".B {spelled(help.usage)}", *tagged(pairs)]
+    shown = [".PP", "Examples:", *tagged(examples)] if examples else []
+    return [spelled(help.about), ".PP", f".B {spelled(help.usage)}", *tagged(pairs), *shown]
 
 
 def page_of(program, date, command):

@@ -1,5 +1,6 @@
 """What a test starts: the program, with a folder for its files. In the end no process and no file of it is left."""
 
+import re
 import subprocess
 from contextlib import contextmanager, suppress
 from types import SimpleNamespace
@@ -63,6 +64,37 @@ def run_to_its_end(command, input=None, seconds=LONGEST, **more):
 
 def swim(*words, **more):
     return run_to_its_end([PLACE.program, *words], **more)
+
+
+# The second lines of docs/INCIDENTS.md, after the texts that have one.
+HINTS = (
+    (
+        r"init refused 1 NotEmpty|open refused (2 NotState|4 NoSlot)",
+        "if `swim init` was cut off before it was done, this is the part that it left: no number was sent then, so delete it and run"
+        ' `swim init` again. If a member has run on the file, keep it, and see "A lost state file" in OPERATIONS.md',
+    ),
+    (
+        r"open refused 3 WrongOwner",
+        "`group` or `me` is not the one that the file was made with: `swim show FILE` prints what it was made with",
+    ),
+    (r"settings refused .+", "SETTINGS.md says what each key takes; `swim run --show-settings FILE` tries a file and starts nothing"),
+    (
+        r"file refused",
+        "look whether the file is there, whether this user may use it, and whether another `swim run` has it",
+    ),
+    (
+        r"socket refused",
+        "to run, the addresses have to be this machine's and free (`ss -lntup`); to ask, a member has to run with this address as its"
+        " `control`",
+    ),
+    (r"address refused", "an address is an IPv4 endpoint without leading zeros, such as 127.0.0.1:7001"),
+)
+
+
+def refused(text):
+    """What the program says on standard error when it ends with this text."""
+    hints = [f"swim: {hint}\n" for wanted, hint in HINTS if re.fullmatch(wanted, text)]
+    return f"swim: {text}\n{''.join(hints)}"
 
 
 def why_no_namespace(*kinds):

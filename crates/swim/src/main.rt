@@ -20,7 +20,7 @@ use swim_ending::Ending;
 use swim_explain::{ExplainFault, explain_file, in_order};
 use swim_play::{play, play_recorded};
 use swim_replay::{RecordingFault, RecordingReason, after_first_line};
-use swim_run::run;
+use swim_run::{run, shown_settings};
 use swim_script::ScriptFault;
 use swim_show::ShowFault;
 use swim_survey::{Asked, AskedFault};
@@ -199,8 +199,13 @@ fn answer<T: Threads + Wait + Log + Clock + Send + Sync + Copy + Drop>(
             make(rt, file, group, me, ceiling)?;
             Ok(ExitCode::SUCCESS)
         }
-        Subcommand::Run { config } => {
-            run(rt, logged, config)?;
+        Subcommand::Run { config, shows } => {
+            if shows {
+                let text = shown_settings(rt, config)?;
+                print_bytes(rt, text.as_bytes())?;
+            } else {
+                run(rt, logged, config)?;
+            }
             Ok(ExitCode::SUCCESS)
         }
         Subcommand::Ctl { to, line, as_json } => ask_member(rt, to, line, as_json),

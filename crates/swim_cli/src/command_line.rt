@@ -1,5 +1,6 @@
 //! The words of the command line.
 
+use crate::examples;
 use clap::builder::ValueParser;
 use clap::{Arg, ArgAction, ArgMatches, Command, Error};
 use std::alloc::Global;
@@ -31,6 +32,8 @@ pub enum Subcommand<'a> {
     Run {
         /// The path of its settings.
         config: &'a str,
+        /// Whether they are only shown.
+        shows: bool,
     },
     /// One control line.
     Ctl {
@@ -128,6 +131,7 @@ fn init_command<'a>(alloc: Global) -> Result<Command<'a>, Error> {
     let ceiling = number(alloc, "ceiling", "The number above which the member begins");
     let command = Command::new(alloc, "init")
         .about("Makes a state file")
+        .after_help(examples::INIT)
         .arg(word(alloc, "file", "FILE", "The state file to make"))?
         .arg(group)?
         .arg(me)?
@@ -159,6 +163,7 @@ fn show_command<'a>(alloc: Global) -> Result<Command<'a>, Error> {
         "Prints what a state file says, and what `swim run` would do with it; it writes nothing";
     let command = Command::new(alloc, "show")
         .about(about)
+        .after_help(examples::SHOW)
         .arg(word(alloc, "file", "FILE", "The state file"))?
         .arg(json(alloc))?;
     Ok(command)
@@ -172,6 +177,7 @@ fn explain_command<'a>(alloc: Global) -> Result<Command<'a>, Error> {
         .trailing_var_arg(true);
     let command = Command::new(alloc, "explain")
         .about("Prints when a member was heard of, suspected, confirmed, and why")
+        .after_help(examples::EXPLAIN)
         .arg(member)?
         .arg(json(alloc))?
         .arg(files)?;
@@ -182,6 +188,7 @@ fn explain_command<'a>(alloc: Global) -> Result<Command<'a>, Error> {
 fn members_command<'a>(alloc: Global) -> Result<Command<'a>, Error> {
     let command = Command::new(alloc, "members")
         .about("Prints all members that a member knows")
+        .after_help(examples::MEMBERS)
         .arg(address(alloc))?
         .arg(json(alloc))?;
     Ok(command)
@@ -202,6 +209,7 @@ fn watch_command<'a>(alloc: Global) -> Result<Command<'a>, Error> {
         .help("Ends with status 1 where the member does not answer");
     let command = Command::new(alloc, "watch")
         .about("Prints what changes of the members, a line a change, until it is stopped")
+        .after_help(examples::WATCH)
         .arg(address(alloc))?
         .arg(json(alloc))?
         .arg(every)?
@@ -225,6 +233,7 @@ fn web_command<'a>(alloc: Global) -> Result<Command<'a>, Error> {
     );
     let command = Command::new(alloc, "web")
         .about("Serves what a member says over HTTP: a page, metrics, all rows and its health")
+        .after_help(examples::WEB)
         .arg(of.long("of"))?
         .arg(listen.default_value("127.0.0.1:7080"))?;
     Ok(command)
@@ -241,6 +250,7 @@ fn ctl_command<'a>(alloc: Global) -> Result<Command<'a>, Error> {
     let as_json = json(alloc).help("Prints the answer to status as a JSON object");
     let command = Command::new(alloc, "ctl")
         .about("Sends a control line and prints the answer")
+        .after_help(examples::CTL)
         .arg(address(alloc))?
         .arg(line.allow_hyphen_values(true))?
         .arg(as_json)?;
@@ -263,6 +273,7 @@ fn simulate_command<'a>(alloc: Global) -> Result<Command<'a>, Error> {
         "Plans with each of these numbers, as suspect=20..200,loss=0..30 or suspect=20..200/20";
     let command = Command::new(alloc, "simulate")
         .about("Simulates a group, and prints how soon it noticed who was killed")
+        .after_help(examples::SIMULATE)
         .arg(word(alloc, "plan", "PLAN", "What is simulated, a TOML table").required(false))?
         .arg(seed)?
         .arg(runs)?
@@ -272,23 +283,39 @@ fn simulate_command<'a>(alloc: Global) -> Result<Command<'a>, Error> {
     Ok(command)
 }
 
+/// `swim run [--show-settings] CONFIG`.
+fn run_command<'a>(alloc: Global) -> Result<Command<'a>, Error> {
+    let shows = Arg::new(alloc, "show-settings")
+        .long("show-settings")
+        .action(ArgAction::SetTrue)
+        .help("Prints the settings as they will be used, and starts nothing");
+    let command = Command::new(alloc, "run")
+        .about("Runs a member until it is stopped")
+        .after_help(examples::RUN)
+        .arg(word(alloc, "config", "CONFIG", "The settings, a TOML table"))?
+        .arg(shows)?;
+    Ok(command)
+}
+
 /// All that the program takes.
 fn command<'a>(alloc: Global) -> Result<Command<'a>, Error> {
-    let run = Command::new(alloc, "run")
-        .about("Runs a member until it is stopped")
-        .arg(word(alloc, "config", "CONFIG", "The settings, a TOML table"))?;
-    let play = Command::new(alloc, "play").about("Plays a script from standard input");
-    let check = Command::new(alloc, "check").about(
-        "Looks in a capture from standard input for a datagram that breaks the law of the group",
-    );
+    let play = Command::new(alloc, "play")
+        .about("Plays a script or a recording from standard input")
+        .after_help(examples::PLAY);
+    let check = Command::new(alloc, "check")
+        .about(
+            "Looks in a capture from standard input for a datagram that breaks the law of the group",
+        )
+        .after_help(examples::CHECK);
     let command = Command::new(alloc, "swim")
         .version("0.1.0")
         .about("A member of a SWIM group that survives its own restarts")
         .bin_name("swim")?
         .propagate_version(true)
+        .after_help(examples::PROGRAM)
         .subcommand_required(true)
         .subcommand(init_command(alloc)?)?
-        .subcommand(run)?
+        .subcommand(run_command(alloc)?)?
         .subcommand(ctl_command(alloc)?)?
         .subcommand(members_command(alloc)?)?
         .subcommand(watch_command(alloc)?)?
@@ -367,6 +394,7 @@ fn chosen<'a>(matches: &ArgMatches<'a>, all: &'a [String]) -> Option<Subcommand<
         "init" => init(words),
         "run" => Some(Subcommand::Run {
             config: text(words, "config"),
+            shows: words.get_flag("show-settings"),
         }),
         "ctl" => Some(Subcommand::Ctl {
             to: text(words, "addr"),

@@ -3,6 +3,7 @@
 
 mod command_line;
 mod descriptors;
+mod examples;
 mod log_stream;
 mod making;
 mod stamped;

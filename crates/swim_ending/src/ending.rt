@@ -63,6 +63,26 @@ pub enum Ending {
 const MAYBE_PART: &str =
     "if `swim init` was cut off before it was done, this is the part that it left: no number was sent then, so delete it and run `swim init` again. If a member has run on the file, keep it, and see \"A lost state file\" in OPERATIONS.md";
 
+/// What else to say where the owner of a state file is another.
+const OTHER_OWNER: &str =
+    "`group` or `me` is not the one that the file was made with: `swim show FILE` prints what it was made with";
+
+/// What else to say where settings are refused.
+const SETTINGS: &str =
+    "SETTINGS.md says what each key takes; `swim run --show-settings FILE` tries a file and starts nothing";
+
+/// What else to say where a file was refused.
+const FILE: &str =
+    "look whether the file is there, whether this user may use it, and whether another `swim run` has it";
+
+/// What else to say where a socket was refused.
+const SOCKET: &str =
+    "to run, the addresses have to be this machine's and free (`ss -lntup`); to ask, a member has to run with this address as its `control`";
+
+/// What else to say where an address was refused.
+const ADDRESS: &str =
+    "an address is an IPv4 endpoint without leading zeros, such as 127.0.0.1:7001";
+
 impl Ending {
     ghost use Rattle.std.specs.Prelude.{◌≡◌};
     ghost use Rattle.std.specs.Process.{exit_status};
@@ -75,6 +95,11 @@ impl Ending {
             Ending::Open(OpenFault::Refused(RecoverFault::NotState | RecoverFault::NoSlot)) => {
                 Some(MAYBE_PART)
             }
+            Ending::Open(OpenFault::Refused(RecoverFault::WrongOwner)) => Some(OTHER_OWNER),
+            Ending::Settings(_) => Some(SETTINGS),
+            Ending::File => Some(FILE),
+            Ending::Socket => Some(SOCKET),
+            Ending::Address => Some(ADDRESS),
             _ => None,
         }
     }

@@ -7,4 +7,4 @@ mod sockets;
 mod state_file;
 mod watched_doors;
 
-pub use running::run;
+pub use running::{run, shown_settings};

@@ -17,7 +17,7 @@ use std::time::{Clock, Duration};
 use swim_ending::Ending;
 use swim_scribe::Scribe;
 use swim_serve::{Beat, Desk, Logs, Outside, run_kept};
-use swim_settings::{Refusal, RunSettings, read_settings};
+use swim_settings::{Refusal, RunSettings, read_settings, show_settings};
 use swim_shell::{Joiner, Receiver, Ticker};
 use swim_start::{generators, key_of, paces_of, peers_of};
 
@@ -34,6 +34,16 @@ fn settings_at<R: Files<File = File> + AllocGlobal>(
         Err(Refusal::Memory) => Err(Ending::Memory),
         Err(refusal) => Err(Ending::Settings(refusal)),
     }
+}
+
+/// The settings that a file says, as the text of a file with all keys, but for `random_key`. Nothing else is opened, and nothing is
+/// written. An error is why `run` would end before it opens the state file.
+pub fn shown_settings<R: Files<File = File> + AllocGlobal>(
+    rt: &R,
+    config: &str,
+) -> Result<String, Ending> {
+    let told = settings_at(rt, config)?;
+    show_settings(rt.alloc(), &told).map_err(|_| Ending::Memory)
 }
 
 /// After how many periods of a life the peers are kept that the member has met by then.

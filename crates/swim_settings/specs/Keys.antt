@@ -1,7 +1,8 @@
 -- The keys of a settings file.
 use Rattle.std.specs.Prelude.{ℕ, List, [], ◌∷◌, take, codes}
 use Rattle.swim_settings.specs.declared.key.Key.{Key}
-use Rattle.swim_settings.specs.declared.key.Key.TheVariants.{File, Group, Me, Control, TickMs}
+use Rattle.swim_settings.specs.declared.key.Key.TheVariants.{File, Group, Me, Control}
+use Rattle.swim_settings.specs.declared.key.Key.TheVariants.{Preset, TickMs}
 use Rattle.swim_settings.specs.declared.key.Key.TheVariants.{Lambda, Period, Direct, Suspect}
 use Rattle.swim_settings.specs.declared.key.Key.TheVariants.{Forget, Helpers, Limit, Block, Rules}
 use Rattle.swim_settings.specs.declared.key.Key.TheVariants.{RandomKey, Join, Rejoin, Expelled}
@@ -13,6 +14,7 @@ key_text File = codes "file"
 key_text Group = codes "group"
 key_text Me = codes "me"
 key_text Control = codes "control"
+key_text Preset = codes "preset"
 key_text TickMs = codes "tick_ms"
 key_text Lambda = codes "lambda"
 key_text Period = codes "period"
@@ -32,8 +34,9 @@ key_text RecordEras = codes "record_eras"
 
 -- all keys, in the order in which a refused one is looked for
 abbrev pub keys : List Key
-keys = File ∷ Group ∷ Me ∷ Control ∷ TickMs ∷ Lambda ∷ Period ∷ Direct ∷ Suspect ∷ Forget ∷ Helpers
-    ∷ Limit ∷ Block ∷ Rules ∷ RandomKey ∷ Join ∷ Rejoin ∷ Expelled ∷ Record ∷ RecordEras ∷ []
+keys = File ∷ Group ∷ Me ∷ Control ∷ Preset ∷ TickMs ∷ Lambda ∷ Period ∷ Direct ∷ Suspect ∷ Forget
+    ∷ Helpers ∷ Limit ∷ Block ∷ Rules ∷ RandomKey ∷ Join ∷ Rejoin ∷ Expelled ∷ Record ∷ RecordEras
+    ∷ []
 
 -- how many keys come before it
 abbrev pub key_place : Key → ℕ
@@ -41,22 +44,23 @@ key_place File = 0
 key_place Group = 1
 key_place Me = 2
 key_place Control = 3
-key_place TickMs = 4
-key_place Lambda = 5
-key_place Period = 6
-key_place Direct = 7
-key_place Suspect = 8
-key_place Forget = 9
-key_place Helpers = 10
-key_place Limit = 11
-key_place Block = 12
-key_place Rules = 13
-key_place RandomKey = 14
-key_place Join = 15
-key_place Rejoin = 16
-key_place Expelled = 17
-key_place Record = 18
-key_place RecordEras = 19
+key_place Preset = 4
+key_place TickMs = 5
+key_place Lambda = 6
+key_place Period = 7
+key_place Direct = 8
+key_place Suspect = 9
+key_place Forget = 10
+key_place Helpers = 11
+key_place Limit = 12
+key_place Block = 13
+key_place Rules = 14
+key_place RandomKey = 15
+key_place Join = 16
+key_place Rejoin = 17
+key_place Expelled = 18
+key_place Record = 19
+key_place RecordEras = 20
 
 -- the keys before it
 abbrev pub keys_before : Key → List Key

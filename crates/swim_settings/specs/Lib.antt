@@ -1,3 +1,5 @@
 pub mod Keys
+pub mod Presets
 pub mod Ranges
 pub mod Says
+pub mod Shown

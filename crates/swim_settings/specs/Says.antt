@@ -11,6 +11,7 @@ use Rattle.swim_wire.specs.Numbers.{IsEndpoint}
 use Rattle.swim_words.specs.Words.{endpoint_text, No}
 use Rattle.swim_settings.specs.declared.key.Key.{Key}
 use Rattle.swim_settings.specs.declared.key.Key.TheVariants.{File, Group, Me, Control, TickMs}
+use Rattle.swim_settings.specs.declared.key.Key.TheVariants as key
 use Rattle.swim_settings.specs.declared.key.Key.TheVariants.{Lambda, Period, Direct, Suspect}
 use Rattle.swim_settings.specs.declared.key.Key.TheVariants.{Forget, Helpers, Limit, Block, Rules}
 use Rattle.swim_settings.specs.declared.key.Key.TheVariants.{RandomKey, Join, Rejoin, Expelled}
@@ -20,7 +21,10 @@ use Rattle.swim_member.specs.declared.settings.Settings.{Settings}
 use Rattle.swim_settings.specs.declared.refusal.Refusal.{Refusal}
 use Rattle.swim_settings.specs.declared.refusal.Refusal.TheVariants as refusals
 use Rattle.swim_settings.specs.declared.settings.RunSettings.{RunSettings}
+use Rattle.swim_settings.specs.declared.preset.Preset.{Preset}
+use Rattle.swim_settings.specs.declared.preset.Times.{Times}
 use Rattle.swim_settings.specs.Keys.{key_text, keys_before}
+use Rattle.swim_settings.specs.Presets.{preset_text, times_of}
 
 -- what stands at the key
 abbrev pub value_at : Key → Members → Option Data
@@ -80,13 +84,24 @@ abbrev pub IsFolder : Key → Members → Option (List ℕ) → Type 0
 IsFolder key table (Some folder) = (text_at key table ≡ Some folder) × (folder ≢ [])
 IsFolder key table None = value_at key table ≡ None
 
--- the table says these settings of the member; its group, endpoint, block and rules aside
-pub record SaysMember (table : Members) (settings : Settings) : Type 0 where
-  pub lambda : IsNumber Lambda 3 table settings.lambda
-  pub period : IsNumber Period 10 table settings.period
-  pub direct : IsNumber Direct 3 table settings.direct
-  pub suspect : IsNumber Suspect 50 table settings.suspect
-  pub forget : IsNumber Forget 6000 table settings.forget
+-- the preset there; none where the table hasn't the key
+abbrev pub IsPreset : Members → Option Preset → Type 0
+IsPreset table (Some preset) = text_at key.Preset table ≡ Some (preset_text preset)
+IsPreset table None = value_at key.Preset table ≡ None
+
+-- the times of the preset there, or the usual ones
+abbrev pub AreTimes : Members → Times → Type 0
+AreTimes table times =
+    (preset : Option Preset) × IsPreset table preset × (times ≡ times_of preset)
+
+-- the table says these settings of the member, with these times in the place of its own ones; its
+-- group, endpoint, block and rules aside
+pub record SaysMember (times : Times) (table : Members) (settings : Settings) : Type 0 where
+  pub lambda : IsNumber Lambda times.lambda table settings.lambda
+  pub period : IsNumber Period times.period table settings.period
+  pub direct : IsNumber Direct times.direct table settings.direct
+  pub suspect : IsNumber Suspect times.suspect table settings.suspect
+  pub forget : IsNumber Forget times.forget table settings.forget
   pub helpers : IsNumber Helpers 3 table settings.helpers
 
 -- the table says these settings
@@ -95,14 +110,15 @@ pub record Says (table : Members) (run : RunSettings) : Type 0 where
   pub group : number_at Group table ≡ Some run.settings.group
   pub me : text_at Me table ≡ Some (endpoint_text run.settings.me)
   pub control : text_at Control table ≡ Some (endpoint_text run.control)
-  pub tick_ms : IsNumber TickMs 100 table run.tick_ms
-  pub member : SaysMember table run.settings
+  pub preset : IsPreset table run.preset
+  pub tick_ms : IsNumber TickMs (times_of run.preset).tick_ms table run.tick_ms
+  pub member : SaysMember (times_of run.preset) table run.settings
   pub limit : IsNumber Limit 4096 table run.limit
   pub block : IsNumber Block 1 table run.settings.block
   pub rules : IsNumber Rules 1 table run.settings.rules
   pub random_key : AreBytes RandomKey table run.random_key
   pub join : AreEndpoints Join table run.join.items
-  pub rejoin : IsNumber Rejoin 300 table run.rejoin
+  pub rejoin : IsNumber Rejoin (times_of run.preset).rejoin table run.rejoin
   pub expelled : EndsExpelled table run.ends_expelled
   pub record_folder : IsFolder Record table (option_map string_bytes run.record_folder)
   pub record_eras : IsNumber RecordEras 8 table run.record_eras
@@ -115,24 +131,37 @@ IsEndpointAt key table e = (text_at key table ≡ Some (endpoint_text e)) × IsE
 abbrev pub IsWithin : Key → ℕ → ℕ → ℕ → Members → ℕ → Type 0
 IsWithin key default least most table n = IsNumber key default table n × (least ≤ n) × (n ≤ most)
 
+-- the number there, or that of the table's preset, from the least to the most
+abbrev pub IsTime : Key → (Times → ℕ) → ℕ → ℕ → Members → Type 0
+IsTime key usual least most table =
+    (times : Times) × (n : ℕ) × AreTimes table times × IsWithin key (usual times) least most table n
+
+-- neither is the number there, nor that of the table's preset, from the least to the most
+abbrev pub IsNoTime : Key → (Times → ℕ) → ℕ → ℕ → Members → Type 0
+IsNoTime key usual least most table =
+    (times : Times) × AreTimes table times × No (IsWithin key (usual times) least most table)
+
 -- the table has nothing at the key that the key takes; of random_key and join it isn't said
 abbrev pub IsRefused : Key → Members → Type 0
 IsRefused File table = text_at File table ≡ None
 IsRefused Group table = number_at Group table ≡ None
 IsRefused Me table = No (IsEndpointAt Me table)
 IsRefused Control table = No (IsEndpointAt Control table)
-IsRefused TickMs table = No (IsWithin TickMs 100 1 60000 table)
-IsRefused Lambda table = No (IsWithin Lambda 3 1 16 table)
-IsRefused Period table = No (IsWithin Period 10 2 1000 table)
+IsRefused key.Preset table = No (IsPreset table)
+IsRefused TickMs table = IsNoTime TickMs (λ times. times.tick_ms) 1 60000 table
+IsRefused Lambda table = IsNoTime Lambda (λ times. times.lambda) 1 16 table
+IsRefused Period table = IsNoTime Period (λ times. times.period) 2 1000 table
 IsRefused Direct table =
-    (period : ℕ) × IsNumber Period 10 table period × No (IsWithin Direct 3 1 (period - 1) table)
-IsRefused Suspect table = No (IsWithin Suspect 50 1 100000 table)
-IsRefused Forget table = No (IsWithin Forget 6000 1 1000000 table)
+    (times : Times) × (period : ℕ) × AreTimes table times
+    × IsNumber Period times.period table period
+    × No (IsWithin Direct times.direct 1 (period - 1) table)
+IsRefused Suspect table = IsNoTime Suspect (λ times. times.suspect) 1 100000 table
+IsRefused Forget table = IsNoTime Forget (λ times. times.forget) 1 1000000 table
 IsRefused Helpers table = No (IsWithin Helpers 3 0 HELPERS_MAX table)
 IsRefused Limit table = No (IsWithin Limit 4096 1 65536 table)
 IsRefused Block table = No (IsWithin Block 1 1 BLOCK_MAX table)
 IsRefused Rules table = No (IsWithin Rules 1 1 2 table)
-IsRefused Rejoin table = No (IsWithin Rejoin 300 0 1000000 table)
+IsRefused Rejoin table = IsNoTime Rejoin (λ times. times.rejoin) 0 1000000 table
 IsRefused Expelled table = No (EndsExpelled table)
 IsRefused Record table = No (IsFolder Record table)
 IsRefused RecordEras table = No (IsWithin RecordEras 8 1 1000 table)
@@ -150,18 +179,21 @@ IsTaken File table = (text : List ℕ) × (text_at File table ≡ Some text)
 IsTaken Group table = (n : ℕ) × (number_at Group table ≡ Some n)
 IsTaken Me table = (e : ℕ) × (text_at Me table ≡ Some (endpoint_text e))
 IsTaken Control table = (e : ℕ) × (text_at Control table ≡ Some (endpoint_text e))
-IsTaken TickMs table = (n : ℕ) × IsWithin TickMs 100 1 60000 table n
-IsTaken Lambda table = (n : ℕ) × IsWithin Lambda 3 1 16 table n
-IsTaken Period table = (n : ℕ) × IsWithin Period 10 2 1000 table n
+IsTaken key.Preset table = (preset : Option Preset) × IsPreset table preset
+IsTaken TickMs table = IsTime TickMs (λ times. times.tick_ms) 1 60000 table
+IsTaken Lambda table = IsTime Lambda (λ times. times.lambda) 1 16 table
+IsTaken Period table = IsTime Period (λ times. times.period) 2 1000 table
 IsTaken Direct table =
-    (period n : ℕ) × IsNumber Period 10 table period × IsWithin Direct 3 1 (period - 1) table n
-IsTaken Suspect table = (n : ℕ) × IsWithin Suspect 50 1 100000 table n
-IsTaken Forget table = (n : ℕ) × IsWithin Forget 6000 1 1000000 table n
+    (times : Times) × (period n : ℕ) × AreTimes table times
+    × IsNumber Period times.period table period
+    × IsWithin Direct times.direct 1 (period - 1) table n
+IsTaken Suspect table = IsTime Suspect (λ times. times.suspect) 1 100000 table
+IsTaken Forget table = IsTime Forget (λ times. times.forget) 1 1000000 table
 IsTaken Helpers table = (n : ℕ) × IsWithin Helpers 3 0 HELPERS_MAX table n
 IsTaken Limit table = (n : ℕ) × IsWithin Limit 4096 1 65536 table n
 IsTaken Block table = (n : ℕ) × IsWithin Block 1 1 BLOCK_MAX table n
 IsTaken Rules table = (n : ℕ) × IsWithin Rules 1 1 2 table n
-IsTaken Rejoin table = (n : ℕ) × IsWithin Rejoin 300 0 1000000 table n
+IsTaken Rejoin table = IsTime Rejoin (λ times. times.rejoin) 0 1000000 table
 IsTaken Expelled table = (is_end : Bool) × EndsExpelled table is_end
 IsTaken Record table = (folder : Option (List ℕ)) × IsFolder Record table folder
 IsTaken RecordEras table = (n : ℕ) × IsWithin RecordEras 8 1 1000 table n

@@ -17,6 +17,8 @@ pub enum Key {
     Me,
     /// The endpoint to which the control socket is bound.
     Control,
+    /// Whose times stand for those that the file has not.
+    Preset,
     /// Milliseconds from one tick to the next.
     TickMs,
     /// Sends of an update, times the binary digits of the count of members.
@@ -53,11 +55,12 @@ pub enum Key {
 
 impl Key {
     /// All keys, in the order in which a refused one is looked for.
-    pub const ALL: [Key; 20] = [
+    pub const ALL: [Key; 21] = [
         Key::File,
         Key::Group,
         Key::Me,
         Key::Control,
+        Key::Preset,
         Key::TickMs,
         Key::Lambda,
         Key::Period,
@@ -85,6 +88,7 @@ impl Key {
             Key::Group => "group",
             Key::Me => "me",
             Key::Control => "control",
+            Key::Preset => "preset",
             Key::TickMs => "tick_ms",
             Key::Lambda => "lambda",
             Key::Period => "period",

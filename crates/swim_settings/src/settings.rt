@@ -6,15 +6,16 @@ ghost use Rattle.toml.specs.Parse.{parse_document};
 ghost use Rattle.toml.specs.View.{table_view};
 ghost use Rattle.swim_member.specs.Checks.{AreSound};
 ghost use Rattle.swim_settings.specs.Ranges.{AreInRange};
-ghost use Rattle.swim_settings.specs.Says.{AreTakenBefore, IsFolder, IsNumber, IsOfKey, IsReason, Says, SaysMember};
+ghost use Rattle.swim_settings.specs.Says.{AreTakenBefore, AreTimes, IsFolder, IsNumber, IsOfKey, IsReason, Says, SaysMember};
 ghost use Rattle.swim_settings.specs.declared.key.Key.TheVariants as keys;
 
 use crate::key::Key;
+use crate::preset::{Preset, Times};
 use crate::refusal::Refusal;
 use crate::table::{read_table, refuse_unknown};
 use crate::value::{
-    read_bytes, read_choice, read_endpoint_at, read_endpoints, read_folder, read_number, read_text,
-    read_within,
+    read_bytes, read_choice, read_endpoint_at, read_endpoints, read_folder, read_number,
+    read_preset, read_text, read_within,
 };
 use arrayvec::ArrayVec;
 use std::alloc::Global;
@@ -34,6 +35,8 @@ pub struct RunSettings {
     pub settings: Settings,
     /// `control`: the endpoint of the control socket.
     pub control: Endpoint,
+    /// `preset`: whose times stand for those that the file has not, if it names one.
+    pub preset: Option<Preset>,
     /// `tick_ms`: milliseconds from one tick to the next, 1 to 60,000.
     pub tick_ms: u64,
     /// `limit`: entries in an era, 1 to 65,536.
@@ -52,21 +55,22 @@ pub struct RunSettings {
     pub record_eras: u64,
 }
 
-/// What the member is told, with this group and endpoint, and a block of 1 and rules 1: their keys come
-/// later.
-fn read_member(table: &Table, group: u64, me: Endpoint) -> Result<Settings, Refusal>
-    requires { AreTakenBefore keys.Lambda (table_view table.now) }
+/// What the member is told, with this group and endpoint, these times where the table has no others, and a block of 1 and
+/// rules 1: their keys come later.
+fn read_member(table: &Table, group: u64, me: Endpoint, times: Times) -> Result<Settings, Refusal>
+    requires taken { AreTakenBefore keys.Lambda (table_view table.now) }
+    requires times { AreTimes (table_view table.now) times }
     ensures sound { IfOk result AreSound }
     ensures owner { IfOk result (λ settings. (settings.group ≡ group) × (settings.me ≡ me)) }
-    ensures said { IfOk result (SaysMember (table_view table.now)) }
+    ensures said { IfOk result (SaysMember times (table_view table.now)) }
     ensures taken { IfOk result (λ _. AreTakenBefore keys.Limit (table_view table.now)) }
     ensures refused { IfErr result (IsOfKey (table_view table.now)) }
 {
-    let lambda = read_within(table, Key::Lambda, 3, 1, 16)?;
-    let period = read_within(table, Key::Period, 10, 2, 1000)?;
-    let direct = read_within(table, Key::Direct, 3, 1, period - 1)?;
-    let suspect = read_within(table, Key::Suspect, 50, 1, 100_000)?;
-    let forget = read_within(table, Key::Forget, 6000, 1, 1_000_000)?;
+    let lambda = read_within(table, Key::Lambda, times.lambda, 1, 16)?;
+    let period = read_within(table, Key::Period, times.period, 2, 1000)?;
+    let direct = read_within(table, Key::Direct, times.direct, 1, period - 1)?;
+    let suspect = read_within(table, Key::Suspect, times.suspect, 1, 100_000)?;
+    let forget = read_within(table, Key::Forget, times.forget, 1, 1_000_000)?;
     let helpers = read_within(table, Key::Helpers, 3, 0, HELPERS_MAX as u64)?;
     Ok(Settings {
         group,
@@ -131,19 +135,22 @@ fn read_keys(alloc: Global, table: &Table) -> Result<RunSettings, Refusal>
     let group = read_number(table, Key::Group)?;
     let me = read_endpoint_at(table, Key::Me)?;
     let control = read_endpoint_at(table, Key::Control)?;
-    let tick_ms = read_within(table, Key::TickMs, 100, 1, 60_000)?;
-    let member = read_member(table, group, me)?;
+    let preset = read_preset(table)?;
+    let times = Times::of(preset);
+    let tick_ms = read_within(table, Key::TickMs, times.tick_ms, 1, 60_000)?;
+    let member = read_member(table, group, me, times)?;
     let limit = read_within(table, Key::Limit, 4096, 1, 65_536)?;
     let settings = read_block_and_rules(table, member)?;
     let random_key = read_bytes(table, Key::RandomKey)?;
     let join = read_endpoints(table, Key::Join)?;
-    let rejoin = read_within(table, Key::Rejoin, 300, 0, 1_000_000)?;
+    let rejoin = read_within(table, Key::Rejoin, times.rejoin, 0, 1_000_000)?;
     let ends_expelled = read_choice(table, Key::Expelled, "stay", "end")?;
     let (record_folder, record_eras) = read_recording(alloc, table)?;
     Ok(RunSettings {
         file: String::from_str(alloc, file)?,
         settings,
         control,
+        preset,
         tick_ms,
         limit: limit as u32,
         random_key,

@@ -7,10 +7,12 @@ ghost use Rattle.toml.specs.Data.{as_str};
 ghost use Rattle.toml.specs.View.{view, items_view, table_view};
 ghost use Rattle.swim_wire.specs.Numbers.{IsEndpoint};
 ghost use Rattle.swim_words.specs.Words.{endpoint_text, No};
-ghost use Rattle.swim_settings.specs.Says.{value_at, text_at, number_at, IsNumber, IsWithin, IsEndpointAt, IsChoice, IsFolder, AreBytes, AreTexts, AreEndpoints};
+ghost use Rattle.swim_settings.specs.Says.{value_at, text_at, number_at, IsNumber, IsWithin, IsEndpointAt, IsChoice, IsFolder, IsPreset, AreBytes, AreTexts, AreEndpoints};
+ghost use Rattle.swim_settings.specs.declared.key.Key.TheVariants as keys;
 ghost use Rattle.swim_settings.specs.declared.refusal.Refusal.TheVariants as refusals;
 
 use crate::key::Key;
+use crate::preset::Preset;
 use crate::refusal::Refusal;
 use crate::table::as_number;
 use arrayvec::ArrayVec;
@@ -116,6 +118,22 @@ pub(crate) fn read_folder(table: &Table, key: Key) -> Result<Option<&str>, Refus
         return Err(Refusal::Key(key));
     }
     Ok(Some(text))
+}
+
+/// The preset of a table; none where the key isn't there.
+pub(crate) fn read_preset(table: &Table) -> Result<Option<Preset>, Refusal>
+    ensures preset { IfOk result (IsPreset (table_view table.now)) }
+    ensures none { IfErr result (λ refusal. (refusal ≡ refusals.Key keys.Preset)
+        × No (IsPreset (table_view table.now))) }
+{
+    if find(table, Key::Preset).is_none() {
+        return Ok(None);
+    }
+    let text = read_text(table, Key::Preset)?;
+    match Preset::of(text.as_bytes()) {
+        Some(preset) => Ok(Some(preset)),
+        None => Err(Refusal::Key(Key::Preset)),
+    }
 }
 
 /// The endpoint at a key that has to be there.

@@ -3,7 +3,7 @@
 use crate::same::{holds, same, same_at};
 use std::alloc::{AllocError, Global};
 use std::test::Fail;
-use swim_settings::{RunSettings, read_settings};
+use swim_settings::{RunSettings, Times, read_settings, show_settings};
 use swim_wire::Endpoint;
 
 /// What a file has to have at least, the first lines of each file below.
@@ -16,6 +16,10 @@ control = '127.0.0.1:8000'
 /// Lines that are taken, each after its key. Two lines of a file are parted by a semicolon.
 const TAKEN: &str = "group: group = 0
 group: group = 9223372036854775807
+preset: preset = 'local'
+preset: preset = 'lan'
+preset: preset = 'wan'
+direct: preset = 'wan'; period = 6
 tick_ms: tick_ms = 1
 tick_ms: tick_ms = 60000
 lambda: lambda = 1
@@ -56,6 +60,10 @@ me: me = '[::1]:7000'
 control
 control: control = 8000
 control: control = 'localhost:8000'
+preset: preset = ''
+preset: preset = 'Lan'
+preset: preset = 'lan '
+preset: preset = 1
 tick_ms: tick_ms = 0
 tick_ms: tick_ms = 60001
 tick_ms: tick_ms = 1.0
@@ -66,6 +74,7 @@ period: period = 1001
 direct: direct = 0
 direct: direct = 10
 direct: period = 3
+direct: preset = 'wan'; period = 5
 suspect: suspect = 0
 suspect: suspect = 100001
 forget: forget = 0
@@ -99,7 +108,9 @@ join: join = ['10.0.0.2']
 join: join = ['1.1.1.1:1', '1.1.1.1:2', '1.1.1.1:3', '1.1.1.1:4', '1.1.1.1:5', '1.1.1.1:6', '1.1.1.1:7', '1.1.1.1:8', '1.1.1.1:9']";
 
 /// Lines of which several can be refused, after the first of them.
-const FIRST_REFUSED: &str = "lambda: limit = 0; lambda = 0
+const FIRST_REFUSED: &str = "control: preset = 0; control = 0
+preset: tick_ms = 0; preset = 0
+lambda: limit = 0; lambda = 0
 limit: block = 0; limit = 0
 block: rules = 0; block = 0
 rules: random_key = 0; rules = 0
@@ -156,6 +167,7 @@ fn defaults(rt: HostRuntime) -> Result<(), Fail> {
         file,
         settings,
         control,
+        preset,
         tick_ms,
         limit,
         random_key,
@@ -169,6 +181,7 @@ fn defaults(rt: HostRuntime) -> Result<(), Fail> {
     same(&rt, settings.group, 7);
     same(&rt, Some(settings.me), Endpoint::new(0x0a00_0001, 7000));
     same(&rt, Some(control), Endpoint::new(0x7f00_0001, 8000));
+    holds(&rt, preset.is_none());
     same(&rt, tick_ms, 100);
     same(&rt, settings.lambda, 3);
     same(&rt, settings.period, 10);
@@ -226,6 +239,103 @@ random_key = '000102030405060708090a0b0c0d0e0f101112131415161718191A1B1C1D1E1F'\
     }
     Ok(())
 }
+
+/// The times of each preset, after its name: `tick_ms`, `lambda`, `period`, `direct`, `suspect`, `forget`, `rejoin`.
+const PRESETS: &str = "local 20 3 10 3 50 3000 100
+lan 100 3 10 3 100 6000 30
+wan 200 4 15 5 150 6000 50";
+
+/// The times of settings, as a row of that table has them.
+fn times_in(alloc: Global, run: &RunSettings) -> Result<String, AllocError> {
+    let Times {
+        tick_ms,
+        lambda,
+        period,
+        direct,
+        suspect,
+        forget,
+        rejoin,
+    } = Times {
+        tick_ms: run.tick_ms,
+        lambda: u64::from(run.settings.lambda),
+        period: run.settings.period,
+        direct: run.settings.direct,
+        suspect: run.settings.suspect,
+        forget: run.settings.forget,
+        rejoin: run.rejoin,
+    };
+    format!(in alloc; "{tick_ms} {lambda} {period} {direct} {suspect} {forget} {rejoin}")
+}
+
+#[test]
+fn presets(rt: HostRuntime) -> Result<(), Fail> {
+    for row in PRESETS.lines() {
+        let (name, times) = row.split_once(" ").unwrap_or((row, ""));
+        let lines = format!(in rt.alloc(); "preset = '{name}'")?;
+        let text = file_with(rt.alloc(), "preset", lines.as_str())?;
+        let run = read_settings(rt.alloc(), text.as_bytes())?;
+        let found = times_in(rt.alloc(), &run)?;
+        same_at(&rt, &row, found.as_str(), times);
+    }
+    let lines =
+        "preset = 'wan'; rejoin = 7; tick_ms = 1000; lambda = 9; period = 9; direct = 8; suspect = 6; forget = 5";
+    let text = file_with(rt.alloc(), "preset", lines)?;
+    let run = read_settings(rt.alloc(), text.as_bytes())?;
+    let found = times_in(rt.alloc(), &run)?;
+    same(&rt, found.as_str(), "1000 9 9 8 6 5 7");
+    Ok(())
+}
+
+/// Lines of files, of which each shows the same settings again.
+const SHOWN: &str = "rules = 2
+preset = 'lan'; period = 8
+join = ['1.1.1.1:1', '255.255.255.255:65535']; expelled = 'end'
+record = 'a \"folder\"'; record_eras = 1000; rejoin = 0; helpers = 0
+group = 9223372036854775807; limit = 65536; block = 1024";
+
+#[test]
+fn shown_settings(rt: HostRuntime) -> Result<(), Fail> {
+    for row in SHOWN.lines() {
+        let (key, _) = row.split_once(" ").unwrap_or((row, ""));
+        let text = file_with(rt.alloc(), key, row)?;
+        let run = read_settings(rt.alloc(), text.as_bytes())?;
+        let shown = show_settings(rt.alloc(), &run)?;
+        let again = read_settings(rt.alloc(), shown.as_bytes())?;
+        let shown_again = show_settings(rt.alloc(), &again)?;
+        same_at(&rt, &row, shown_again.as_str(), shown.as_str());
+    }
+    let text = file_with(
+        rt.alloc(),
+        "join",
+        "join = ['10.0.0.2:7000']; preset = 'lan'",
+    )?;
+    let run = read_settings(rt.alloc(), text.as_bytes())?;
+    let shown = show_settings(rt.alloc(), &run)?;
+    same(&rt, shown.as_str(), WHOLE);
+    Ok(())
+}
+
+/// What is shown of the least file with a preset and a list.
+const WHOLE: &str = "file = \"s\"
+group = 7
+me = \"10.0.0.1:7000\"
+control = \"127.0.0.1:8000\"
+preset = \"lan\"
+tick_ms = 100
+lambda = 3
+period = 10
+direct = 3
+suspect = 100
+forget = 6000
+helpers = 3
+limit = 4096
+block = 1
+rules = 1
+join = [\"10.0.0.2:7000\"]
+rejoin = 30
+expelled = \"stay\"
+record_eras = 8
+";
 
 #[test]
 fn taken_values(rt: HostRuntime) -> Result<(), Fail> {

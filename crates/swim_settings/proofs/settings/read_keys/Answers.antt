@@ -26,7 +26,7 @@ returns-in_err-rejoin-clause-refused c =
     let to_random_key = AreTaken-push t (keys_before keys.RandomKey) keys.RandomKey c.in_ok-settings.ensures.taken tt in
     let taken = AreTaken-push t (keys_before keys.Join) keys.Join to_random_key tt in
     let fault = err_from_is_err_and c.from_residual-in_err-rejoin.result c.from_residual-in_err-rejoin.ensures.1 in
-    rw (fault.1, fault.2, c.in_err-rejoin.ensures.none.0) (taken, c.in_err-rejoin.ensures.none.1)
+    rw (fault.1, fault.2, c.in_err-rejoin.ensures.none.0) (taken, (c.of-times.result, (c.in_ok-preset.preset, c.in_ok-preset.ensures.preset, c.of-times.ensures), c.in_err-rejoin.ensures.none.1))
 
 pub returns-in_err-ends_expelled-clause-refused : goal.returns-in_err-ends_expelled-clause-refused
 returns-in_err-ends_expelled-clause-refused c =
@@ -34,7 +34,7 @@ returns-in_err-ends_expelled-clause-refused c =
     let rejoin = c.in_ok-rejoin in
     let to_random_key = AreTaken-push t (keys_before keys.RandomKey) keys.RandomKey c.in_ok-settings.ensures.taken tt in
     let to_join = AreTaken-push t (keys_before keys.Join) keys.Join to_random_key tt in
-    let taken = AreTaken-push t (keys_before keys.Rejoin) keys.Rejoin to_join (rejoin.rejoin, (rejoin.ensures.number, rejoin.ensures.range.0, rejoin.ensures.range.1)) in
+    let taken = AreTaken-push t (keys_before keys.Rejoin) keys.Rejoin to_join (c.of-times.result, rejoin.rejoin, (c.in_ok-preset.preset, c.in_ok-preset.ensures.preset, c.of-times.ensures), (rejoin.ensures.number, rejoin.ensures.range.0, rejoin.ensures.range.1)) in
     let fault = err_from_is_err_and c.from_residual-in_err-ends_expelled.result c.from_residual-in_err-ends_expelled.ensures.1 in
     rw (fault.1, fault.2, c.in_err-ends_expelled.ensures.none.0) (taken, c.in_err-ends_expelled.ensures.none.1)
 
@@ -45,7 +45,7 @@ read_recording-requires c =
     let ends = c.in_ok-ends_expelled in
     let to_random_key = AreTaken-push t (keys_before keys.RandomKey) keys.RandomKey c.in_ok-settings.ensures.taken tt in
     let to_join = AreTaken-push t (keys_before keys.Join) keys.Join to_random_key tt in
-    let to_rejoin = AreTaken-push t (keys_before keys.Rejoin) keys.Rejoin to_join (rejoin.rejoin, (rejoin.ensures.number, rejoin.ensures.range.0, rejoin.ensures.range.1)) in
+    let to_rejoin = AreTaken-push t (keys_before keys.Rejoin) keys.Rejoin to_join (c.of-times.result, rejoin.rejoin, (c.in_ok-preset.preset, c.in_ok-preset.ensures.preset, c.of-times.ensures), (rejoin.ensures.number, rejoin.ensures.range.0, rejoin.ensures.range.1)) in
     AreTaken-push t (keys_before keys.Expelled) keys.Expelled to_rejoin (ends.ends_expelled, ends.ensures.choice)
 
 pub returns-clause-said : goal.returns-clause-said
@@ -56,8 +56,9 @@ returns-clause-said c =
       group = search (rules, c.in_ok-group.ensures, c.in_ok-member.ensures.owner);
       me = search (rules, c.in_ok-me.ensures, c.in_ok-member.ensures.owner);
       control = c.in_ok-control.ensures.endpoint;
-      tick_ms = c.in_ok-tick_ms.ensures.number;
-      member = rw c.in_ok-settings.ensures.rest record {
+      preset = c.in_ok-preset.ensures.preset;
+      tick_ms = rw (← c.of-times.ensures) c.in_ok-tick_ms.ensures.number;
+      member = rw (c.in_ok-settings.ensures.rest, ← c.of-times.ensures) record {
         lambda = member.lambda;
         period = member.period;
         direct = member.direct;
@@ -70,7 +71,7 @@ returns-clause-said c =
       rules = c.in_ok-settings.ensures.rules;
       random_key = c.in_ok-random_key.ensures.bytes;
       join = c.in_ok-join.ensures.endpoints;
-      rejoin = c.in_ok-rejoin.ensures.number;
+      rejoin = rw (← c.of-times.ensures) c.in_ok-rejoin.ensures.number;
       expelled = c.in_ok-ends_expelled.ensures.choice;
       record_folder = c.in_ok-record_folder.ensures.folder;
       record_eras = c.in_ok-record_folder.ensures.eras;

@@ -1,0 +1,54 @@
+-- The presets of a settings file.
+use Rattle.std.specs.Prelude.{◌≡◌, ℕ, List, codes, Option, Some, None}
+use Rattle.swim_settings.specs.declared.preset.Preset.{Preset}
+use Rattle.swim_settings.specs.declared.preset.Preset.TheVariants.{Local, Lan, Wan}
+use Rattle.swim_settings.specs.declared.preset.Times.{Times}
+
+-- the preset as a file has it
+abbrev pub preset_text : Preset → List ℕ
+preset_text Local = codes "local"
+preset_text Lan = codes "lan"
+preset_text Wan = codes "wan"
+
+-- the text is that of a preset
+abbrev pub IsPresetText : List ℕ → Preset → Type 0
+IsPresetText text preset = text ≡ preset_text preset
+
+-- what stands in the place of the keys that a file has not, by its preset
+abbrev pub times_of : Option Preset → Times
+times_of None = record {
+  tick_ms = 100;
+  lambda = 3;
+  period = 10;
+  direct = 3;
+  suspect = 50;
+  forget = 6000;
+  rejoin = 300;
+}
+times_of (Some Local) = record {
+  tick_ms = 20;
+  lambda = 3;
+  period = 10;
+  direct = 3;
+  suspect = 50;
+  forget = 3000;
+  rejoin = 100;
+}
+times_of (Some Lan) = record {
+  tick_ms = 100;
+  lambda = 3;
+  period = 10;
+  direct = 3;
+  suspect = 100;
+  forget = 6000;
+  rejoin = 30;
+}
+times_of (Some Wan) = record {
+  tick_ms = 200;
+  lambda = 4;
+  period = 15;
+  direct = 5;
+  suspect = 150;
+  forget = 6000;
+  rejoin = 50;
+}

@@ -1,0 +1,107 @@
+//! Presets: each names times that go together.
+
+ghost use Rattle.std.specs.Prelude.{◌≡◌, IfSome, IfNone};
+ghost use Rattle.swim_words.specs.Words.{No};
+ghost use Rattle.swim_settings.specs.Presets.{preset_text, times_of, IsPresetText};
+
+/// A kind of network, whose times a file may take by its name.
+#[derive(Clone, Copy, Debug, PartialEq, Eq)]
+pub enum Preset {
+    /// All members on one machine, as in a test.
+    Local,
+    /// Members in one place, which lose up to some 10 of 100 datagrams.
+    Lan,
+    /// Members far from one another, with round trips of up to a second.
+    Wan,
+}
+
+impl Preset {
+    /// The preset as a file has it.
+    pub fn text(self) -> &'static str
+        ensures { result.now ≡ preset_text self }
+    {
+        match self {
+            Preset::Local => "local",
+            Preset::Lan => "lan",
+            Preset::Wan => "wan",
+        }
+    }
+
+    /// The preset that a text names.
+    pub(crate) fn of(text: &[u8]) -> Option<Preset>
+        ensures preset { IfSome result (IsPresetText text.now) }
+        ensures none { IfNone result (No (IsPresetText text.now)) }
+    {
+        match text {
+            b"local" => Some(Preset::Local),
+            b"lan" => Some(Preset::Lan),
+            b"wan" => Some(Preset::Wan),
+            _ => None,
+        }
+    }
+}
+
+/// What stands in the place of the keys of these names that a file has not.
+#[derive(Clone, Copy, Debug, PartialEq, Eq)]
+pub struct Times {
+    /// `tick_ms`, in milliseconds.
+    pub tick_ms: u64,
+    /// `lambda`.
+    pub lambda: u64,
+    /// `period`, in ticks, as all that follow.
+    pub period: u64,
+    /// `direct`.
+    pub direct: u64,
+    /// `suspect`.
+    pub suspect: u64,
+    /// `forget`.
+    pub forget: u64,
+    /// `rejoin`.
+    pub rejoin: u64,
+}
+
+impl Times {
+    /// The times of a preset, or those of a file without one.
+    pub fn of(preset: Option<Preset>) -> Times
+        ensures { result ≡ times_of preset }
+    {
+        match preset {
+            None => Times {
+                tick_ms: 100,
+                lambda: 3,
+                period: 10,
+                direct: 3,
+                suspect: 50,
+                forget: 6000,
+                rejoin: 300,
+            },
+            Some(Preset::Local) => Times {
+                tick_ms: 20,
+                lambda: 3,
+                period: 10,
+                direct: 3,
+                suspect: 50,
+                forget: 3000,
+                rejoin: 100,
+            },
+            Some(Preset::Lan) => Times {
+                tick_ms: 100,
+                lambda: 3,
+                period: 10,
+                direct: 3,
+                suspect: 100,
+                forget: 6000,
+                rejoin: 30,
+            },
+            Some(Preset::Wan) => Times {
+                tick_ms: 200,
+                lambda: 4,
+                period: 15,
+                direct: 5,
+                suspect: 150,
+                forget: 6000,
+                rejoin: 50,
+            },
+        }
+    }
+}
