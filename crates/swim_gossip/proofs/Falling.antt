@@ -6,34 +6,34 @@ use Rattle.swim_wire.specs.Filler.{filler}
 use Rattle.swim_gossip.specs.declared.buffer.Waiting.{Waiting}
 use Rattle.swim_gossip.specs.declared.slots.Slot.{Slot}
 use Rattle.swim_gossip.specs.Queue.{without, AreWithin, NeverRise}
-use Rattle.swim_gossip.specs.Buckets.{at, lives, spots, runs, raised_at, bump, waiting}
+use Rattle.swim_gossip.specs.Buckets.{at, lives, spots, runs, raised_at, bump, queue_in}
 use Rattle.swim_gossip.proofs.Rises.{rank, stands, rise-take, rise-parts, stands-parts}
 use Rattle.swim_gossip.proofs.Runs.{live-below, rise-runs, runs-full, stands-runs, within-at}
 use Rattle.swim_gossip.proofs.Raised.{at-raised, length-raised, within-push, within-without}
 
 -- Counts by place
 
-pub falling-at : (slots : List Slot) (i j : ℕ) → NeverRise (waiting slots) → i ≤ j → (at slots i).waits ≡ true → (at slots j).waits ≡ true → (at slots j).count ≤ (at slots i).count
+pub falling-at : (slots : List Slot) (i j : ℕ) → NeverRise (queue_in slots) → i ≤ j → (at slots i).waits ≡ true → (at slots j).waits ≡ true → (at slots j).count ≤ (at slots i).count
 falling-at [] i j h l m n = absurd (false≢true m)
 falling-at (s ∷ slots) zero zero h l m n = omega arith
-falling-at (s ∷ slots) zero (suc j) h l m n = let parts : AreWithin s.count (waiting slots) × NeverRise (waiting slots) = rw m at h in within-at s.count slots j parts.0 n
+falling-at (s ∷ slots) zero (suc j) h l m n = let parts : AreWithin s.count (queue_in slots) × NeverRise (queue_in slots) = rw m at h in within-at s.count slots j parts.0 n
 falling-at (s ∷ slots) (suc i) zero h l m n = absurd (omega arith)
 falling-at (s ∷ slots) (suc i) (suc j) h l m n =
     elim (cases_Bool s.waits) [
-      | inl w ↦ let parts : AreWithin s.count (waiting slots) × NeverRise (waiting slots) = rw w at h in falling-at slots i j parts.1 (omega arith) m n
-      | inr w ↦ let rest : NeverRise (waiting slots) = rw w at h in falling-at slots i j rest (omega arith) m n
+      | inl w ↦ let parts : AreWithin s.count (queue_in slots) × NeverRise (queue_in slots) = rw w at h in falling-at slots i j parts.1 (omega arith) m n
+      | inr w ↦ let rest : NeverRise (queue_in slots) = rw w at h in falling-at slots i j rest (omega arith) m n
     ]
 
-within-from : (most : ℕ) (slots : List Slot) → ((k : ℕ) → (at slots k).waits ≡ true → (at slots k).count ≤ most) → AreWithin most (waiting slots)
+within-from : (most : ℕ) (slots : List Slot) → ((k : ℕ) → (at slots k).waits ≡ true → (at slots k).count ≤ most) → AreWithin most (queue_in slots)
 within-from most [] h = tt
 within-from most (s ∷ slots) h =
-    let rest : AreWithin most (waiting slots) = within-from most slots (λ k l. h (suc k) l) in
+    let rest : AreWithin most (queue_in slots) = within-from most slots (λ k l. h (suc k) l) in
     elim (cases_Bool s.waits) [ inl w ↦ rw w (h 0 w, rest) | inr w ↦ rw w rest ]
 
-falling-from : (slots : List Slot) → ((i j : ℕ) → i ≤ j → (at slots i).waits ≡ true → (at slots j).waits ≡ true → (at slots j).count ≤ (at slots i).count) → NeverRise (waiting slots)
+falling-from : (slots : List Slot) → ((i j : ℕ) → i ≤ j → (at slots i).waits ≡ true → (at slots j).waits ≡ true → (at slots j).count ≤ (at slots i).count) → NeverRise (queue_in slots)
 falling-from [] h = tt
 falling-from (s ∷ slots) h =
-    let rest : NeverRise (waiting slots) = falling-from slots (λ i j l m n. h (suc i) (suc j) (omega arith) m n) in
+    let rest : NeverRise (queue_in slots) = falling-from slots (λ i j l m n. h (suc i) (suc j) (omega arith) m n) in
     elim (cases_Bool s.waits) [ inl w ↦ rw w (within-from s.count slots (λ k l. h 0 (suc k) (omega arith) w l), rest) | inr w ↦ rw w rest ]
 
 -- Runs
@@ -185,7 +185,7 @@ pub record IsBucket (slots : List Slot) (begin end : ℕ) : Type 0 where
   pub other : 0 < begin → (at slots (begin - 1)).count ≢ (at slots (end - 1)).count
 
 -- one more bucket
-pub taken-more : (slots : List Slot) (begin end limit room : ℕ) (places : List ℕ) → NeverRise (waiting slots) → IsBucket slots begin end → (at slots (end - 1)).count < limit
+pub taken-more : (slots : List Slot) (begin end limit room : ℕ) (places : List ℕ) → NeverRise (queue_in slots) → IsBucket slots begin end → (at slots (end - 1)).count < limit
     → AreTaken slots end limit room places → AreTaken slots begin limit room (take room (places ++ lives slots begin (end - begin)))
 taken-more slots begin end limit room places h b under taken =
     let c : ℕ = (at slots (end - 1)).count in
@@ -232,7 +232,7 @@ taken-all slots end limit room places h taken =
     ])))
 
 -- the last one is at or above the limit
-pub taken-high : (slots : List Slot) (end limit room : ℕ) (places : List ℕ) → NeverRise (waiting slots) → 0 < end → (at slots (end - 1)).waits ≡ true → limit ≤ (at slots (end - 1)).count → AreTaken slots end limit room places → places ≡ take room (runs limit slots)
+pub taken-high : (slots : List Slot) (end limit room : ℕ) (places : List ℕ) → NeverRise (queue_in slots) → 0 < end → (at slots (end - 1)).waits ≡ true → limit ≤ (at slots (end - 1)).count → AreTaken slots end limit room places → places ≡ take room (runs limit slots)
 taken-high slots end limit room places h l w n taken =
     taken-all slots end limit room places (λ k o v. let e : (at slots (end - 1)).count ≤ (at slots k).count = falling-at slots k (end - 1) h (omega arith) v w in omega arith) taken
 
@@ -271,7 +271,7 @@ earlier-stands limit room i j slots few l w e s =
           absurd (omega arith)
     ]
 
-pub falling-raised : (limit room : ℕ) (slots : List Slot) → length slots ≤ 368 → NeverRise (waiting slots) → NeverRise (waiting (raised_at (take room (runs limit slots)) slots))
+pub falling-raised : (limit room : ℕ) (slots : List Slot) → length slots ≤ 368 → NeverRise (queue_in slots) → NeverRise (queue_in (raised_at (take room (runs limit slots)) slots))
 falling-raised limit room slots few h = falling-from (raised_at (take room (runs limit slots)) slots) one
   where
     raised-is : (y : ℕ) → y < length slots → at (raised_at (take room (runs limit slots)) slots) y ≡ cond (stands y (take room (runs limit slots))) (bump (at slots y)) (at slots y)

@@ -10,7 +10,7 @@ use Rattle.swim_gossip.specs.declared.buffer.Waiting.{Waiting}
 use Rattle.swim_gossip.specs.declared.slots.Slot.{Slot}
 use Rattle.swim_gossip.specs.Queue.{is_about_any, raise_all, without, AreApart, AreWithin}
 use Rattle.swim_gossip.proofs.Apart.{raise, raised}
-use Rattle.swim_gossip.specs.Buckets.{at, runs, wait_of, waiting, bump, raised_at}
+use Rattle.swim_gossip.specs.Buckets.{at, runs, wait_of, queue_in, bump, raised_at}
 use Rattle.swim_gossip.proofs.Places.{place-one}
 use Rattle.swim_gossip.proofs.Rises.{rank, stands, RiseFrom, rise-take, rise-once}
 use Rattle.swim_gossip.proofs.Runs.{rise-runs, live-below, live-runs}
@@ -82,14 +82,14 @@ at-raised f low (x ∷ xs) slots y h l =
           rw n (rest ∙ ap (λ (v : Slot). cond (stands y xs) (bump v) v) here)
     ]
 
-same-who : (slots : List Slot) (x y : ℕ) → AreApart (waiting slots) → (at slots x).waits ≡ true → (at slots y).waits ≡ true → ((at slots x).update.who == (at slots y).update.who) ≡ (x == y)
+same-who : (slots : List Slot) (x y : ℕ) → AreApart (queue_in slots) → (at slots x).waits ≡ true → (at slots y).waits ≡ true → ((at slots x).update.who == (at slots y).update.who) ≡ (x == y)
 same-who slots x y h l m =
     elim (cases_Bool (x == y)) [
       | inl t ↦ rw t (eq-eqb (at slots x).update.who (at slots y).update.who (ap (λ (v : ℕ). (at slots v).update.who) (eqb-true x y t)))
       | inr n ↦ rw n (ne_eqb (at slots x).update.who (at slots y).update.who (λ e. eqb-false x y n (place-one slots x y h l m e)))
     ]
 
-about-places : (slots : List Slot) (xs : List ℕ) (y : ℕ) → AreApart (waiting slots) → ((x : ℕ) → stands x xs ≡ true → (at slots x).waits ≡ true) → (at slots y).waits ≡ true → is_about_any (at slots y).update.who (map (λ x. (at slots x).update) xs) ≡ stands y xs
+about-places : (slots : List Slot) (xs : List ℕ) (y : ℕ) → AreApart (queue_in slots) → ((x : ℕ) → stands x xs ≡ true → (at slots x).waits ≡ true) → (at slots y).waits ≡ true → is_about_any (at slots y).update.who (map (λ x. (at slots x).update) xs) ≡ stands y xs
 about-places slots [] y h l m = refl
 about-places slots (x ∷ xs) y h l m =
     rw (same-who slots x y h (l x (or_left (x == x) (stands x xs) (eq-eqb x x refl))) m, about-places slots xs y h (λ z s. l z (or_right (x == z) (stands z xs) s)) m) refl
@@ -100,20 +100,20 @@ live-all limit room slots = λ k d l.
     (list_any_at (λ y. y == get_or (take room (runs limit slots)) k d) (take room (runs limit slots)) k d l (eq-eqb (get_or (take room (runs limit slots)) k d) (get_or (take room (runs limit slots)) k d) refl))
 
 -- the same slots wait, and what waits there is what f makes of it
-waiting-map : (f : Waiting → Waiting) (next slots : List Slot) → length next ≡ length slots → ((y : ℕ) → y < length slots → (at next y).waits ≡ (at slots y).waits) → ((y : ℕ) → (at slots y).waits ≡ true → wait_of (at next y) ≡ f (wait_of (at slots y))) → waiting next ≡ map f (waiting slots)
+waiting-map : (f : Waiting → Waiting) (next slots : List Slot) → length next ≡ length slots → ((y : ℕ) → y < length slots → (at next y).waits ≡ (at slots y).waits) → ((y : ℕ) → (at slots y).waits ≡ true → wait_of (at next y) ≡ f (wait_of (at slots y))) → queue_in next ≡ map f (queue_in slots)
 waiting-map f [] [] e h k = refl
 waiting-map f [] (s ∷ slots) e h k = absurd (omega arith)
 waiting-map f (r ∷ next) [] e h k = absurd (omega arith)
 waiting-map f (r ∷ next) (s ∷ slots) e h k =
-    let rest : waiting next ≡ map f (waiting slots) = waiting-map f next slots (omega arith) (λ y l. h (suc y) (omega arith)) (λ y l. k (suc y) l) in
+    let rest : queue_in next ≡ map f (queue_in slots) = waiting-map f next slots (omega arith) (λ y l. h (suc y) (omega arith)) (λ y l. k (suc y) l) in
     let same : r.waits ≡ s.waits = h 0 (omega arith) in
     elim (cases_Bool s.waits) [
-      | inl w ↦ rw (same, w) (ap (λ (v : Waiting). v ∷ waiting next) (k 0 w) ∙ ap (λ (ws : List Waiting). f (wait_of s) ∷ ws) rest)
+      | inl w ↦ rw (same, w) (ap (λ (v : Waiting). v ∷ queue_in next) (k 0 w) ∙ ap (λ (ws : List Waiting). f (wait_of s) ∷ ws) rest)
       | inr w ↦ rw (same, w) rest
     ]
 
 -- to raise what stands at places is to raise the updates that stand there
-pub raised-runs : (limit room : ℕ) (slots : List Slot) → length slots ≤ 368 → AreApart (waiting slots) → waiting (raised_at (take room (runs limit slots)) slots) ≡ map (raise_all (map (λ x. (at slots x).update) (take room (runs limit slots)))) (waiting slots)
+pub raised-runs : (limit room : ℕ) (slots : List Slot) → length slots ≤ 368 → AreApart (queue_in slots) → queue_in (raised_at (take room (runs limit slots)) slots) ≡ map (raise_all (map (λ x. (at slots x).update) (take room (runs limit slots)))) (queue_in slots)
 raised-runs limit room slots few h = waiting-map (raise_all sent) (raised_at places slots) slots (length-raised places slots) (λ y l. ap (λ (s : Slot). s.waits) (raised-is y l) ∙ gap (stands y places) (at slots y)) one
   where
     places : List ℕ

@@ -7,15 +7,15 @@ use Rattle.swim_wire.specs.declared.update.Update.{Update}
 use Rattle.swim_gossip.specs.declared.buffer.Waiting.{Waiting}
 use Rattle.swim_gossip.specs.declared.slots.Slot.{Slot}
 use Rattle.swim_gossip.specs.Queue.{sent_times, in_turn, update_of, picked_updates, AreWithin}
-use Rattle.swim_gossip.specs.Buckets.{at, spots, runs, wait_of, waiting}
+use Rattle.swim_gossip.specs.Buckets.{at, spots, runs, wait_of, queue_in}
 use Rattle.swim_gossip.proofs.Rises.{rank, stands, RiseFrom, rise-weaker, rise-append, stands-parts}
 
 -- what waits there
-spots-at_from : (g : ℕ → Slot) (c i : ℕ) (slots : List Slot) → ((k : ℕ) → k < length slots → g (i + k) ≡ at slots k) → map (λ x. wait_of (g x)) (spots c i slots) ≡ sent_times c (waiting slots)
+spots-at_from : (g : ℕ → Slot) (c i : ℕ) (slots : List Slot) → ((k : ℕ) → k < length slots → g (i + k) ≡ at slots k) → map (λ x. wait_of (g x)) (spots c i slots) ≡ sent_times c (queue_in slots)
 spots-at_from g c i [] h = refl
 spots-at_from g c i (s ∷ slots) h =
     let first : g i ≡ s = ap g (let e : i ≡ i + 0 = omega arith in e) ∙ h 0 (omega arith) in
-    let rest : map (λ x. wait_of (g x)) (spots c (suc i) slots) ≡ sent_times c (waiting slots) =
+    let rest : map (λ x. wait_of (g x)) (spots c (suc i) slots) ≡ sent_times c (queue_in slots) =
     spots-at_from g c (suc i) slots (λ k l. ap g (let e : suc i + k ≡ i + suc k = omega arith in e) ∙ h (suc k) (omega arith)) in
     elim (cases_Bool s.waits) [
       | inl w ↦ elim (cases_Bool (s.count == c)) [
@@ -25,10 +25,10 @@ spots-at_from g c i (s ∷ slots) h =
       | inr w ↦ rw w rest
     ]
 
-spots-at : (c : ℕ) (slots : List Slot) → map (λ x. wait_of (at slots x)) (spots c 0 slots) ≡ sent_times c (waiting slots)
+spots-at : (c : ℕ) (slots : List Slot) → map (λ x. wait_of (at slots x)) (spots c 0 slots) ≡ sent_times c (queue_in slots)
 spots-at c slots = spots-at_from (at slots) c 0 slots (λ k l. ap (at slots) (let e : 0 + k ≡ k = omega arith in e))
 
-runs-at : (n : ℕ) (slots : List Slot) → map (λ x. wait_of (at slots x)) (runs n slots) ≡ in_turn n (waiting slots)
+runs-at : (n : ℕ) (slots : List Slot) → map (λ x. wait_of (at slots x)) (runs n slots) ≡ in_turn n (queue_in slots)
 runs-at zero slots = refl
 runs-at (suc n) slots = map-append (λ x. wait_of (at slots x)) (runs n slots) (spots n 0 slots) ∙ rw (runs-at n slots, spots-at n slots) refl
 
@@ -137,7 +137,7 @@ higher limit (suc n) slots l =
           }
     ]
 
-pub picked-runs : (limit room : ℕ) (slots : List Slot) → map (λ x. (at slots x).update) (take room (runs limit slots)) ≡ picked_updates limit room (waiting slots)
+pub picked-runs : (limit room : ℕ) (slots : List Slot) → map (λ x. (at slots x).update) (take room (runs limit slots)) ≡ picked_updates limit room (queue_in slots)
 picked-runs limit room slots =
     sym (take-map (λ x. (at slots x).update) room (runs limit slots))
     ∙ ap (take room) (both (runs limit slots) ∙ ap (map update_of) (runs-at limit slots))
@@ -164,11 +164,11 @@ live-runs limit room x slots s =
     (and_parts (at slots x).waits (nat_lt (at slots x).count limit)
     (sym (stands-runs limit x slots) ∙ stands-parts room (runs limit slots) x ∙ or_left (stands x (take room (runs limit slots))) (stands x (drop room (runs limit slots))) s)).0
 
-pub within-at : (most : ℕ) (slots : List Slot) (x : ℕ) → AreWithin most (waiting slots) → (at slots x).waits ≡ true → (at slots x).count ≤ most
+pub within-at : (most : ℕ) (slots : List Slot) (x : ℕ) → AreWithin most (queue_in slots) → (at slots x).waits ≡ true → (at slots x).count ≤ most
 within-at most [] x h l = absurd (false≢true l)
-within-at most (s ∷ slots) zero h l = let parts : (s.count ≤ most) × AreWithin most (waiting slots) = rw l at h in parts.0
+within-at most (s ∷ slots) zero h l = let parts : (s.count ≤ most) × AreWithin most (queue_in slots) = rw l at h in parts.0
 within-at most (s ∷ slots) (suc x) h l =
     elim (cases_Bool s.waits) [
-      | inl w ↦ let parts : (s.count ≤ most) × AreWithin most (waiting slots) = rw w at h in within-at most slots x parts.1 l
-      | inr w ↦ let rest : AreWithin most (waiting slots) = rw w at h in within-at most slots x rest l
+      | inl w ↦ let parts : (s.count ≤ most) × AreWithin most (queue_in slots) = rw w at h in within-at most slots x parts.1 l
+      | inr w ↦ let rest : AreWithin most (queue_in slots) = rw w at h in within-at most slots x rest l
     ]

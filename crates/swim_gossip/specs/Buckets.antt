@@ -13,17 +13,17 @@ abbrev pub at : List Slot → ℕ → Slot
 at slots x = slice_index_or slots x (record { update = filler; count = 0; waits = false })
 
 -- an update about x waits in the slot
-abbrev pub is_about : ℕ → Slot → Bool
-is_about x s = s.waits && (s.update.who == x)
+abbrev pub is_slot_of : ℕ → Slot → Bool
+is_slot_of x s = s.waits && (s.update.who == x)
 
 -- what waits in a slot that is no gap
 abbrev pub wait_of : Slot → Waiting
 wait_of s = record { update = s.update; count = s.count }
 
 -- the updates in slots that are no gaps
-abbrev pub waiting : List Slot → List Waiting
-waiting [] = []
-waiting (s ∷ slots) = cond s.waits (wait_of s ∷ waiting slots) (waiting slots)
+abbrev pub queue_in : List Slot → List Waiting
+queue_in [] = []
+queue_in (s ∷ slots) = cond s.waits (wait_of s ∷ queue_in slots) (queue_in slots)
 
 -- of n places from i on those that are no gaps
 abbrev pub lives : List Slot → ℕ → ℕ → List ℕ

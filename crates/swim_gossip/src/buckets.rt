@@ -4,7 +4,7 @@
 
 ghost use Rattle.std.specs.Prelude.{◌≡◌, ◌≢◌, ℕ, ◌+◌, ◌-◌, ◌*◌, ◌<◌, ◌≤◌, ◌==◌, ◌&&◌, not, true, false, List, [], ◌++◌, length, map, take, All};
 ghost use Rattle.swim_gossip.specs.Queue.{picked_updates, raise_all, AreApart, AreWithin, NeverRise};
-ghost use Rattle.swim_gossip.specs.Buckets.{at, lives, runs, raised_at, waiting};
+ghost use Rattle.swim_gossip.specs.Buckets.{at, lives, runs, raised_at, queue_in};
 ghost use Rattle.swim_gossip.specs.declared.buffer.TheConstants.{BUCKETS_MAX};
 ghost use Rattle.swim_gossip.specs.declared.slots.TheConstants.{SLOTS_MAX};
 ghost use Rattle.swim_wire.specs.declared.datagram.TheConstants.{UPDATES_MAX};
@@ -96,7 +96,7 @@ fn step_back(slots: &[Slot], place: usize, count: u32, visits: &mut Visits) -> u
 /// The first place of the bucket that ends before `end`, or of gaps before it.
 fn begin_of(slots: &[Slot], end: usize, visits: &mut Visits) -> usize
     requires few { length slots.now ≤ SLOTS_MAX }
-    requires falling { NeverRise (waiting slots.now) }
+    requires falling { NeverRise (queue_in slots.now) }
     requires some { 0 < end }
     requires end { end ≤ length slots.now }
     requires last { (at slots.now (end - 1)).waits ≡ true }
@@ -156,7 +156,7 @@ fn next_places(
     visits: &mut Visits,
 ) -> ArrayVec<u16, UPDATES_MAX>
     requires few { length slots.now ≤ SLOTS_MAX }
-    requires falling { NeverRise (waiting slots.now) }
+    requires falling { NeverRise (queue_in slots.now) }
     requires room { room ≤ UPDATES_MAX }
     requires begun { visits.old ≡ 0 }
     ensures places { result.items ≡ take room (runs limit slots.now) }
@@ -183,7 +183,7 @@ fn send_at(
     visits: &mut Visits,
 )
     requires places { All (λ x. (at slots.old x).waits ≡ true) places.now }
-    requires counts { AreWithin BUCKETS_MAX (waiting slots.old) }
+    requires counts { AreWithin BUCKETS_MAX (queue_in slots.old) }
     requires few { length places.now ≤ UPDATES_MAX }
     requires empty { updates.old.items ≡ [] }
     requires begun { visits.old ≤ 1000 }
@@ -208,16 +208,16 @@ pub(crate) fn pick_from(
     visits: &mut Visits,
 )
     requires room { room ≤ UPDATES_MAX }
-    requires apart { AreApart (waiting slots.old) }
+    requires apart { AreApart (queue_in slots.old) }
     requires few { length slots.old ≤ SLOTS_MAX }
-    requires counts { AreWithin BUCKETS_MAX (waiting slots.old) }
-    requires falling { NeverRise (waiting slots.old) }
+    requires counts { AreWithin BUCKETS_MAX (queue_in slots.old) }
+    requires falling { NeverRise (queue_in slots.old) }
     requires empty { updates.old.items ≡ [] }
     requires begun { visits.old ≡ 0 }
-    ensures picked { updates.new.items ≡ picked_updates limit room (waiting slots.old) }
-    ensures counted { waiting slots.new
-        ≡ map (raise_all (picked_updates limit room (waiting slots.old))) (waiting slots.old) }
-    ensures falling { NeverRise (waiting slots.new) }
+    ensures picked { updates.new.items ≡ picked_updates limit room (queue_in slots.old) }
+    ensures counted { queue_in slots.new
+        ≡ map (raise_all (picked_updates limit room (queue_in slots.old))) (queue_in slots.old) }
+    ensures falling { NeverRise (queue_in slots.new) }
     ensures long { length slots.new ≡ length slots.old }
     ensures visits { visits.new ≤ 858 }
 {

@@ -3,7 +3,7 @@
 ghost use Rattle.std.specs.Prelude.{◌≡◌, ℕ, ◌+◌, ◌<◌, ◌≤◌, List, [], ◌∷◌, ◌++◌, length, map};
 ghost use Rattle.swim_wire.specs.Filler.{filler};
 ghost use Rattle.swim_gossip.specs.Queue.{without, offered_queue, picked_updates, raise_all, AreApart, AreWithin, NeverRise};
-ghost use Rattle.swim_gossip.specs.Buckets.{waiting};
+ghost use Rattle.swim_gossip.specs.Buckets.{queue_in};
 ghost use Rattle.swim_wire.specs.declared.datagram.TheConstants.{UPDATES_MAX};
 
 use crate::buckets::pick_from;
@@ -56,15 +56,15 @@ pub struct Buffer {
 impl Model for Buffer {
     ghost use Rattle.std.specs.Prelude.{◌≡◌, ◌≤◌, length};
     ghost use Rattle.swim_gossip.specs.Queue.{Gossip};
-    ghost use Rattle.swim_gossip.specs.Buckets.{waiting, AreKept};
+    ghost use Rattle.swim_gossip.specs.Buckets.{queue_in, AreKept};
     ghost use Rattle.swim_gossip.specs.declared.buffer.TheConstants.{WAITING_MAX};
 
     ghost Value = { Gossip };
 
-    ghost view = { λ b. record { queue = waiting b.slots.items; most = b.most } };
+    ghost view = { λ b. record { queue = queue_in b.slots.items; most = b.most } };
 
-    ghost invariant = { λ b. AreKept (waiting b.slots.items) b.most
-        × (b.len ≡ length (waiting b.slots.items))
+    ghost invariant = { λ b. AreKept (queue_in b.slots.items) b.most
+        × (b.len ≡ length (queue_in b.slots.items))
         × (b.len ≤ WAITING_MAX) };
 }
 
@@ -77,16 +77,16 @@ fn pick_in(
     visits: &mut Visits,
 )
     requires room { room ≤ UPDATES_MAX }
-    requires apart { AreApart (waiting slots.old.items) }
-    requires counts { AreWithin BUCKETS_MAX (waiting slots.old.items) }
-    requires falling { NeverRise (waiting slots.old.items) }
+    requires apart { AreApart (queue_in slots.old.items) }
+    requires counts { AreWithin BUCKETS_MAX (queue_in slots.old.items) }
+    requires falling { NeverRise (queue_in slots.old.items) }
     requires empty { updates.old.items ≡ [] }
     requires begun { visits.old ≡ 0 }
-    ensures picked { updates.new.items ≡ picked_updates limit room (waiting slots.old.items) }
-    ensures counted { waiting slots.new.items
-        ≡ map (raise_all (picked_updates limit room (waiting slots.old.items)))
-        (waiting slots.old.items) }
-    ensures falling { NeverRise (waiting slots.new.items) }
+    ensures picked { updates.new.items ≡ picked_updates limit room (queue_in slots.old.items) }
+    ensures counted { queue_in slots.new.items
+        ≡ map (raise_all (picked_updates limit room (queue_in slots.old.items)))
+        (queue_in slots.old.items) }
+    ensures falling { NeverRise (queue_in slots.new.items) }
     ensures visits { visits.new ≤ 858 }
 {
     pick_from(slots, limit, room, updates, visits);

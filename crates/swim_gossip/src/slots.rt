@@ -4,7 +4,7 @@ ghost use Rattle.std.specs.Prelude.{◌≡◌, ℕ, ◌+◌, ◌<◌, ◌≤◌,
 ghost use Rattle.std.specs.List.{filter};
 ghost use Rattle.swim_wire.specs.Filler.{filler};
 ghost use Rattle.swim_gossip.specs.Queue.{is_queued, without, AreApart};
-ghost use Rattle.swim_gossip.specs.Buckets.{at, is_about, waiting};
+ghost use Rattle.swim_gossip.specs.Buckets.{at, is_slot_of, queue_in};
 ghost use Rattle.swim_gossip.specs.declared.buffer.TheConstants.{WAITING_MAX};
 ghost use Rattle.swim_gossip.specs.declared.slots.TheConstants.{HINTS_MAX, SLOTS_MAX};
 
@@ -59,7 +59,7 @@ impl Slot {
 
     /// Whether an update about this member waits here.
     fn is_about(&self, who: Endpoint) -> bool
-        ensures { result ≡ is_about who self.now }
+        ensures { result ≡ is_slot_of who self.now }
     {
         self.waits && self.update.who == who
     }
@@ -77,8 +77,8 @@ pub(crate) fn hint_of(who: Endpoint) -> usize
 pub(crate) fn place_of(slots: &[Slot], who: Endpoint, hint: usize, visits: &mut Visits) -> usize
     requires few { length slots.now ≤ SLOTS_MAX }
     requires begun { visits.old ≡ 0 }
-    ensures found { result < length slots.now → is_about who (at slots.now result) ≡ true }
-    ensures none { length slots.now ≤ result → is_queued who (waiting slots.now) ≡ false }
+    ensures found { result < length slots.now → is_slot_of who (at slots.now result) ≡ true }
+    ensures none { length slots.now ≤ result → is_queued who (queue_in slots.now) ≡ false }
     ensures visits { visits.new ≤ 369 }
 {
     visits.look();
@@ -118,10 +118,10 @@ fn move_together(slots: &mut [Slot], hints: &mut [u16]) -> usize
 /// Closes the gaps.
 fn close_gaps(slots: &mut ArrayVec<Slot, SLOTS_MAX>, hints: &mut [u16], visits: &mut Visits)
     requires hints { length hints.old ≡ HINTS_MAX }
-    requires few { length (waiting slots.old.items) ≤ WAITING_MAX }
+    requires few { length (queue_in slots.old.items) ≤ WAITING_MAX }
     requires begun { visits.old ≤ 1000 }
-    ensures queue { waiting slots.new.items ≡ waiting slots.old.items }
-    ensures closed { length slots.new.items ≡ length (waiting slots.old.items) }
+    ensures queue { queue_in slots.new.items ≡ queue_in slots.old.items }
+    ensures closed { length slots.new.items ≡ length (queue_in slots.old.items) }
     ensures hints { length hints.new ≡ HINTS_MAX }
     ensures visits { visits.new ≤ visits.old + 625 }
 {
@@ -134,10 +134,10 @@ fn close_gaps(slots: &mut ArrayVec<Slot, SLOTS_MAX>, hints: &mut [u16], visits: 
 /// Leaves a gap in the place of the update about a member, and gives how many such places there were.
 fn clear_in(slots: &mut [Slot], who: Endpoint, hint: usize, visits: &mut Visits) -> usize
     requires few { length slots.old ≤ SLOTS_MAX }
-    requires apart { AreApart (waiting slots.old) }
+    requires apart { AreApart (queue_in slots.old) }
     requires begun { visits.old ≡ 0 }
-    ensures queue { waiting slots.new ≡ without who (waiting slots.old) }
-    ensures fewer { length (waiting slots.new) + result ≡ length (waiting slots.old) }
+    ensures queue { queue_in slots.new ≡ without who (queue_in slots.old) }
+    ensures fewer { length (queue_in slots.new) + result ≡ length (queue_in slots.old) }
     ensures long { length slots.new ≡ length slots.old }
     ensures visits { visits.new ≤ 369 }
 {
@@ -156,11 +156,11 @@ pub(crate) fn clear_about(
     hint: usize,
     visits: &mut Visits,
 ) -> usize
-    requires apart { AreApart (waiting slots.old.items) }
+    requires apart { AreApart (queue_in slots.old.items) }
     requires begun { visits.old ≡ 0 }
-    ensures queue { waiting slots.new.items ≡ without who (waiting slots.old.items) }
-    ensures fewer { length (waiting slots.new.items) + result
-        ≡ length (waiting slots.old.items) }
+    ensures queue { queue_in slots.new.items ≡ without who (queue_in slots.old.items) }
+    ensures fewer { length (queue_in slots.new.items) + result
+        ≡ length (queue_in slots.old.items) }
     ensures visits { visits.new ≤ 369 }
 {
     clear_in(slots, who, hint, visits)
@@ -175,11 +175,11 @@ pub(crate) fn put(
     visits: &mut Visits,
 )
     requires hints { length hints.old ≡ HINTS_MAX }
-    requires len { len ≡ length (waiting slots.old.items) }
+    requires len { len ≡ length (queue_in slots.old.items) }
     requires room { len < WAITING_MAX }
     requires begun { visits.old ≤ 369 }
-    ensures queue { waiting slots.new.items
-        ≡ waiting slots.old.items ++ record { update = update; count = 0 } ∷ [] }
+    ensures queue { queue_in slots.new.items
+        ≡ queue_in slots.old.items ++ record { update = update; count = 0 } ∷ [] }
     ensures hints { length hints.new ≡ HINTS_MAX }
     ensures visits { visits.new ≤ visits.old + 626 }
 {
@@ -196,7 +196,7 @@ pub(crate) fn fill(queue: &[Waiting], slots: &mut ArrayVec<Slot, SLOTS_MAX>, hin
     requires few { length queue.now ≤ WAITING_MAX }
     requires empty { slots.old.items ≡ [] }
     requires hints { length hints.old ≡ HINTS_MAX }
-    ensures queue { waiting slots.new.items ≡ queue.now }
+    ensures queue { queue_in slots.new.items ≡ queue.now }
     ensures hints { length hints.new ≡ HINTS_MAX }
 {
     for waits in queue {
@@ -207,8 +207,8 @@ pub(crate) fn fill(queue: &[Waiting], slots: &mut ArrayVec<Slot, SLOTS_MAX>, hin
 
 /// The updates in slots that are no gaps.
 pub(crate) fn waiting_in(slots: &[Slot]) -> ArrayVec<Waiting, WAITING_MAX>
-    requires { length (waiting slots.now) ≤ WAITING_MAX }
-    ensures { result.items ≡ waiting slots.now }
+    requires { length (queue_in slots.now) ≤ WAITING_MAX }
+    ensures { result.items ≡ queue_in slots.now }
 {
     let mut queue = ArrayVec::new();
     for slot in slots {

@@ -70,7 +70,8 @@ resume_fault s =
     else (if not (list_all (is_live s.time s.settings.period) s.relays) then Some fault.Relays
     else (if not (are_distinct s.listed) then Some fault.Listed
     else (if not (nat_le s.place (length s.listed)) then Some fault.Place
-    else (if not (are_falling (s.settings.lambda * 9) s.queue) then Some fault.Order else None)))))))))
+    else (if not (are_falling (s.settings.lambda * 9) s.queue) then Some fault.Order
+    else None)))))))))
 
 -- the number, the name and the text of each; 10 to 13 are numbers of other faults of a beginning
 abbrev pub resume_number : ResumeFault → ℕ

@@ -3,7 +3,7 @@ use Rattle.std.specs.List.{All}
 use Rattle.swim_wire.specs.declared.update.Update.{Update}
 use Rattle.swim_gossip.specs.declared.slots.Slot.{Slot}
 use Rattle.swim_gossip.specs.Queue.{raise_all, NeverRise}
-use Rattle.swim_gossip.specs.Buckets.{at, raised_at, waiting}
+use Rattle.swim_gossip.specs.Buckets.{at, raised_at, queue_in}
 use Rattle.swim_gossip.proofs.Falling.{falling-raised}
 use Rattle.swim_gossip.proofs.Runs.{picked-runs}
 use Rattle.swim_gossip.proofs.Raised.{live-all, raised-runs}
@@ -21,12 +21,12 @@ returns-clause-picked c =
 
 pub returns-clause-counted : goal.returns-clause-counted
 returns-clause-counted c =
-    ap waiting c.send_at.ensures.slots
-    ∙ ap (λ (xs : List ℕ). waiting (raised_at xs c.args.slots.now)) (c.deref.ensures.0 ∙ c.next_places-places.ensures.places)
+    ap queue_in c.send_at.ensures.slots
+    ∙ ap (λ (xs : List ℕ). queue_in (raised_at xs c.args.slots.now)) (c.deref.ensures.0 ∙ c.next_places-places.ensures.places)
     ∙ raised-runs c.args.limit c.args.room c.args.slots.now c.requires.few c.requires.apart
-    ∙ ap (λ (us : List Update). map (raise_all us) (waiting c.args.slots.now)) (picked-runs c.args.limit c.args.room c.args.slots.now)
+    ∙ ap (λ (us : List Update). map (raise_all us) (queue_in c.args.slots.now)) (picked-runs c.args.limit c.args.room c.args.slots.now)
 
 pub returns-clause-falling : goal.returns-clause-falling
 returns-clause-falling c =
-    subst (λ (slots : List Slot). NeverRise (waiting slots)) (sym (c.send_at.ensures.slots ∙ ap (λ (xs : List ℕ). raised_at xs c.args.slots.now) (c.deref.ensures.0 ∙ c.next_places-places.ensures.places)))
+    subst (λ (slots : List Slot). NeverRise (queue_in slots)) (sym (c.send_at.ensures.slots ∙ ap (λ (xs : List ℕ). raised_at xs c.args.slots.now) (c.deref.ensures.0 ∙ c.next_places-places.ensures.places)))
     (falling-raised c.args.limit c.args.room c.args.slots.now c.requires.few c.requires.falling)

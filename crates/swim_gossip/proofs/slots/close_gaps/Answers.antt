@@ -1,7 +1,7 @@
 use Rattle.std.proofs.Common.{◌≡◌, length, take, ap, ◌∙◌, arith}
 use Rattle.std.specs.List.{filter}
 use Rattle.swim_gossip.specs.declared.slots.Slot.{Slot}
-use Rattle.swim_gossip.specs.Buckets.{waiting}
+use Rattle.swim_gossip.specs.Buckets.{queue_in}
 use Rattle.swim_gossip.proofs.Places.{refilled, waiting-closed, length-closed}
 use Rattle.swim_gossip.proofs.slots.close_gaps.Goals as goal
 
@@ -14,7 +14,7 @@ closed c =
     ∙ ap (filter (λ (s : Slot). s.waits)) c.deref_mut.ensures.value
 
 pub returns-clause-queue : goal.returns-clause-queue
-returns-clause-queue c = ap waiting (closed c) ∙ waiting-closed c.args.slots.now.items
+returns-clause-queue c = ap queue_in (closed c) ∙ waiting-closed c.args.slots.now.items
 
 pub returns-clause-closed : goal.returns-clause-closed
 returns-clause-closed c = ap length (closed c) ∙ length-closed c.args.slots.now.items

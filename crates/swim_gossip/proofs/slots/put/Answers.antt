@@ -1,17 +1,17 @@
 use Rattle.std.proofs.Common.{◌≡◌, ◌++◌, ◌∷◌, [], List, refl, ap, ◌∙◌}
 use Rattle.swim_gossip.specs.declared.buffer.Waiting.{Waiting}
 use Rattle.swim_gossip.specs.declared.slots.Slot.{Slot}
-use Rattle.swim_gossip.specs.Buckets.{waiting}
+use Rattle.swim_gossip.specs.Buckets.{queue_in}
 use Rattle.swim_gossip.proofs.Places.{waiting-append}
 use Rattle.swim_gossip.proofs.slots.put.Goals as goal
 
 pub returns-clause-queue : goal.returns-clause-queue
 returns-clause-queue c =
-    let same : waiting c.if-is_full.slots.items ≡ waiting c.args.slots.now.items = elim c.if-is_full.branch [
+    let same : queue_in c.if-is_full.slots.items ≡ queue_in c.args.slots.now.items = elim c.if-is_full.branch [
       | goal.then-is_full w ↦ rw w.slots-is w.close_gaps.ensures.queue
       | goal.else-is_full+else-len w ↦ rw w.slots-is refl
     ] in
-    ap waiting c.push.ensures.items
+    ap queue_in c.push.ensures.items
     ∙ waiting-append c.if-is_full.slots.items _
-    ∙ ap (λ (s : Slot). waiting c.if-is_full.slots.items ++ waiting (s ∷ [])) c.new.ensures
+    ∙ ap (λ (s : Slot). queue_in c.if-is_full.slots.items ++ queue_in (s ∷ [])) c.new.ensures
     ∙ ap (λ (ws : List Waiting). ws ++ record { update = c.args.update; count = 0 } ∷ []) same
