@@ -81,7 +81,11 @@ const SOCKET: &str =
 
 /// What else to say where an address was refused.
 const ADDRESS: &str =
-    "an address is an IPv4 endpoint without leading zeros, such as 127.0.0.1:7001";
+    "an address is an IPv4 endpoint without leading zeros, such as 127.0.0.1:7001; where a member is asked it may be a host name with a port too, such as db1.example:7001";
+
+/// What else to say where a host was refused.
+const HOST: &str =
+    "the system knows no IPv4 address of this host: `getent ahostsv4 NAME` asks it the same";
 
 impl Ending {
     ghost use Rattle.std.specs.Prelude.{◌≡◌};
@@ -99,6 +103,7 @@ impl Ending {
             Ending::Settings(_) => Some(SETTINGS),
             Ending::File => Some(FILE),
             Ending::Socket => Some(SOCKET),
+            Ending::Host => Some(HOST),
             Ending::Address => Some(ADDRESS),
             _ => None,
         }

@@ -1,4 +1,3 @@
-use Rattle.std.proofs.Common.{sym}
 use Rattle.std.specs.Fmt.{decimal}
 use Rattle.swim_words.specs.Hosts.{IsHostName}
 use Rattle.swim_words.proofs.Naming.{host_parts}
