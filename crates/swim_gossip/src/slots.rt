@@ -74,7 +74,7 @@ pub(crate) fn hint_of(who: Endpoint) -> usize
 }
 
 /// The place of the update about a member, or how many slots there are. The hint is where it may stand.
-pub(crate) fn place_of(slots: &[Slot], who: Endpoint, hint: usize, visits: &mut Visits) -> usize
+fn place_of(slots: &[Slot], who: Endpoint, hint: usize, visits: &mut Visits) -> usize
     requires few { length slots.now ≤ SLOTS_MAX }
     requires begun { visits.old ≡ 0 }
     ensures found { result < length slots.now → is_slot_of who (at slots.now result) ≡ true }
