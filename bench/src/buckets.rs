@@ -1,4 +1,4 @@
-//! Ways to keep the updates that wait, side by side in plain Rust: one queue, and buckets that are kept at all times. Both
+//! Ways to keep the updates that wait, side by side in plain Rust: slots with gaps, and buckets that are linked both ways. Both
 //! answer the same. `bench/buckets` builds and runs it, and counts instructions beside the nanoseconds.
 
 use crate::plain::buckets::{BUCKETS_MAX, Buckets};
@@ -121,8 +121,8 @@ fn turns_in(case: &str, members: u32) -> u32 {
 /// One side's turns, by its name.
 fn side(name: &str, case: &str, members: u32, turns: u32) -> Option<u64> {
     match name {
-        "queue" => turns_of::<Buckets>(case, members, turns),
-        "kept" => turns_of::<Kept>(case, members, turns),
+        "slots" => turns_of::<Buckets>(case, members, turns),
+        "linked" => turns_of::<Kept>(case, members, turns),
         _ => None,
     }
 }
@@ -138,7 +138,7 @@ fn measure(case: &str, members: u32) -> [f64; 2] {
     let timed = turns_in(case, members);
     let mut least = [[f64::MAX; 2]; 2];
     for _ in 0..ROUNDS {
-        for (least, name) in least.iter_mut().zip(["queue", "kept"]) {
+        for (least, name) in least.iter_mut().zip(["slots", "linked"]) {
             for (least, turns) in least.iter_mut().zip([0, timed]) {
                 *least = nanos(name, case, members, turns).min(*least);
             }
@@ -148,18 +148,18 @@ fn measure(case: &str, members: u32) -> [f64; 2] {
 }
 
 fn table() {
-    println!("| Case | wait | one queue, ns | kept buckets, ns |\n|---|---:|---:|---:|");
+    println!("| Case | wait | slots, ns | linked buckets, ns |\n|---|---:|---:|---:|");
     for case in CASES {
         for members in WAITING {
             for turns in [0, 1, 7, 100, turns_in(case, members)] {
-                let [queue, kept] = ["queue", "kept"].map(|name| side(name, case, members, turns));
+                let [slots, linked] = ["slots", "linked"].map(|name| side(name, case, members, turns));
                 assert_eq!(
-                    queue, kept,
+                    slots, linked,
                     "{case}, {members} wait: the answers differ after {turns} turns"
                 );
             }
-            let [queue, kept] = measure(case, members);
-            println!("| {case} | {members} | {queue:.0} | {kept:.0} |");
+            let [slots, linked] = measure(case, members);
+            println!("| {case} | {members} | {slots:.0} | {linked:.0} |");
         }
     }
 }
@@ -184,7 +184,7 @@ pub fn start(words: &[String]) -> ExitCode {
             ExitCode::SUCCESS
         }
         None => {
-            eprintln!("usage: bench buckets [queue|kept CASE WAITING TURNS]");
+            eprintln!("usage: bench buckets [slots|linked CASE WAITING TURNS]");
             ExitCode::from(2)
         }
     }

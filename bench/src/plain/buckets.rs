@@ -1,51 +1,89 @@
-//! The updates that wait, in one list in the order in which they began, and buckets by count that a pick links anew: what the
-//! proved crates do, with nothing counted.
+//! The updates that wait, in slots in the order in which they began. What began earlier was sent as often or more often, so each
+//! bucket is a run of slots, the lowest one last. What is removed leaves a gap, and a hint says where the update about a member may
+//! stand. That is what the proved crates do, with nothing counted.
 
 use super::table::ROWS_MAX;
 use super::waits::Waits;
 use super::wire::{Endpoint, UPDATES_MAX, Update, Updates};
 
-const WAITING_MAX: usize = ROWS_MAX + 1;
+const SLOTS_MAX: usize = ROWS_MAX + 112;
+
+/// The gaps are closed too where they are so many more than what waits.
+const GAPS: usize = 32;
+
+const HINTS_MAX: usize = 1024;
 
 /// The greatest limit of a pick.
 pub const BUCKETS_MAX: u32 = 144;
 
-/// No place: the end of a bucket.
-const END: u16 = WAITING_MAX as u16;
+/// How many places are passed at once, at first, on the way to the begin of a bucket.
+const STRIDE: usize = 16;
 
 #[derive(Clone, Copy, Default)]
-struct Waiting {
+struct Slot {
     update: Update,
     count: u32,
+    waits: bool,
 }
 
 pub struct Buckets {
-    queue: [Waiting; WAITING_MAX],
+    slots: [Slot; SLOTS_MAX],
+    /// How many slots are taken, gaps among them.
+    end: usize,
     len: usize,
+    hints: [u16; HINTS_MAX],
+}
+
+/// Which hint is that of a member.
+fn hint_of(who: Endpoint) -> usize {
+    let number = u64::from(who.address) << 16 | u64::from(who.port);
+    (number.wrapping_mul(0x9e37_79b9_7f4a_7c15) >> 32) as usize % HINTS_MAX
+}
+
+/// The first place of the bucket that ends before `end`, or of gaps before it.
+fn begin_of(slots: &[Slot], end: usize) -> usize {
+    let mut begin = end - 1;
+    let count = slots[begin].count;
+    while STRIDE <= begin && slots[begin - STRIDE].waits && slots[begin - STRIDE].count == count {
+        begin -= STRIDE;
+    }
+    while 0 < begin && !(slots[begin - 1].waits && slots[begin - 1].count != count) {
+        begin -= 1;
+    }
+    begin
 }
 
 impl Buckets {
-    /// Looked for from both ends.
     fn place_of(&self, who: Endpoint) -> Option<usize> {
-        let queue = &self.queue[..self.len];
-        for (front, waiting) in queue[..queue.len().div_ceil(2)].iter().enumerate() {
-            if waiting.update.who == who {
-                return Some(front);
-            }
-            let back = queue.len() - 1 - front;
-            if queue[back].update.who == who {
-                return Some(back);
+        let slots = &self.slots[..self.end];
+        let hint = usize::from(self.hints[hint_of(who)]);
+        let is_about = |slot: &Slot| slot.waits && slot.update.who == who;
+        if slots.get(hint).is_some_and(is_about) {
+            return Some(hint);
+        }
+        slots.iter().position(is_about)
+    }
+
+    fn close_gaps(&mut self) {
+        let mut kept = 0;
+        for place in 0..self.end {
+            if self.slots[place].waits {
+                self.hints[hint_of(self.slots[place].update.who)] = kept as u16;
+                self.slots[kept] = self.slots[place];
+                kept += 1;
             }
         }
-        None
+        self.end = kept;
     }
 }
 
 impl Waits for Buckets {
     fn new() -> Buckets {
         Buckets {
-            queue: [Waiting::default(); WAITING_MAX],
+            slots: [Slot::default(); SLOTS_MAX],
+            end: 0,
             len: 0,
+            hints: [0; HINTS_MAX],
         }
     }
 
@@ -55,39 +93,44 @@ impl Waits for Buckets {
 
     fn remove(&mut self, who: Endpoint) {
         if let Some(place) = self.place_of(who) {
-            self.queue.copy_within(place + 1..self.len, place);
+            self.slots[place].waits = false;
             self.len -= 1;
         }
     }
 
     fn offer(&mut self, update: Update) {
         self.remove(update.who);
-        self.queue[self.len] = Waiting { update, count: 0 };
+        if self.end == SLOTS_MAX || self.end > 2 * self.len + GAPS {
+            self.close_gaps();
+        }
+        self.hints[hint_of(update.who)] = self.end as u16;
+        self.slots[self.end] = Slot {
+            update,
+            count: 0,
+            waits: true,
+        };
+        self.end += 1;
         self.len += 1;
     }
 
     fn pick(&mut self, limit: u32) -> Updates {
-        let queue = &mut self.queue[..self.len];
-        let mut heads = [END; BUCKETS_MAX as usize + 1];
-        let mut links = [END; WAITING_MAX];
-        for (place, waiting) in queue.iter().enumerate().rev() {
-            if waiting.count < limit {
-                links[place] = heads[waiting.count as usize];
-                heads[waiting.count as usize] = place as u16;
-            }
-        }
         let mut updates = Updates::new();
-        for head in &heads[..limit as usize] {
-            let mut place = *head;
-            while place != END {
+        let mut end = self.end;
+        while 0 < end && !self.slots[end - 1].waits {
+            end -= 1;
+        }
+        while 0 < end && self.slots[end - 1].count < limit && updates.as_slice().len() < UPDATES_MAX {
+            let begin = begin_of(&self.slots, end);
+            for slot in &mut self.slots[begin..end] {
                 if updates.as_slice().len() == UPDATES_MAX {
-                    return updates;
+                    break;
                 }
-                let waiting = &mut queue[usize::from(place)];
-                waiting.count += 1;
-                updates.push(waiting.update);
-                place = links[usize::from(place)];
+                if slot.waits {
+                    slot.count += 1;
+                    updates.push(slot.update);
+                }
             }
+            end = begin;
         }
         updates
     }
