@@ -1,7 +1,8 @@
 //! Ticks: time goes on, and what is due by it is done.
 
-ghost use Rattle.std.specs.Prelude.{◌≡◌, ◌<◌, ◌+◌};
+ghost use Rattle.std.specs.Prelude.{◌≡◌, ◌<◌, ◌+◌, true, false};
 ghost use Rattle.swim_member.specs.Events.{Advance, tick_actions, perform, no_answer};
+ghost use Rattle.swim_member.specs.Probe.{is_at};
 ghost use Rattle.swim_member.specs.Machinery.Steps.{apply_all, after, notes_by, outs_by};
 ghost use Rattle.swim_member.specs.Machinery.Adding.{Adds};
 
@@ -23,6 +24,15 @@ impl Member {
         keep_live(&mut self.relays, self.time, self.settings.period);
     }
 
+    /// Whether no probe ends, begins or is asked about now, as in most ticks. Each of these would divide for itself.
+    fn is_between_probes(&self) -> bool
+        ensures { result ≡ true
+            → is_at self.now 0 ≡ false × is_at self.now self.now.settings.direct ≡ false }
+    {
+        let moment = self.time % self.settings.period;
+        moment != 0 && moment != self.settings.direct
+    }
+
     /// A tick that counts: time goes on, rows change by it, and a probe ends, is asked about or begins.
     pub(crate) fn tick(&mut self, deal: &Deal, answer: &mut Answer)
         requires time { self.old.time < LAST_TIME }
@@ -35,6 +45,9 @@ impl Member {
         self.advance();
         self.expire_all();
         self.forget_all();
+        if self.is_between_probes() {
+            return;
+        }
         self.blame(answer);
         self.probe_next(deal, answer);
         self.ask_all(answer);
