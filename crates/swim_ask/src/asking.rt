@@ -1,6 +1,6 @@
 //! `swim ctl`.
 
-use crate::place::Place;
+use crate::place::find;
 use std::io::{self, ErrorKind, Read, Write};
 use std::net::{Net, TcpStream};
 use std::rt::Clock;
@@ -109,5 +109,5 @@ pub fn ask<R: Net<Stream = TcpStream> + Clock + AllocGlobal>(
     to: &str,
     line: &str,
 ) -> Result<Vec<u8>, Ending> {
-    exchange(rt, Place::read(to)?.find(rt)?, line)
+    exchange(rt, find(rt, to)?, line)
 }

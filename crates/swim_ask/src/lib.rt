@@ -14,6 +14,6 @@ mod watching;
 pub use asking::ask;
 pub use looking::{Shown, look};
 pub use paint::Paint;
-pub use place::Place;
+pub use place::{find, judge};
 pub use status::{StatusJson, read_status};
 pub use watching::{Watched, show_members, watch_members};

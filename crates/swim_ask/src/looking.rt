@@ -2,7 +2,7 @@
 
 use crate::asking::exchange;
 use crate::paging::read_rows;
-use crate::place::Place;
+use crate::place::find;
 use crate::status::read_status;
 use std::net::{Net, TcpStream};
 use std::rt::Clock;
@@ -19,13 +19,13 @@ pub struct Shown {
     pub rows: Option<Rows>,
 }
 
-/// Asks a member for its status and for all rows. Each of its answers takes at most 5 seconds. An error says that it did not
+/// Asks the member whose control socket a word names for its status and for all rows. Each of its answers takes at most 5 seconds. An error says that it did not
 /// answer, or not so.
 pub fn look<R: Net<Stream = TcpStream> + Clock + AllocGlobal>(
     rt: &R,
-    place: Place<'_>,
+    word: &str,
 ) -> Result<Shown, Ending> {
-    let to = place.find(rt)?;
+    let to = find(rt, word)?;
     let answer = exchange(rt, to, "status")?;
     let status = read_status(answer.as_slice()).ok_or(Ending::Answer)?;
     let rows = read_rows(rt, to)?;

@@ -7,35 +7,34 @@ use swim_net::endpoint_of;
 use swim_wire::Endpoint;
 use swim_words::{read_endpoint, read_host};
 
-/// A control socket, as a word names it.
-#[derive(Clone, Copy, Debug)]
-pub enum Place<'a> {
-    /// An endpoint.
-    At(Endpoint),
-    /// A port of a host with this name. Its address may be another one each time that it is asked for.
-    Host(&'a str, u16),
+/// Refuses a word that names no control socket: it is neither an endpoint nor a host name and a port.
+pub fn judge(word: &str) -> Result<(), Ending> {
+    let bytes = word.as_bytes();
+    if read_endpoint(bytes).is_some() || read_host(bytes).is_some() {
+        Ok(())
+    } else {
+        Err(Ending::Address)
+    }
 }
 
-impl<'a> Place<'a> {
-    /// What a word names: an endpoint, or else a host name and a port. An error is that it is neither.
-    pub fn read(word: &'a str) -> Result<Place<'a>, Ending> {
-        if let Some(endpoint) = read_endpoint(word.as_bytes()) {
-            return Ok(Place::At(endpoint));
+/// The first IPv4 address that the system gives of a host now, with this port. An error is that there is none, or no memory.
+fn look_up<R: Net>(rt: &R, host: &str, port: u16) -> Result<Endpoint, Ending> {
+    let found = (host, port).to_socket_addrs(rt);
+    for address in found.map_err(|error| Ending::of(&error, Ending::Host))? {
+        if let Some(endpoint) = endpoint_of(address) {
+            return Ok(endpoint);
         }
-        let (name, port) = read_host(word.as_bytes()).ok_or(Ending::Address)?;
-        let name = str::from_utf8(name).map_err(|_| Ending::Address)?;
-        Ok(Place::Host(name, port))
     }
+    Err(Ending::Host)
+}
 
-    /// Its endpoint now: of a host the first IPv4 address that the system gives. An error is that there is none, or no memory.
-    pub fn find<R: Net>(self, rt: &R) -> Result<Endpoint, Ending> {
-        match self {
-            Place::At(endpoint) => Ok(endpoint),
-            Place::Host(name, port) => {
-                let found = (name, port).to_socket_addrs(rt);
-                let mut addresses = found.map_err(|error| Ending::of(&error, Ending::Host))?;
-                addresses.find_map(endpoint_of).ok_or(Ending::Host)
-            }
-        }
+/// The control socket that a word names now: an endpoint as it stands, or else a port of a host, which is looked up each time. An error
+/// says that the word is neither, that no such host was found, or that there was no memory.
+pub fn find<R: Net>(rt: &R, word: &str) -> Result<Endpoint, Ending> {
+    if let Some(endpoint) = read_endpoint(word.as_bytes()) {
+        return Ok(endpoint);
     }
+    let (host, port) = read_host(word.as_bytes()).ok_or(Ending::Address)?;
+    let host = str::from_utf8(host).map_err(|_| Ending::Address)?;
+    look_up(rt, host, port)
 }

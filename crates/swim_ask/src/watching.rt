@@ -3,7 +3,7 @@
 use crate::gap::{Gap, GapJson};
 use crate::paging::read_rows;
 use crate::paint::{Paint, PaintedChange, PaintedKind};
-use crate::place::Place;
+use crate::place::{find, judge};
 use crate::timed::{Timed, TimedJson};
 use arrayvec::ArrayString;
 use std::fmt::{self, Display, Write as _};
@@ -63,7 +63,7 @@ pub fn show_members<R: Net<Stream = TcpStream> + Clock + AllocGlobal + Print>(
     as_json: bool,
     paint: Paint,
 ) -> Result<(), Ending> {
-    let to = Place::read(to)?.find(rt)?;
+    let to = find(rt, to)?;
     for _ in 0..AGAIN_MAX {
         if let Some(rows) = read_rows(rt, to)? {
             return if as_json {
@@ -103,12 +103,12 @@ pub struct Watched<'a> {
     pub paint: Paint,
 }
 
-/// The rows of the member that is at a place now.
+/// The rows of the member whose control socket a word names now.
 fn rows_at<R: Net<Stream = TcpStream> + Clock + AllocGlobal>(
     rt: &R,
-    place: Place<'_>,
+    word: &str,
 ) -> Result<Option<Rows>, Ending> {
-    read_rows(rt, place.find(rt)?)
+    read_rows(rt, find(rt, word)?)
 }
 
 impl Watched<'_> {
@@ -140,10 +140,9 @@ impl Watched<'_> {
     fn rows_now<R: Net<Stream = TcpStream> + Clock + AllocGlobal + Print>(
         &self,
         rt: &R,
-        place: Place<'_>,
         is_lost: &mut bool,
     ) -> Result<Option<Rows>, Ending> {
-        let read = rows_at(rt, place);
+        let read = rows_at(rt, self.to);
         let answers = !matches!(read, Err(Ending::Host | Ending::Socket | Ending::Answer));
         if !answers && self.once {
             return read;
@@ -163,11 +162,11 @@ pub fn watch_members<R: Net<Stream = TcpStream> + Clock + AllocGlobal + Print, T
     wait: &T,
     watched: &Watched<'_>,
 ) -> Result<(), Ending> {
-    let place = Place::read(watched.to)?;
+    judge(watched.to)?;
     let mut before = Rows::new();
     let mut is_lost = false;
     for _ in wait.forever() {
-        if let Some(rows) = watched.rows_now(rt, place, &mut is_lost)? {
+        if let Some(rows) = watched.rows_now(rt, &mut is_lost)? {
             watched.tell_news(rt, &before, &rows)?;
             before = rows;
         }

@@ -4,7 +4,7 @@ use std::net::{Net, TcpStream};
 use std::sync::{Mutex, Wait, WaitMethods};
 use std::thread;
 use std::time::{Clock, Duration, Instant};
-use swim_ask::{Place, Shown, look};
+use swim_ask::{Shown, look};
 use swim_news::Rows;
 use swim_pages::Seen;
 
@@ -95,11 +95,11 @@ impl Known {
 pub(crate) fn follow<R: Net<Stream = TcpStream> + Clock + AllocGlobal, T: Wait>(
     rt: &R,
     wait: &T,
-    place: Place<'_>,
+    word: &str,
     known: &Mutex<Known>,
 ) {
     for _ in wait.forever() {
-        let look = look(rt, place).ok();
+        let look = look(rt, word).ok();
         known.lock(wait).take(rt, look);
         thread::sleep(rt, Duration::from_millis(EVERY_MILLIS));
     }

@@ -7,7 +7,7 @@ use std::net::{Net, TcpListener, TcpStream};
 use std::rt::Clock;
 use std::sync::{Mutex, Wait};
 use std::thread::{self, Threads};
-use swim_ask::Place;
+use swim_ask::judge;
 use swim_ending::Ending;
 use swim_net::address_of;
 use swim_wire::Endpoint;
@@ -51,7 +51,7 @@ pub fn serve_web<
         + Sync,
     T: Threads + Wait + Sync,
 >(rt: &R, threads: &T, web: &Web<'_>) -> Result<(), Ending> {
-    let of = Place::read(web.of)?;
+    judge(web.of)?;
     let listen = read_endpoint(web.listen.as_bytes()).ok_or(Ending::Address)?;
     let bound = TcpListener::bind(rt, address_of(listen));
     let listener = bound.map_err(|error| refused(rt, web.listen, &error))?;
@@ -60,7 +60,7 @@ pub fn serve_web<
     let known = Mutex::new(Known::new());
     thread::join(
         threads,
-        || follow(rt, threads, of, &known),
+        || follow(rt, threads, web.of, &known),
         || server.serve(rt, threads, &known),
     );
     Ok(())
