@@ -106,6 +106,22 @@ pub enum Subcommand<'a> {
     },
 }
 
+// What a command is made of ends early in these two functions alone: each early end of a function costs the prover more, the more
+// values are alive there.
+
+/// A command with one argument more.
+fn with_arg<'a>(command: Result<Command<'a>, Error>, arg: Arg<'a>) -> Result<Command<'a>, Error> {
+    Ok(command?.arg(arg)?)
+}
+
+/// A command with one subcommand more.
+fn with_subcommand<'a>(
+    command: Result<Command<'a>, Error>,
+    made: Result<Command<'a>, Error>,
+) -> Result<Command<'a>, Error> {
+    Ok(command?.subcommand(made?)?)
+}
+
 /// A word that has to be there, by its place.
 fn word<'a>(alloc: Global, id: &'a str, name: &'a str, help: &'a str) -> Arg<'a> {
     Arg::new(alloc, id)
@@ -131,12 +147,14 @@ fn init_command<'a>(alloc: Global) -> Result<Command<'a>, Error> {
     let ceiling = number(alloc, "ceiling", "The number above which the member begins");
     let command = Command::new(alloc, "init")
         .about("Makes a state file")
-        .after_help(examples::INIT)
-        .arg(word(alloc, "file", "FILE", "The state file to make"))?
-        .arg(group)?
-        .arg(me)?
-        .arg(ceiling.default_value("0"))?;
-    Ok(command)
+        .after_help(examples::INIT);
+    let command = with_arg(
+        Ok(command),
+        word(alloc, "file", "FILE", "The state file to make"),
+    );
+    let command = with_arg(command, group);
+    let command = with_arg(command, me);
+    with_arg(command, ceiling.default_value("0"))
 }
 
 /// The control socket of a member.
@@ -163,10 +181,9 @@ fn show_command<'a>(alloc: Global) -> Result<Command<'a>, Error> {
         "Prints what a state file says, and what `swim run` would do with it; it writes nothing";
     let command = Command::new(alloc, "show")
         .about(about)
-        .after_help(examples::SHOW)
-        .arg(word(alloc, "file", "FILE", "The state file"))?
-        .arg(json(alloc))?;
-    Ok(command)
+        .after_help(examples::SHOW);
+    let command = with_arg(Ok(command), word(alloc, "file", "FILE", "The state file"));
+    with_arg(command, json(alloc))
 }
 
 /// `swim explain --member A [--json] FILE..`.
@@ -177,21 +194,19 @@ fn explain_command<'a>(alloc: Global) -> Result<Command<'a>, Error> {
         .trailing_var_arg(true);
     let command = Command::new(alloc, "explain")
         .about("Prints when a member was heard of, suspected, confirmed, and why")
-        .after_help(examples::EXPLAIN)
-        .arg(member)?
-        .arg(json(alloc))?
-        .arg(files)?;
-    Ok(command)
+        .after_help(examples::EXPLAIN);
+    let command = with_arg(Ok(command), member);
+    let command = with_arg(command, json(alloc));
+    with_arg(command, files)
 }
 
 /// `swim members ADDR [--json]`.
 fn members_command<'a>(alloc: Global) -> Result<Command<'a>, Error> {
     let command = Command::new(alloc, "members")
         .about("Prints all members that a member knows")
-        .after_help(examples::MEMBERS)
-        .arg(address(alloc))?
-        .arg(json(alloc))?;
-    Ok(command)
+        .after_help(examples::MEMBERS);
+    let command = with_arg(Ok(command), address(alloc));
+    with_arg(command, json(alloc))
 }
 
 /// `swim watch ADDR [--json] [--every N] [--once]`.
@@ -209,12 +224,11 @@ fn watch_command<'a>(alloc: Global) -> Result<Command<'a>, Error> {
         .help("Ends with status 1 where the member does not answer");
     let command = Command::new(alloc, "watch")
         .about("Prints what changes of the members, a line a change, until it is stopped")
-        .after_help(examples::WATCH)
-        .arg(address(alloc))?
-        .arg(json(alloc))?
-        .arg(every)?
-        .arg(once)?;
-    Ok(command)
+        .after_help(examples::WATCH);
+    let command = with_arg(Ok(command), address(alloc));
+    let command = with_arg(command, json(alloc));
+    let command = with_arg(command, every);
+    with_arg(command, once)
 }
 
 /// `swim web --of ADDR [--listen ADDR]`.
@@ -233,10 +247,9 @@ fn web_command<'a>(alloc: Global) -> Result<Command<'a>, Error> {
     );
     let command = Command::new(alloc, "web")
         .about("Serves what a member says over HTTP: a page, metrics, all rows and its health")
-        .after_help(examples::WEB)
-        .arg(of.long("of"))?
-        .arg(listen.default_value("127.0.0.1:7080"))?;
-    Ok(command)
+        .after_help(examples::WEB);
+    let command = with_arg(Ok(command), of.long("of"));
+    with_arg(command, listen.default_value("127.0.0.1:7080"))
 }
 
 /// `swim ctl ADDR LINE [--json]`.
@@ -250,11 +263,10 @@ fn ctl_command<'a>(alloc: Global) -> Result<Command<'a>, Error> {
     let as_json = json(alloc).help("Prints the answer to status as a JSON object");
     let command = Command::new(alloc, "ctl")
         .about("Sends a control line and prints the answer")
-        .after_help(examples::CTL)
-        .arg(address(alloc))?
-        .arg(line.allow_hyphen_values(true))?
-        .arg(as_json)?;
-    Ok(command)
+        .after_help(examples::CTL);
+    let command = with_arg(Ok(command), address(alloc));
+    let command = with_arg(command, line.allow_hyphen_values(true));
+    with_arg(command, as_json)
 }
 
 /// A word that may stand after its name.
@@ -273,14 +285,19 @@ fn simulate_command<'a>(alloc: Global) -> Result<Command<'a>, Error> {
         "Plans with each of these numbers, as suspect=20..200,loss=0..30 or suspect=20..200/20";
     let command = Command::new(alloc, "simulate")
         .about("Simulates a group, and prints how soon it noticed who was killed")
-        .after_help(examples::SIMULATE)
-        .arg(word(alloc, "plan", "PLAN", "What is simulated, a TOML table").required(false))?
-        .arg(seed)?
-        .arg(runs)?
-        .arg(option(alloc, "csv", "FILE", csv))?
-        .arg(option(alloc, "svg", "FILE", "A new file for a picture"))?
-        .arg(option(alloc, "sweep", "KEYS", sweep))?;
-    Ok(command)
+        .after_help(examples::SIMULATE);
+    let command = with_arg(
+        Ok(command),
+        word(alloc, "plan", "PLAN", "What is simulated, a TOML table").required(false),
+    );
+    let command = with_arg(command, seed);
+    let command = with_arg(command, runs);
+    let command = with_arg(command, option(alloc, "csv", "FILE", csv));
+    let command = with_arg(
+        command,
+        option(alloc, "svg", "FILE", "A new file for a picture"),
+    );
+    with_arg(command, option(alloc, "sweep", "KEYS", sweep))
 }
 
 /// `swim run [--show-settings] CONFIG`.
@@ -291,10 +308,12 @@ fn run_command<'a>(alloc: Global) -> Result<Command<'a>, Error> {
         .help("Prints the settings as they will be used, and starts nothing");
     let command = Command::new(alloc, "run")
         .about("Runs a member until it is stopped")
-        .after_help(examples::RUN)
-        .arg(word(alloc, "config", "CONFIG", "The settings, a TOML table"))?
-        .arg(shows)?;
-    Ok(command)
+        .after_help(examples::RUN);
+    let command = with_arg(
+        Ok(command),
+        word(alloc, "config", "CONFIG", "The settings, a TOML table"),
+    );
+    with_arg(command, shows)
 }
 
 /// All that the program takes.
@@ -313,19 +332,18 @@ fn command<'a>(alloc: Global) -> Result<Command<'a>, Error> {
         .bin_name("swim")?
         .propagate_version(true)
         .after_help(examples::PROGRAM)
-        .subcommand_required(true)
-        .subcommand(init_command(alloc)?)?
-        .subcommand(run_command(alloc)?)?
-        .subcommand(ctl_command(alloc)?)?
-        .subcommand(members_command(alloc)?)?
-        .subcommand(watch_command(alloc)?)?
-        .subcommand(web_command(alloc)?)?
-        .subcommand(show_command(alloc)?)?
-        .subcommand(explain_command(alloc)?)?
-        .subcommand(play)?
-        .subcommand(check)?
-        .subcommand(simulate_command(alloc)?)?;
-    Ok(command)
+        .subcommand_required(true);
+    let command = with_subcommand(Ok(command), init_command(alloc));
+    let command = with_subcommand(command, run_command(alloc));
+    let command = with_subcommand(command, ctl_command(alloc));
+    let command = with_subcommand(command, members_command(alloc));
+    let command = with_subcommand(command, watch_command(alloc));
+    let command = with_subcommand(command, web_command(alloc));
+    let command = with_subcommand(command, show_command(alloc));
+    let command = with_subcommand(command, explain_command(alloc));
+    let command = with_subcommand(command, Ok(play));
+    let command = with_subcommand(command, Ok(check));
+    with_subcommand(command, simulate_command(alloc))
 }
 
 /// A word that the parser saw to.
