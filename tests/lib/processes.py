@@ -87,7 +87,12 @@ HINTS = (
         "to run, the addresses have to be this machine's and free (`ss -lntup`); to ask, a member has to run with this address as its"
         " `control`",
     ),
-    (r"address refused", "an address is an IPv4 endpoint without leading zeros, such as 127.0.0.1:7001"),
+    (
+        r"address refused",
+        "an address is an IPv4 endpoint without leading zeros, such as 127.0.0.1:7001; where a member is asked it may be a host name"
+        " with a port too, such as db1.example:7001",
+    ),
+    (r"host refused", "the system knows no IPv4 address of this host: `getent ahostsv4 NAME` asks it the same"),
 )
 
 
