@@ -139,6 +139,7 @@ impl Buffer {
         ensures bound { result ≤ WAITING_MAX }
         ensures kept { AreApart self.now.queue }
         ensures falling { NeverRise self.now.queue }
+        ensures within { AreWithin self.now.most self.now.queue }
     {
         self.len
     }
