@@ -19,3 +19,4 @@ pub mod TurnLists
 pub mod FewRows
 pub mod TurnNews
 pub mod Resuming
+pub mod Passing

@@ -102,7 +102,7 @@ falling-tested most (w ∷ queue) h =
     let parts : (nat_le w.count most ≡ true) × (are_falling w.count queue ≡ true) = and_parts (nat_le w.count most) (are_falling w.count queue) h in
     (within-falling w.count queue parts.1, falling-tested w.count queue parts.1)
 
-any-row : (x : ℕ) (rows : List Row) → list_any (is_about x) rows ≡ is_row (row_of rows x)
+pub any-row : (x : ℕ) (rows : List Row) → list_any (is_about x) rows ≡ is_row (row_of rows x)
 any-row x [] = refl
 any-row x (r ∷ rows) = at (r.update.who == x) (any-row x rows)
   where

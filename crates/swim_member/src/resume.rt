@@ -2,6 +2,7 @@
 
 ghost use Rattle.std.specs.Prelude.{◌≡◌, ◌==◌, ◌≤◌, ◌*◌, [], length, None, Some, OnOk, IfErr, IfOk};
 ghost use Rattle.std.specs.List.{list_all, list_any};
+ghost use Rattle.swim_rules.specs.Rows.{AreAbove, AreInOrder};
 ghost use Rattle.swim_rules.specs.Rules.{is_about};
 ghost use Rattle.swim_rules.specs.declared.table.TheConstants.{ROWS_MAX};
 ghost use Rattle.swim_gossip.specs.Queue.{is_queued};
@@ -425,11 +426,34 @@ impl MemberState {
     }
 }
 
+/// Members are above 0, and so the first row stands above that.
+fn begin_above_none(rows: &[Row])
+    ensures { AreInOrder rows.now → AreAbove 0 rows.now }
+{
+    if let Some(row) = rows.first() {
+        let _ = row.who().number();
+    }
+}
+
 impl Member {
-    /// All that the member has now.
-    pub fn state(&self) -> MemberState
-        ensures { result ≡ self.now }
+    /// That a member goes on from a state that one has. It does nothing: its contract is what counts.
+    pub fn state_resumes(&self)
+        ensures sound { AreSound self.now.settings }
+        ensures none { resume_fault self.now ≡ None }
     {
+        // what holds of the parts
+        begin_above_none(self.table.rows());
+        let _ = self.buffer.len();
+        let _ = self.turn.listed();
+    }
+
+    /// All that the member has now. A member goes on from it.
+    pub fn state(&self) -> MemberState
+        ensures state { result ≡ self.now }
+        ensures sound { AreSound self.now.settings }
+        ensures resumes { resume_fault self.now ≡ None }
+    {
+        self.state_resumes();
         MemberState {
             settings: self.settings,
             number: self.number,
