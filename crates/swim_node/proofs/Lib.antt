@@ -1,5 +1,6 @@
 pub mod Lists
 pub mod Probing
+pub mod Begins
 pub mod Nodes
 pub mod Lives
 pub mod Living

@@ -6,6 +6,7 @@ use Rattle.std.proofs.lemmas.List.Elements.{All-append, All-cons, All-nil}
 use Rattle.swim_member.specs.declared.settings.Settings.{Settings}
 use Rattle.swim_member.specs.declared.event.Event.{Event}
 use Rattle.swim_member.specs.State.{State}
+use Rattle.swim_member.specs.Resuming.{resume_fault}
 use Rattle.swim_member.specs.Events.{Step, state_of, number_after}
 use Rattle.swim_member.specs.Judge.{wanted, HasDeal}
 use Rattle.swim_member.specs.Fit.{AreAll, own_numbers_in}
@@ -16,8 +17,10 @@ use Rattle.swim_node.specs.History.{Base, IsLegal, IsNext, AreNext, Saves, steps
 use Rattle.swim_node.specs.Machinery.Entering.{Steps}
 use Rattle.swim_node.specs.Sending.{HasTexts}
 use Rattle.swim_node.specs.Owns.{owns, owns_in, AreAtMost, AreAtLeast, greatest_of, greatest_with, greater_of}
-use Rattle.swim_node.specs.Node.{IsNode, IsTurn, granted_base}
+use Rattle.swim_node.specs.Node.{HasCaller, IsNode, IsTurn, granted_base, next_base}
 use Rattle.swim_node.specs.Probing.{IsStart}
+use Rattle.swim_node.specs.Replaying.{begin_fault}
+use Rattle.swim_node.proofs.Begins.{begins-bounds, begins-granted, begun-bounds, at_most-past}
 use Rattle.swim_node.proofs.Probing.{start-after}
 use Rattle.swim_node.proofs.Lists.{steps-append, granted_from-append, owns_in-append, at_most-append, at_most-more, at_least-append, all-at_most, all-at_least, greatest_with-append}
 
@@ -58,6 +61,7 @@ pub record Enters (xs : List Entry) (old new : State) (low high : ℕ) (e : Entr
   pub turn : IsTurn xs e.tag
   pub deal : HasDeal e.event
   pub texts : HasTexts e
+  pub caller : HasCaller e
 
 module _ (base : Base) (xs : List Entry) (e : Entry) (first : ℕ) (old new : State) (low high : ℕ) (top : Option ℕ) where
   pub state-snoc : IsNode base xs first old low top → Enters xs old new low high e → state_after base (xs ++ e ∷ []) ≡ new
@@ -102,6 +106,8 @@ module _ (base : Base) (xs : List Entry) (e : Entry) (first : ℕ) (old new : St
       record {
         legal = legal-snoc base xs e n.legal (next-entered n h) room;
         start = n.start;
+        reads = n.reads;
+        begins = n.begins;
         member = state-snoc n h;
         settings = h.steps.settings ∙ n.settings;
         granted = granted_from-append base.granted xs (e ∷ []) ∙ h.granted;
@@ -111,6 +117,7 @@ module _ (base : Base) (xs : List Entry) (e : Entry) (first : ℕ) (old new : St
         begun = rw owns-snoc (at_least-append first (owns base xs) _ n.begun (all-at_least new.number first _ over said));
         most = ap greatest_of owns-snoc ∙ greatest_with-append None (owns base xs) (own_numbers_in base.state.settings.me e.outs.items) ∙ rw (n.most, you) refl;
         texts = All-append HasTexts xs (e ∷ []) n.texts (All-cons HasTexts e [] h.texts (All-nil HasTexts));
+        callers = All-append HasCaller xs (e ∷ []) n.callers (All-cons HasCaller e [] h.caller (All-nil HasCaller));
         short = n.short;
       }
 
@@ -134,11 +141,33 @@ greatest-one : (o : Option ℕ) → greatest_of (option_to_list o ++ []) ≡ o
 greatest-one None = refl
 greatest-one (Some n) = refl
 
+-- a base that reads as itself is where its era begins, as plain data
+pub next-itself : (base : Base) → state_after base [] ≡ base.state → next_base base [] ≡ base
+next-itself base reads = rw (reads, greatest-one base.past) refl
+
+-- where an era would begin now
+pub begins-next : (base : Base) (xs : List Entry) (first : ℕ) (s : State) (ceiling : ℕ) (top : Option ℕ) → IsNode base xs first s ceiling top → resume_fault s ≡ None → begin_fault (record { state = s; granted = ceiling; past = top; limit = base.limit }) ≡ None
+begins-next base xs first s ceiling top n resumes =
+    begins-bounds (record { state = s; granted = ceiling; past = top; limit = base.limit }) (record {
+      some = (begun-bounds base n.begins).some;
+      short = n.short;
+      low = n.low;
+      past = at_most-past ceiling top (rw n.most at (greatest-at_most ceiling None (owns base xs) (tt {0}) n.covers));
+      resumes = resumes;
+    })
+
+pub begins-now : (base : Base) (xs : List Entry) (first : ℕ) (s : State) (ceiling : ℕ) (top : Option ℕ) → IsNode base xs first s ceiling top → resume_fault s ≡ None → begin_fault (next_base base xs) ≡ None
+begins-now base xs first s ceiling top n resumes =
+    let same : next_base base xs ≡ record { state = s; granted = ceiling; past = top; limit = base.limit } = rw (n.member, n.granted, n.most) refl in
+    ap begin_fault same ∙ begins-next base xs first s ceiling top n resumes
+
 -- a node whose era begins with what is now
-pub node-rebased : (base : Base) (xs : List Entry) (first : ℕ) (s : State) (ceiling : ℕ) (top : Option ℕ) → IsNode base xs first s ceiling top → state_of s [] ≡ s → IsNode (record { state = s; granted = ceiling; past = top; limit = base.limit }) [] first s ceiling top
-node-rebased base xs first s ceiling top n reads = record {
+pub node-rebased : (base : Base) (xs : List Entry) (first : ℕ) (s : State) (ceiling : ℕ) (top : Option ℕ) → IsNode base xs first s ceiling top → state_of s [] ≡ s → resume_fault s ≡ None → IsNode (record { state = s; granted = ceiling; past = top; limit = base.limit }) [] first s ceiling top
+node-rebased base xs first s ceiling top n reads resumes = record {
   legal = record { each = tt {0}; within = omega arith };
   start = subst IsStart (n.member ∙ sym reads) (start-after base xs n.legal n.start);
+  reads = reads;
+  begins = begins-next base xs first s ceiling top n resumes;
   member = reads;
   settings = refl;
   granted = refl;
@@ -148,6 +177,7 @@ node-rebased base xs first s ceiling top n reads = record {
   begun = at_least-append first (option_to_list top) [] (rw n.most at (greatest-at_least first None (owns base xs) (tt {0}) n.begun)) (tt {0});
   most = greatest-one top;
   texts = All-nil HasTexts;
+  callers = All-nil HasCaller;
   short = n.short;
 }
 
@@ -156,6 +186,8 @@ pub node-granted : (base : Base) (entries : List Entry) (first ceiling g : ℕ) 
 node-granted base entries first ceiling g s top n none le = record {
   legal = rw none (record { each = tt {0}; within = omega arith });
   start = n.start;
+  reads = n.reads;
+  begins = begins-granted base g n.begins (let stood : granted_of base entries ≡ ceiling = n.granted in let low : base.granted ≡ ceiling = rw none at stood in omega (arith, low, le));
   member = n.member;
   settings = n.settings;
   granted = rw none refl;
@@ -165,5 +197,6 @@ node-granted base entries first ceiling g s top n none le = record {
   begun = n.begun;
   most = n.most;
   texts = n.texts;
+  callers = n.callers;
   short = n.short;
 }

@@ -21,10 +21,10 @@ use Rattle.swim_node.specs.declared.entry.Tag.{Tag}
 use Rattle.swim_node.specs.declared.opening.TheConstants.{LIMIT_MAX}
 use Rattle.swim_node.specs.declared.replay.Cause.{Cause}
 use Rattle.swim_node.specs.History.{Base, AreNext, IsLegal, IsNext, Saves, answer_in, granted_of, lost_in, state_after, status_at, steps, taken_in}
-use Rattle.swim_node.specs.Node.{IsNode}
+use Rattle.swim_node.specs.Node.{HasCaller, IsNode}
 use Rattle.swim_node.specs.Owns.{AreAtLeast, AreAtMost, greatest_of}
 use Rattle.swim_node.specs.Probing.{IsStart}
-use Rattle.swim_node.specs.Replaying.{IsTold, cause_of, is_above}
+use Rattle.swim_node.specs.Replaying.{IsTold, begin_fault, cause_of, is_above}
 use Rattle.swim_node.specs.Sending.{HasTexts}
 use Rattle.swim_node.proofs.Lists.{steps-append}
 
@@ -48,10 +48,12 @@ greatest-past None = refl
 greatest-past (Some n) = refl
 
 -- a node whose era begins with this state, of a life of which nothing is asked
-pub node-begun : (s : State) (granted : ℕ) (past : Option ℕ) (limit : ℕ) → state_of s [] ≡ s → IsDistinct (λ x y. x == y) s.listed → length s.rows ≤ ROWS_MAX → s.number ≤ granted → is_above granted past ≡ false → limit ≤ LIMIT_MAX → IsNode (record { state = s; granted = granted; past = past; limit = limit }) [] 0 s granted past
-node-begun s granted past limit reads once few low above short = record {
+pub node-begun : (s : State) (granted : ℕ) (past : Option ℕ) (limit : ℕ) → state_of s [] ≡ s → begin_fault (record { state = s; granted = granted; past = past; limit = limit }) ≡ None → IsDistinct (λ x y. x == y) s.listed → length s.rows ≤ ROWS_MAX → s.number ≤ granted → is_above granted past ≡ false → limit ≤ LIMIT_MAX → IsNode (record { state = s; granted = granted; past = past; limit = limit }) [] 0 s granted past
+node-begun s granted past limit reads begins once few low above short = record {
   legal = record { each = tt {0}; within = omega arith };
   start = subst IsStart (sym reads) (record { once = distinct-drop s.place s.listed once; few = few });
+  reads = reads;
+  begins = begins;
   member = reads;
   settings = refl;
   granted = refl;
@@ -61,6 +63,7 @@ node-begun s granted past limit reads once few low above short = record {
   begun = least-any past;
   most = greatest-past past;
   texts = All-nil HasTexts;
+  callers = All-nil HasCaller;
   short = short;
 }
 

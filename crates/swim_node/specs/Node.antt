@@ -1,6 +1,6 @@
 -- A node, as its callers see it and as it keeps itself.
 use Rattle.std.specs.Prelude.{◌≡◌, ℕ, ◌+◌, ◌<◌, ◌≤◌, List, [], ◌∷◌, ◌++◌, length, All, Bool, Result}
-use Rattle.std.specs.Prelude.{Ok, Err, Option}
+use Rattle.std.specs.Prelude.{Ok, Err, Option, None}
 use Rattle.swim_disk.specs.Disk.{DiskState as DiskState}
 use Rattle.swim_state.specs.declared.owner.Owner.{Owner}
 use Rattle.swim_member.specs.State.{State}
@@ -23,6 +23,7 @@ use Rattle.swim_node.specs.declared.fault.OpenFault.{OpenFault}
 use Rattle.swim_node.specs.History.{Base, IsLegal, state_after, granted_of, calls_by, taken_in}
 use Rattle.swim_node.specs.History.{lost_in}
 use Rattle.swim_node.specs.Probing.{IsStart}
+use Rattle.swim_node.specs.Replaying.{begin_fault}
 use Rattle.swim_node.specs.Saving.{Grants, Fails, broken_after, ceiling_asked}
 use Rattle.swim_node.specs.Peers.{NamesPeers, known_peers}
 use Rattle.swim_node.specs.Sending.{HasTexts}
@@ -46,11 +47,17 @@ base_of b = record { state = b.state.value; granted = b.granted; past = b.past; 
 abbrev pub owner_of : Settings → Owner
 owner_of settings = record { group = settings.group; me = settings.me }
 
+-- the entry's caller is one of the sixteen
+abbrev pub HasCaller : Entry → Type 0
+HasCaller e = e.tag.caller < 16
+
 -- how a node keeps itself
 pub record IsNode (base : Base) (entries : List Entry) (first : ℕ) (s : State) (ceiling : ℕ)
     (top : Option ℕ) : Type 0 where
   pub legal : IsLegal base entries
   pub start : IsStart (state_after base [])
+  pub reads : state_after base [] ≡ base.state
+  pub begins : begin_fault base ≡ None  -- an era begins so
   pub member : state_after base entries ≡ s
   pub settings : s.settings ≡ base.state.settings
   pub granted : granted_of base entries ≡ ceiling
@@ -60,6 +67,7 @@ pub record IsNode (base : Base) (entries : List Entry) (first : ℕ) (s : State)
   pub begun : AreAtLeast first (owns base entries)
   pub most : greatest_of (owns base entries) ≡ top
   pub texts : All HasTexts entries
+  pub callers : All HasCaller entries
   pub short : base.limit ≤ LIMIT_MAX
 
 -- the turn is the caller's next one

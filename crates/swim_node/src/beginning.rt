@@ -1,9 +1,11 @@
 //! Where an era begins, as plain data, which another run can begin with again.
 
-ghost use Rattle.std.specs.Prelude.{◌≡◌, ◌≤◌, false, None, Some, IfErr, OnOk};
+ghost use Rattle.std.specs.Prelude.{◌≡◌, ◌≤◌, [], false, None, Some, All, IfErr, OnOk};
+ghost use Rattle.swim_member.specs.Checks.{AreSound};
 ghost use Rattle.swim_node.specs.declared.opening.TheConstants.{LIMIT_MAX};
-ghost use Rattle.swim_node.specs.Node.{next_base};
-ghost use Rattle.swim_node.specs.Replaying.{bounds_fault, is_above};
+ghost use Rattle.swim_node.specs.History.{IsLegal};
+ghost use Rattle.swim_node.specs.Node.{HasCaller, next_base};
+ghost use Rattle.swim_node.specs.Replaying.{begin_fault, bounds_fault, is_above};
 
 use crate::{LIMIT_MAX, Node};
 use std::marker::Model;
@@ -161,7 +163,9 @@ pub(crate) fn check_bounds(
 impl<D: Disk> Node<D> {
     /// Where an era would begin now: what a `rebase` makes the base.
     pub fn beginning(&self) -> Beginning
-        ensures { result ≡ next_base self.now.base self.now.entries }
+        ensures base { result ≡ next_base self.now.base self.now.entries }
+        ensures sound { AreSound self.now.base.state.settings }
+        ensures begins { begin_fault (next_base self.now.base self.now.entries) ≡ None }
     {
         Beginning {
             state: self.member.state(),
@@ -169,5 +173,18 @@ impl<D: Disk> Node<D> {
             past: self.most,
             limit: self.base.limit,
         }
+    }
+
+    /// What holds of the era of a node: it began where an era can begin, and each of its callers is below 16. It does
+    /// nothing: its contract is what counts.
+    pub fn era_begins(&self)
+        ensures sound { AreSound self.now.base.state.settings }
+        ensures begins { begin_fault self.now.base ≡ None }
+        // where it began, as plain data, is its base
+        ensures reads { next_base self.now.base [] ≡ self.now.base }
+        ensures legal { IsLegal self.now.base self.now.entries }
+        ensures callers { All HasCaller self.now.entries }
+    {
+        self.member.state_resumes();
     }
 }

@@ -1,6 +1,6 @@
 //! The node.
 
-ghost use Rattle.std.specs.Prelude.{◌≡◌, ◌≢◌, ◌⊎◌, ◌↔◌, ◌+◌, ◌<◌, ◌≤◌, ◌++◌, ◌∷◌, [], List, length, IfErr, IfOk, IsErrOf, IsTrue, OnOk, OnErr, All, false, true};
+ghost use Rattle.std.specs.Prelude.{◌≡◌, ◌≢◌, ◌⊎◌, ◌↔◌, ◌+◌, ◌<◌, ◌≤◌, ◌++◌, ◌∷◌, [], List, length, IfErr, IfOk, IsErrOf, IsTrue, OnOk, OnErr, All, None, false, true};
 ghost use Rattle.swim_disk.specs.Disk.{Rests};
 ghost use Rattle.swim_state.specs.Alone.{IsBeside, LeavesAlone, target_in};
 ghost use Rattle.swim_state.specs.File.{floor, floor_peers};
@@ -15,6 +15,7 @@ ghost use Rattle.swim_node.specs.Probing.{GoesInTurns};
 ghost use Rattle.swim_node.specs.Sending.{Sends, HasTexts};
 ghost use Rattle.swim_member.specs.Events.{DealIsOfNoMatter, state_of};
 ghost use Rattle.swim_member.specs.Probe.{ends_period};
+ghost use Rattle.swim_member.specs.Resuming.{resume_fault};
 
 use crate::base::Base;
 use crate::copies::copy_reply;
@@ -81,11 +82,13 @@ pub(crate) fn status_now(member: &Member, length: usize) -> Status
 }
 
 /// The member as it stands now, as the base of an era.
-fn base_at(member: &Member, granted: u64, past: Option<u64>, limit: u32) -> Base
+pub(crate) fn base_at(member: &Member, granted: u64, past: Option<u64>, limit: u32) -> Base
     ensures base { base_of result
         ≡ record { state = member.now; granted = granted; past = past; limit = limit } }
     ensures reads { state_of member.now [] ≡ member.now }
+    ensures resumes { resume_fault member.now ≡ None }
 {
+    member.state_resumes();
     Base {
         state: member.base(),
         granted,

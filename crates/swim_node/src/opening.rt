@@ -15,8 +15,8 @@ ghost use Rattle.swim_node.specs.Lives.{BeginsAbove, IsLiving, life_of};
 ghost use Rattle.swim_node.specs.Node.{disk_of, owner_of};
 ghost use Rattle.swim_wire.specs.declared.update.TheConstants.{NUMBER_MAX};
 
-use crate::base::Base;
 use crate::journal::Journal;
+use crate::node::base_at;
 use crate::{Node, OpenFault};
 use std::alloc::Global;
 use swim_disk::Disk;
@@ -128,12 +128,7 @@ impl<D: Disk> Node<D> {
                 let _ = store.disk();
                 let member = Member::new(settings, first);
                 Ok(Node {
-                    base: Base {
-                        state: member.base(),
-                        granted: first,
-                        past: None,
-                        limit,
-                    },
+                    base: base_at(&member, first, None, limit),
                     journal,
                     member,
                     store,

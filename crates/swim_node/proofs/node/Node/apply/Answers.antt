@@ -48,6 +48,7 @@ module _ (g : Over) (c : goal.After-copy_reply g) where
     turn = rw (← same_entries) c.in_ok-judge.ensures.ok.0;
     deal = c.enter-done.ensures.deal;
     texts = c.enter-done.ensures.texts;
+    caller = c.requires.caller;
   }
 
   granted_now : granted_of (base_of c.self.inside.base) c.add.new.self.entries ≡ c.enter-done.result.granted

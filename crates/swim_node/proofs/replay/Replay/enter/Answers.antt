@@ -35,6 +35,7 @@ module _ (c : goal.After-add) where
     turn = rw (← same_entries) c.in_ok-judge.ensures.ok.0;
     deal = c.enter_again-done.ensures.deal;
     texts = c.enter_again-done.ensures.texts;
+    caller = c.requires.caller;
   }
 
   next : IsNext base c.self.inside.journal.entries entry
