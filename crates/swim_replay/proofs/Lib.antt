@@ -3,3 +3,4 @@ pub mod Entering
 pub mod Lines
 pub mod Sections
 pub mod Walks
+mod Ranges
