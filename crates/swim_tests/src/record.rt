@@ -4,6 +4,7 @@ use crate::same::{holds, same};
 use swim_member::Event;
 use swim_node::{MemoryLink, Tag};
 use swim_record::recording;
+use swim_replay::{era_is_recorded, play_era};
 use swim_scenes::{endpoint, opened_by_plan, ping, suspicion, update};
 use swim_wire::UpdateKind;
 
@@ -60,4 +61,9 @@ fn an_era_is_written(rt: HostRuntime) {
         .ok()
         .expect(&rt, "memory");
     same(&rt, text.as_str(), WANT);
+    era_is_recorded(&node, &beginning);
+    let played = play_era(rt.alloc(), &node, &beginning)
+        .ok()
+        .expect(&rt, "an era");
+    same(&rt, played.journal().len(), node.len());
 }
