@@ -17,7 +17,7 @@ pub record AreRanks (values : List ℕ) (s : Spread) : Type 0 where
   pub median : slice_index sorted ((length sorted - 1) / 2) ≡ s.median
   pub greatest : slice_index sorted (length sorted - 1) ≡ s.greatest
 
--- of values in order the one below which so many of 100 are, itself included: the last of their first
--- so many hundredths, rounded up, or the first value
+-- of values in order the one below which so many of 100 are, itself included: the last of their
+-- first so many hundredths, rounded up, or the first value
 abbrev pub of_hundred : ℕ → List ℕ → Option ℕ
 of_hundred percent sorted = slice_get sorted (div_ceil (length sorted * percent) 100 - 1)

@@ -56,7 +56,7 @@ IsRefused line Sender = (sender word bytes : List ℕ) × (other : ℕ) × (d : 
     × (d.sender ≢ other)
 IsRefused line NoMemory = Unit {0}
 
--- what is left of a text begins with a line that is refused, or it is the beginning of one, without an end
+-- what is left of a text begins with a line that is refused, or is a line without its end
 abbrev pub BeginsRefused : List ℕ → LineFault → Type 0
 BeginsRefused rest fault = ((fault ≡ Cut) × (rest ≢ []) × Lacks 10 rest)
     ⊎ ((line more : List ℕ) × (rest ≡ split_by 10 line more) × Lacks 10 line × IsRefused line fault)
