@@ -1,5 +1,7 @@
 -- Values by their rank.
-use Rattle.std.specs.Prelude.{◌≡◌, ◌-◌, ◌/◌, ◌<◌, ℕ, List, length, slice_index}
+use Rattle.std.specs.Prelude.{◌≡◌, ◌-◌, ◌*◌, ◌/◌, ◌<◌, ℕ, List, length, slice_get, slice_index}
+use Rattle.std.specs.Prelude.{Option}
+use Rattle.std.specs.Int.{div_ceil}
 use Rattle.std.specs.Ordering.{nat_cmp}
 use Rattle.std.specs.List.Sorted.{IsSorted, IsPermutation}
 use Rattle.swim_charts.specs.declared.ranks.Spread.{Spread}
@@ -14,3 +16,8 @@ pub record AreRanks (values : List ℕ) (s : Spread) : Type 0 where
   pub least : slice_index sorted 0 ≡ s.least
   pub median : slice_index sorted ((length sorted - 1) / 2) ≡ s.median
   pub greatest : slice_index sorted (length sorted - 1) ≡ s.greatest
+
+-- of values in order the one below which so many of 100 are, itself included: the last of their
+-- first so many hundredths, rounded up, or the first value
+abbrev pub of_hundred : ℕ → List ℕ → Option ℕ
+of_hundred percent sorted = slice_get sorted (div_ceil (length sorted * percent) 100 - 1)

@@ -1,12 +1,15 @@
 //! Values by their rank.
 
-ghost use Rattle.std.specs.Prelude.{◌≡◌, [], IfOk, IfSome, IfNone};
-ghost use Rattle.swim_charts.specs.Ranks.{AreRanks};
+ghost use Rattle.std.specs.Prelude.{◌≡◌, ◌<◌, ◌*◌, ◌^◌, [], length, IfOk, IfSome, IfNone};
+ghost use Rattle.swim_charts.specs.Ranks.{AreRanks, of_hundred};
 
 use std::alloc::AllocError;
 
 /// The value below which so many of 100 are, itself included, of values in order.
-pub fn of_hundred(sorted: &[u64], percent: usize) -> Option<u64> {
+pub fn of_hundred(sorted: &[u64], percent: usize) -> Option<u64>
+    ensures { length sorted.now * percent < 2 ^ 64
+        → result ≡ of_hundred percent sorted.now }
+{
     let rank = sorted.len().saturating_mul(percent).div_ceil(100);
     sorted.get(rank.saturating_sub(1)).copied()
 }

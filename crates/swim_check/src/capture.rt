@@ -3,7 +3,7 @@
 ghost use Rattle.std.specs.Prelude.{◌≡◌, ◌<◌, [], List, length, IfOk, IfErr};
 ghost use Rattle.swim_wire.specs.declared.datagram.Datagram.{Datagram as Datagrams};
 ghost use Rattle.swim_group.specs.Checking.{KeepTheLaw, as_sent};
-ghost use Rattle.swim_check.specs.Captures.{IsCapture, IsStop};
+ghost use Rattle.swim_check.specs.Captures.{IsCapture, IsFirstRefused, IsStop};
 
 use crate::line::{LineFault, read_line};
 use std::alloc::Global;
@@ -40,7 +40,8 @@ impl fmt::Display for Stop {
 
 /// The datagrams of a capture, in order. Err: the first line that is none, from 1.
 pub fn read_capture(alloc: Global, text: &[u8]) -> Result<Vec<Datagram>, (usize, LineFault)>
-    ensures { IfOk result (λ datagrams. IsCapture text.now datagrams.items) }
+    ensures said { IfOk result (λ datagrams. IsCapture text.now datagrams.items) }
+    ensures refused { IfErr result (λ refused. IsFirstRefused text.now refused.0 refused.1) }
 {
     let mut datagrams = Vec::new(alloc);
     let mut rest = text;

@@ -1,8 +1,10 @@
 //! A line of a capture.
 
-ghost use Rattle.std.specs.Prelude.{◌≡◌, Ok, IfOk};
+ghost use Rattle.std.specs.Prelude.{◌≡◌, ◌⊎◌, Ok, Err, IfOk, IfErr};
 ghost use Rattle.hex.specs.Hex.{decode_of};
-ghost use Rattle.swim_check.specs.Captures.{SaysSent};
+ghost use Rattle.hex.specs.declared.error.FromHexError.{FromHexError as HexFaults};
+ghost use Rattle.swim_check.specs.declared.line.LineFault.TheVariants as fault;
+ghost use Rattle.swim_check.specs.Captures.{IsRefused, SaysSent};
 
 use hex::FromHexError;
 use std::alloc::Global;
@@ -38,7 +40,9 @@ pub enum LineFault {
 
 /// Bytes as hex digits.
 fn read_hex(alloc: Global, word: &[u8]) -> Result<Vec<u8>, LineFault>
-    ensures { IfOk result (λ bytes. decode_of word.now ≡ Ok bytes.items) }
+    ensures said { IfOk result (λ bytes. decode_of word.now ≡ Ok bytes.items) }
+    ensures refused { IfErr result (λ refused. (refused ≡ fault.NoMemory)
+        ⊎ (refused ≡ fault.Hex) × (why : HexFaults) × (decode_of word.now ≡ Err why)) }
 {
     match hex::decode(alloc, word) {
         Ok(bytes) => Ok(bytes),
@@ -49,7 +53,8 @@ fn read_hex(alloc: Global, word: &[u8]) -> Result<Vec<u8>, LineFault>
 
 /// The datagram that a line says: `SENDER HEX`, with who sent it and its bytes.
 pub fn read_line(alloc: Global, line: &[u8]) -> Result<Datagram, LineFault>
-    ensures { IfOk result (λ datagram. SaysSent line.now datagram) }
+    ensures said { IfOk result (λ datagram. SaysSent line.now datagram) }
+    ensures refused { IfErr result (IsRefused line.now) }
 {
     let Some((sender, word)) = split_at_byte(line, b' ') else {
         return Err(LineFault::Words);

@@ -1,7 +1,9 @@
 //! A story as text.
 
-ghost use Rattle.std.specs.Prelude.{◌≡◌};
+ghost use Rattle.std.specs.Prelude.{◌≡◌, None, IfErr};
 ghost use Rattle.swim_member.specs.Checks.{AreSound};
+ghost use Rattle.swim_node.specs.declared.beginning.BeginFault.TheVariants.{NoMemory};
+ghost use Rattle.swim_node.specs.Replaying.{begin_fault};
 
 use crate::fact::Happening;
 use crate::heading::Heading;
@@ -51,6 +53,8 @@ pub fn print_story(
 ) -> Result<String, BeginFault>
     requires sound { AreSound beginning.state.settings }
     requires base { era.now.base ≡ beginning }
+    // where an era may begin so, only memory can lack
+    ensures { begin_fault beginning ≡ None → IfErr result (λ fault. fault ≡ NoMemory) }
 {
     let heading = heading_of(&beginning, who);
     let story = story(alloc, beginning, era, who)?;

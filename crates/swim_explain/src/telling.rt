@@ -1,11 +1,13 @@
 //! The story of one member in an era: the member whose era it is does all again, and each call tells what it says.
 
-ghost use Rattle.std.specs.Prelude.{◌≡◌, ◌≢◌, ◌≤◌, ◌++◌, ◌∷◌, [], List, map, OnOk, IfOk};
+ghost use Rattle.std.specs.Prelude.{◌≡◌, ◌≢◌, ◌≤◌, ◌++◌, ◌∷◌, [], List, None, map, OnOk, IfOk, IfErr};
 ghost use Rattle.std.specs.Option.{option_to_list};
 ghost use Rattle.swim_member.specs.Checks.{AreSound};
 ghost use Rattle.swim_member.specs.Events.{Step, state_of};
 ghost use Rattle.swim_member.specs.State.{State};
+ghost use Rattle.swim_node.specs.declared.beginning.BeginFault.TheVariants.{NoMemory};
 ghost use Rattle.swim_node.specs.History.{step_of};
+ghost use Rattle.swim_node.specs.Replaying.{begin_fault};
 ghost use Rattle.swim_explain.specs.Facts.{ended, facts, itself, met, renumbered};
 ghost use Rattle.swim_explain.specs.Story.{stamped, story, told_at};
 ghost use Rattle.swim_explain.specs.Machinery.Covering.{AreCovered};
@@ -203,6 +205,8 @@ pub fn story(
     requires base { era.now.base ≡ beginning }
     ensures story { IfOk result (λ told. told.items
         ≡ story beginning.state who era.now.entries) }
+    // where an era may begin so, only memory can lack
+    ensures refused { begin_fault beginning ≡ None → IfErr result (λ fault. fault ≡ NoMemory) }
 {
     let Beginning { state, granted, .. } = beginning;
     if state.number > granted {

@@ -1,5 +1,5 @@
 -- The codes of the calls, as swim.h names them.
-use Rattle.std.specs.Prelude.{ℕ, ◌+◌, Result, Ok, Err}
+use Rattle.std.specs.Prelude.{◌≡◌, ◌⊎◌, ℕ, ◌+◌, Result, Ok, Err}
 use Rattle.swim_member.specs.Texts.{setting_number}
 use Rattle.swim_node.specs.Fault.{number_of_open}
 use Rattle.swim_state.specs.Fault.{number_of_init, number_of_save}
@@ -46,3 +46,10 @@ WAITING = code_of why.Waiting
 
 abbrev pub SHORT : ℕ
 SHORT = code_of why.Short
+
+abbrev pub NO_MEMORY : ℕ
+NO_MEMORY = code_of why.NoMemory
+
+-- the call was done, or there was no memory for it
+abbrev pub IsDoneOrLacks : ℕ → Type 0
+IsDoneOrLacks code = (code ≡ OK) ⊎ (code ≡ NO_MEMORY)

@@ -74,6 +74,14 @@ pub record ShowsRows (old new : Running) (event : Event) (rows : List SwimRow) :
   pub adds : AddsTo old new event reply
   pub rows_are : rows ≡ map row_as reply.page.items
 
+-- the member goes on, with what waits and with its notes
+pub record GoesOnOpen (old new : Running) : Type 0 where
+  pub outbox : new.outbox ≡ old.outbox
+  pub notes : new.notes ≡ old.notes
+  pub owner : new.node.owner ≡ old.node.owner
+  pub first : new.node.first ≡ old.node.first
+  pub lives : LivesOn old.node new.node
+
 -- the peers that it knows are saved, and a crash leaves them
 pub record SavesPeers (old new : NodeView FileView) : Type 0 where
   pub peers : new.peers ≡ known_peers (state_after new.base new.entries)

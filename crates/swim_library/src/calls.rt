@@ -2,7 +2,7 @@
 
 ghost use Rattle.std.specs.Prelude.{◌≡◌, ◌≢◌, ◌⊎◌, ◌↔◌, ◌<◌, ◌≤◌, ◌∷◌, [], ℕ, List, length, map, take, Err, IfErr, IfOk, IsErrOf, IsOk, OnErr, OnOk};
 ghost use Rattle.swim_library.specs.Outbox.{waiting_in};
-ghost use Rattle.swim_library.specs.Running.{AddsTo, EntersEvent, EntersTick, Hands, SavesPeers, LivesOn, ShowsRows};
+ghost use Rattle.swim_library.specs.Running.{AddsTo, EntersEvent, EntersTick, GoesOnOpen, Hands, SavesPeers, LivesOn, ShowsRows};
 ghost use Rattle.swim_library.specs.Shapes.{endpoint_as, note_as, row_as, status_as};
 ghost use Rattle.swim_library.specs.declared.refusal.Refusal.TheVariants as why;
 ghost use Rattle.swim_member.specs.declared.answer.TheConstants.{NOTES_MAX};
@@ -193,6 +193,8 @@ impl Running {
         ensures room { length rows.new ≡ length rows.old }
         ensures notes { self.new.notes ≡ self.old.notes }
         ensures short { IsErrOf result why.Short → length rows.old < UPDATES_MAX }
+        ensures refused { IfErr result (λ refusal. refusal ≢ why.Short
+            → refusal ≡ why.NoMemory) }
     {
         if rows.len() < UPDATES_MAX {
             return Err(Refusal::Short);
@@ -250,8 +252,7 @@ impl Running {
     /// Saves whom the member knows, the first eight that are Alive or Suspect.
     pub(crate) fn keep_peers(&mut self) -> Result<(), Refusal>
         ensures kept { OnOk result (SavesPeers self.old.node self.new.node) }
-        ensures outbox { self.new.outbox ≡ self.old.outbox }
-        ensures notes { self.new.notes ≡ self.old.notes }
+        ensures goes_on { GoesOnOpen self.old self.new }
     {
         end_era_of(&mut self.node, 1);
         match self.node.keep_peers() {

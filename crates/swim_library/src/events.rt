@@ -1,7 +1,7 @@
 //! The events of a member, and what it is to send.
 
 ghost use Rattle.std.specs.Prelude.{◌≡◌, ◌≢◌, ◌*◌, ◌+◌, ◌∷◌, [], List, ℕ, length, take as first, Some, None};
-ghost use Rattle.swim_library.specs.Codes.{CLOSED, NO_ENDPOINT, NOTHING, OK, WAITING};
+ghost use Rattle.swim_library.specs.Codes.{CLOSED, IsDoneOrLacks, NO_ENDPOINT, NOTHING, OK, WAITING};
 ghost use Rattle.swim_library.specs.Holding.{HandleBecomes, held};
 ghost use Rattle.swim_library.specs.Outbox.{waiting_in};
 ghost use Rattle.swim_library.specs.Running.{EntersEvent, EntersTick, Hands};
@@ -37,6 +37,9 @@ fn enter(member: &mut SwimMember, spare: SwimMember, event: Event) -> u32
     ensures waits { (running : Running) → held member.old ≡ Some running
         → waiting_in running.outbox ≢ []
         → result ≡ WAITING }
+    ensures open { (running : Running) → held member.old ≡ Some running
+        → waiting_in running.outbox ≡ []
+        → IsDoneOrLacks result }
 {
     match take(member, spare) {
         None => code(Err(Refusal::Closed)),
@@ -59,6 +62,9 @@ pub extern "C" fn swim_library_tick(member: &mut SwimMember, spare: SwimMember, 
     ensures waits { (running : Running) → held member.old ≡ Some running
         → waiting_in running.outbox ≢ []
         → result ≡ WAITING }
+    ensures open { (running : Running) → held member.old ≡ Some running
+        → waiting_in running.outbox ≡ []
+        → IsDoneOrLacks result }
 {
     match take(member, spare) {
         None => code(Err(Refusal::Closed)),
@@ -89,6 +95,10 @@ pub extern "C" fn swim_library_receive(
         → from.now.port ≢ 0
         → waiting_in running.outbox ≢ []
         → result ≡ WAITING }
+    ensures open { (running : Running) → held member.old ≡ Some running
+        → from.now.port ≢ 0
+        → waiting_in running.outbox ≡ []
+        → IsDoneOrLacks result }
 {
     match from.endpoint() {
         None => code(Err(Refusal::NoEndpoint)),
@@ -110,6 +120,9 @@ pub extern "C" fn swim_library_receive_failed(member: &mut SwimMember, spare: Sw
     ensures waits { (running : Running) → held member.old ≡ Some running
         → waiting_in running.outbox ≢ []
         → result ≡ WAITING }
+    ensures open { (running : Running) → held member.old ≡ Some running
+        → waiting_in running.outbox ≡ []
+        → IsDoneOrLacks result }
 {
     enter(member, spare, Event::ReceiveFailed)
 }
@@ -129,6 +142,9 @@ pub extern "C" fn swim_library_send_failed(
     ensures waits { (running : Running) → held member.old ≡ Some running
         → waiting_in running.outbox ≢ []
         → result ≡ WAITING }
+    ensures open { (running : Running) → held member.old ≡ Some running
+        → waiting_in running.outbox ≡ []
+        → IsDoneOrLacks result }
 {
     enter(member, spare, Event::SendFailed { count })
 }
@@ -150,6 +166,10 @@ pub extern "C" fn swim_library_join(
         → peer.now.port ≢ 0
         → waiting_in running.outbox ≢ []
         → result ≡ WAITING }
+    ensures open { (running : Running) → held member.old ≡ Some running
+        → peer.now.port ≢ 0
+        → waiting_in running.outbox ≡ []
+        → IsDoneOrLacks result }
 {
     match peer.endpoint() {
         None => code(Err(Refusal::NoEndpoint)),
@@ -168,6 +188,9 @@ pub extern "C" fn swim_library_leave(member: &mut SwimMember, spare: SwimMember)
     ensures waits { (running : Running) → held member.old ≡ Some running
         → waiting_in running.outbox ≢ []
         → result ≡ WAITING }
+    ensures open { (running : Running) → held member.old ≡ Some running
+        → waiting_in running.outbox ≡ []
+        → IsDoneOrLacks result }
 {
     enter(member, spare, Event::Leave)
 }

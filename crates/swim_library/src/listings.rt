@@ -1,13 +1,16 @@
 //! What a member shows and keeps.
 
 ghost use Rattle.std.specs.Prelude.{◌≡◌, ◌≢◌, ◌≤◌, length, map, take as first, Some, None};
-ghost use Rattle.swim_library.specs.Codes.{CLOSED, OK};
+ghost use Rattle.swim_library.specs.Codes.{CLOSED, IsDoneOrLacks, OK};
 ghost use Rattle.swim_library.specs.Holding.{HandleBecomes, held};
-ghost use Rattle.swim_library.specs.Running.{SavesPeers, ShowsRows};
+ghost use Rattle.swim_library.specs.Running.{GoesOnOpen, SavesPeers, ShowsRows};
 ghost use Rattle.swim_library.specs.Shapes.{cursor_of, endpoint_as, note_as, status_as};
 ghost use Rattle.swim_library.specs.declared.running.Running.{Running};
+ghost use Rattle.swim_member.specs.declared.answer.TheConstants.{NOTES_MAX};
 ghost use Rattle.swim_member.specs.declared.event.Event.TheVariants.{Members};
 ghost use Rattle.swim_node.specs.History.{status_of};
+ghost use Rattle.swim_state.specs.declared.peers.TheConstants.{PEERS_MAX};
+ghost use Rattle.swim_wire.specs.declared.datagram.TheConstants.{UPDATES_MAX};
 
 use crate::handle::{SwimMember, put, take};
 use crate::refusal::{Refusal, code};
@@ -27,6 +30,8 @@ pub extern "C" fn swim_library_members(
         (first count.new rows.new)) }
     ensures refused { result ≢ OK → held member.new ≡ held member.old }
     ensures closed { held member.old ≡ None → result ≡ CLOSED }
+    ensures open { held member.old ≢ None → UPDATES_MAX ≤ length rows.old
+        → IsDoneOrLacks result }
     ensures room { length rows.new ≡ length rows.old }
 {
     match take(member, spare) {
@@ -75,6 +80,7 @@ pub extern "C" fn swim_library_notes(
     ensures notes { result ≡ OK → (running : Running) → held member.old ≡ Some running
         → first count.new notes.new ≡ map note_as running.notes.items }
     ensures closed { held member.old ≡ None → result ≡ CLOSED }
+    ensures open { held member.old ≢ None → NOTES_MAX ≤ length notes.old → result ≡ OK }
     ensures room { length notes.new ≡ length notes.old }
 {
     match take(member, spare) {
@@ -99,6 +105,7 @@ pub extern "C" fn swim_library_stored_peers(
     ensures peers { result ≡ OK → (running : Running) → held member.old ≡ Some running
         → first count.new peers.new ≡ map endpoint_as running.node.peers }
     ensures closed { held member.old ≡ None → result ≡ CLOSED }
+    ensures open { held member.old ≢ None → PEERS_MAX ≤ length peers.old → result ≡ OK }
     ensures room { length peers.new ≡ length peers.old }
 {
     match take(member, spare) {
@@ -115,8 +122,10 @@ pub extern "C" fn swim_library_stored_peers(
 #[unsafe(no_mangle)]
 pub extern "C" fn swim_library_keep_peers(member: &mut SwimMember, spare: SwimMember) -> u32
     ensures kept { result ≡ OK → HandleBecomes member.old member.new
-        (λ before after. SavesPeers before.node after.node
-        × (after.outbox ≡ before.outbox) × (after.notes ≡ before.notes)) }
+        (λ before after. SavesPeers before.node after.node) }
+    // also if they were not saved
+    ensures goes_on { held member.old ≢ None
+        → HandleBecomes member.old member.new GoesOnOpen }
     ensures closed { held member.old ≡ None → result ≡ CLOSED }
 {
     match take(member, spare) {

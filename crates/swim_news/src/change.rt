@@ -1,5 +1,8 @@
 //! What became of a member, and how it is written.
 
+ghost use Rattle.std.specs.Prelude.{◌≡◌, ◌∷◌, [], IfSome, IfNone};
+ghost use Rattle.swim_news.specs.News.{Turns, new_of, old_of, who_of};
+
 use std::fmt;
 use swim_wire::{Endpoint, Update};
 
@@ -29,7 +32,9 @@ impl Default for Change {
 
 impl Change {
     /// The member.
-    pub(crate) fn who(&self) -> Endpoint {
+    pub(crate) fn who(&self) -> Endpoint
+        ensures { result ≡ who_of (Turns self.now) }
+    {
         match self {
             Change::New(row) | Change::Gone(row) => row.who,
             Change::Changed { was, .. } => was.who,
@@ -37,7 +42,10 @@ impl Change {
     }
 
     /// The row that it was, if there was one.
-    pub(crate) fn was(&self) -> Option<Update> {
+    pub(crate) fn was(&self) -> Option<Update>
+        ensures row { IfSome result (λ row. old_of (Turns self.now) ≡ row ∷ []) }
+        ensures none { IfNone result (old_of (Turns self.now) ≡ []) }
+    {
         match self {
             Change::New(_) => None,
             Change::Changed { was, .. } | Change::Gone(was) => Some(*was),
@@ -45,7 +53,10 @@ impl Change {
     }
 
     /// The row that it is, if there is one.
-    pub fn now(&self) -> Option<Update> {
+    pub fn now(&self) -> Option<Update>
+        ensures row { IfSome result (λ row. new_of (Turns self.now) ≡ row ∷ []) }
+        ensures none { IfNone result (new_of (Turns self.now) ≡ []) }
+    {
         match self {
             Change::New(now) | Change::Changed { now, .. } => Some(*now),
             Change::Gone(_) => None,

@@ -1,7 +1,8 @@
 //! Where the bytes of a file depart from the format.
 
-ghost use Rattle.std.specs.Prelude.{◌≡◌, ◌≤◌, ◌+◌, ◌*◌, length, false, All, IfOk, OnOk};
-ghost use Rattle.swim_show.specs.Departing.{IsThere};
+ghost use Rattle.std.specs.Prelude.{◌≡◌, ◌<◌, ◌≤◌, ◌+◌, ◌*◌, ◌∷◌, [], length, false, All, IfOk, OnOk};
+ghost use Rattle.swim_show.specs.Departing.{IsThere, wanted_size};
+ghost use Rattle.swim_show.specs.declared.departing.Departure.TheVariants.{Short};
 ghost use Rattle.swim_state.specs.File.{layout_of};
 
 use crate::shown::ENDPOINT_AT;
@@ -225,6 +226,10 @@ fn add_head(found: &mut Vec<Departure>, image: &[u8]) -> Result<(), AllocError>
 /// body holds. Err: there was no memory.
 pub fn departures(alloc: Global, image: &[u8]) -> Result<Vec<Departure>, AllocError>
     ensures there { IfOk result (λ found. All (IsThere image.now) found.items) }
+    // of a file that is too short this alone is told
+    ensures short { length image.now < wanted_size image.now
+        → IfOk result (λ found. found.items
+        ≡ Short (length image.now) (wanted_size image.now) ∷ []) }
 {
     let mut found = Vec::new(alloc);
     let version = version_of(image);

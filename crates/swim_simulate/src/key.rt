@@ -1,6 +1,6 @@
 //! The keys of a plan. The value of each is a number.
 
-ghost use Rattle.std.specs.Prelude.{◌≡◌, ◌<◌};
+ghost use Rattle.std.specs.Prelude.{◌≡◌, ◌<◌, IfSome};
 ghost use Rattle.swim_simulate.specs.Keys.{plan_key, rank_of, range_of};
 
 use std::fmt;
@@ -249,7 +249,9 @@ impl Key {
 
 impl Key {
     /// The key with this text, if there is one.
-    pub fn of(text: &[u8]) -> Option<Key> {
+    pub fn of(text: &[u8]) -> Option<Key>
+        ensures { IfSome result (λ key. plan_key key ≡ text.now) }
+    {
         for key in Key::ALL {
             if key.text().as_bytes() == text {
                 return Some(key);

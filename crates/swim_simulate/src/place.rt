@@ -1,6 +1,7 @@
 //! The names of the members, and what is known of each beside its node.
 
 ghost use Rattle.std.specs.Prelude.{◌≡◌, ◌+◌, ◌*◌, ◌<◌};
+ghost use Rattle.swim_simulate.specs.Network.{endpoint_of};
 
 use crate::joining::Joins;
 use crate::key::Key;
@@ -17,6 +18,7 @@ const PORT: u16 = 7000;
 /// The endpoint of the member with this place.
 pub fn endpoint_of(place: usize) -> Endpoint
     requires { place < 1000 }
+    ensures { result ≡ endpoint_of place }
 {
     match Endpoint::new(FIRST + place as u32, PORT) {
         Some(endpoint) => endpoint,

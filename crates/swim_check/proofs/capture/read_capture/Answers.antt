@@ -9,4 +9,4 @@ loop-rest-preserved c =
     let items : c.push_reserved.new.self.items ≡ c.loop-rest.datagrams.items ++ c.in-Ok.datagram ∷ [] =
     c.push_reserved.ensures.items ∙ ap (λ (ds : List Datagram). ds ++ c.in-Ok.datagram ∷ []) c.reserve.ensures.items in
     subst (λ (ds : List Datagram). Begins c.args.text.now ds c.in-Some.more.now) (sym items)
-    (begins-more c.loop-rest.datagrams.items c.args.text.now c.loop-rest.rest.now c.in-Some.line.now c.in-Some.more.now c.in-Ok.datagram c.loop-rest.invariant c.in-Some.ensures.parts c.in-Some.ensures.first c.in-Ok.ensures)
+    (begins-more c.loop-rest.datagrams.items c.args.text.now c.loop-rest.rest.now c.in-Some.line.now c.in-Some.more.now c.in-Ok.datagram c.loop-rest.invariant c.in-Some.ensures.parts c.in-Some.ensures.first c.in-Ok.ensures.said)

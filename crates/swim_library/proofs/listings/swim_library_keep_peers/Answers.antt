@@ -9,5 +9,14 @@ returns-in-Some-clause-kept c = λ ok. record {
   after = c.keep_peers-done.new.self;
   was = c.in-Some.ensures.open ∙ ap (λ (r : Running). Some r) (sym c.deref_mut.ensures.value);
   is = c.put.ensures;
-  how = (done c.keep_peers-done.result c.code-in-Some.result c.code-in-Some.ensures ok c.keep_peers-done.ensures.kept, c.keep_peers-done.ensures.outbox, c.keep_peers-done.ensures.notes);
+  how = done c.keep_peers-done.result c.code-in-Some.result c.code-in-Some.ensures ok c.keep_peers-done.ensures.kept;
+}
+
+pub returns-in-Some-clause-goes_on : goal.returns-in-Some-clause-goes_on
+returns-in-Some-clause-goes_on c = λ some. record {
+  before = c.deref_mut.result.now;
+  after = c.keep_peers-done.new.self;
+  was = c.in-Some.ensures.open ∙ ap (λ (r : Running). Some r) (sym c.deref_mut.ensures.value);
+  is = c.put.ensures;
+  how = c.keep_peers-done.ensures.goes_on;
 }

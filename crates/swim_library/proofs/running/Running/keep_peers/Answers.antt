@@ -21,3 +21,25 @@ returns-in-Ok-clause-kept c =
           let before = c.end_era_of.ensures.lives settings limit opened eras lives in
           (before.0, c.in-Ok.ensures.living settings limit opened (eras ++ before.0) before.1);
     }
+
+pub returns-in-Ok-clause-goes_on : goal.returns-in-Ok-clause-goes_on
+returns-in-Ok-clause-goes_on c = record {
+  outbox = refl;
+  notes = refl;
+  owner = c.in-Ok.ensures.owner ∙ c.end_era_of.ensures.owner;
+  first = c.in-Ok.ensures.first ∙ c.end_era_of.ensures.first;
+  lives = λ settings limit opened eras lives.
+      let before = c.end_era_of.ensures.lives settings limit opened eras lives in
+      (before.0, c.in-Ok.ensures.living settings limit opened (eras ++ before.0) before.1);
+}
+
+pub returns-in-Err-clause-goes_on : goal.returns-in-Err-clause-goes_on
+returns-in-Err-clause-goes_on c = record {
+  outbox = refl;
+  notes = refl;
+  owner = c.in-Err.ensures.owner ∙ c.end_era_of.ensures.owner;
+  first = c.in-Err.ensures.first ∙ c.end_era_of.ensures.first;
+  lives = λ settings limit opened eras lives.
+      let before = c.end_era_of.ensures.lives settings limit opened eras lives in
+      (before.0, c.in-Err.ensures.living settings limit opened (eras ++ before.0) before.1);
+}
