@@ -5,18 +5,17 @@ ghost use Rattle.swim_wire.specs.declared.datagram.TheConstants.{DATAGRAM_MAX};
 ghost use Rattle.swim_wire.specs.Decoding.{decoded};
 ghost use Rattle.swim_wire.specs.Spelling.{HasText, Spells};
 
-use swim_wire::{Datagram, decode, encode};
+use swim_wire::{Datagram, decode, decode_into, encode_into};
 
-/// Writes the datagram's text over the first bytes, and answers its length.
+/// Writes the datagram's text over the first bytes, and answers its length. Each turn does it anew: inlined, the same text
+/// would be written once for all of them.
+#[inline(never)]
 pub(crate) fn write(datagram: &Datagram, out: &mut [u8]) -> usize
     requires text { HasText datagram.now }
     requires room { DATAGRAM_MAX ≤ length out.old }
     ensures text { Spells (take result out.new) datagram.now }
 {
-    let bytes = encode(datagram);
-    let len = bytes.len();
-    out[..len].copy_from_slice(bytes.as_slice());
-    len
+    encode_into(datagram, out)
 }
 
 /// Decodes the text in each turn, and answers in how many it was a datagram.
@@ -25,9 +24,10 @@ pub extern "C" fn swim_bench_decode(text: &[u8], turns: u32) -> u64
     ensures good { IsOk (decoded text.now) → result ≡ turns }
     ensures bad { IsErr (decoded text.now) → result ≡ 0 }
 {
+    let mut place = Datagram::default();
     let mut good = 0;
     for _ in 0..turns {
-        if decode(text).is_ok() {
+        if decode_into(text, &mut place).is_ok() {
             good += 1;
         }
     }

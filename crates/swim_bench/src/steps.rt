@@ -25,6 +25,7 @@ pub(crate) fn write_all(outs: &[Out], out: &mut [u8]) -> usize
 }
 
 /// One step, in which no number is granted above the own one, and what it sends. The answer is lent, as a node lends it.
+#[inline(always)]
 fn turn_of(member: &mut Member, event: &Event, answer: &mut Answer, out: &mut [u8]) -> usize
     requires { DATAGRAM_MAX ≤ length out.old }
     ensures few { result ≤ OUTS_MAX }

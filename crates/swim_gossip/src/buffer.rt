@@ -177,9 +177,33 @@ impl Buffer {
         self.len -= clear_about(&mut self.slots, who, hint, visits);
     }
 
-    /// Gives the updates that the next datagram carries, at most `room`, and counts the send of each.
+    /// Puts the updates that the next datagram carries, at most `room`, into an empty list, and counts the send of each.
     /// They are the first of those that were sent fewer than `limit` times, by how often they were
     /// sent, and then in the order in which they began to wait.
+    #[inline]
+    pub fn pick_into(
+        &mut self,
+        limit: u32,
+        room: usize,
+        updates: &mut ArrayVec<Update, UPDATES_MAX>,
+        visits: &mut Visits,
+    )
+        requires room { room ≤ UPDATES_MAX }
+        requires limit { limit ≤ self.old.most }
+        requires empty { updates.old.items ≡ [] }
+        requires begun { visits.old ≡ 0 }
+        ensures picked { updates.new.items ≡ picked_updates limit room self.old.queue }
+        ensures counted { self.new
+            ≡ record self.old {
+              queue = map (raise_all (picked_updates limit room self.old.queue)) self.old.queue;
+            } }
+        ensures kept { AreApart self.new.queue }
+        ensures visits { visits.new ≤ 1000 }
+    {
+        pick_in(&mut self.slots, limit, room, updates, visits);
+    }
+
+    /// Gives the updates that `pick_into` puts into a list.
     #[inline]
     pub fn pick(
         &mut self,
@@ -199,7 +223,7 @@ impl Buffer {
         ensures visits { visits.new ≤ 1000 }
     {
         let mut updates = ArrayVec::new();
-        pick_in(&mut self.slots, limit, room, &mut updates, visits);
+        self.pick_into(limit, room, &mut updates, visits);
         updates
     }
 }

@@ -1,7 +1,7 @@
 //! Judging: what a member makes of an event before it acts. Bytes are decoded here and nowhere else, and what an event
 //! wants is found here, so that it can be saved before the member acts.
 
-ghost use Rattle.std.specs.Prelude.{◌≡◌, ◌≤◌, ◌^◌, Ok, IfSome};
+ghost use Rattle.std.specs.Prelude.{◌≡◌, ◌≤◌, ◌^◌, Ok, IfSome, IfOk, IfErr};
 ghost use Rattle.swim_wire.specs.declared.update.TheConstants.{NUMBER_MAX};
 ghost use Rattle.swim_wire.specs.Spelling.{HasText};
 ghost use Rattle.swim_wire.specs.Decoding.{decoded};
@@ -14,7 +14,7 @@ use crate::note::Note;
 use crate::own_number::OwnNumber;
 use crate::state::Phase;
 use crate::tick::LAST_TIME;
-use swim_wire::{Cursor, Datagram, Endpoint, decode};
+use swim_wire::{Cursor, Datagram, Endpoint, decode_into};
 
 /// What a member makes of an event before it acts on it.
 #[derive(Drop)]
@@ -87,20 +87,39 @@ impl Member {
         }
     }
 
-    /// Judges received bytes. The datagram goes straight from its decoding to where it is given back.
+    /// Judges received bytes, and reads the datagram that they spell into a place. Gives what it asks of the own number, or
+    /// why it is not accepted.
+    pub(crate) fn read(
+        &self,
+        from: Endpoint,
+        bytes: &[u8],
+        place: &mut Datagram,
+    ) -> Result<OwnNumber, Note>
+        ensures accepted { IfOk result (λ own. judge_bytes self.now from (decoded bytes.now)
+            ≡ Judgement.Datagram place.new own) }
+        ensures refused { IfErr result (λ note. judge_bytes self.now from (decoded bytes.now)
+            ≡ Judgement.Note note) }
+        ensures sound { IfOk result (λ own. MayAct self.now (Judgement.Datagram place.new own)) }
+    {
+        if let Err(fault) = decode_into(bytes, place) {
+            return Err(Note::BadDatagram(fault));
+        }
+        if let Some(note) = self.refusal_of(from, place) {
+            return Err(note);
+        }
+        Ok(self.own_number_by(&place.updates))
+    }
+
+    /// Judges received bytes.
     fn judge_bytes(&self, from: Endpoint, bytes: &[u8]) -> Judgement
         ensures value { result ≡ judge_bytes self.now from (decoded bytes.now) }
         ensures sound { MayAct self.now result }
     {
-        let datagram = match decode(bytes) {
-            Err(fault) => return Judgement::Note(Note::BadDatagram(fault)),
-            Ok(datagram) => datagram,
-        };
-        if let Some(note) = self.refusal_of(from, &datagram) {
-            return Judgement::Note(note);
+        let mut datagram = Datagram::default();
+        match self.read(from, bytes, &mut datagram) {
+            Ok(own) => Judgement::Datagram { datagram, own },
+            Err(note) => Judgement::Note(note),
         }
-        let own = self.own_number_by(&datagram.updates);
-        Judgement::Datagram { datagram, own }
     }
 
     /// Judges an event before the member acts on it: what it wants may be saved first.

@@ -16,8 +16,7 @@ ghost use Rattle.swim_member.specs.declared.answer.TheConstants.{OUTS_MAX};
 use crate::answer::{Answer, Out};
 use crate::member::Member;
 use arrayvec::ArrayVec;
-use swim_gossip::Visits;
-use swim_wire::{Cursor, Datagram, Endpoint, Kind, UPDATES_MAX, Update};
+use swim_wire::{Cursor, Datagram, Endpoint, Kind};
 
 /// The number of binary digits of `n`.
 fn bits_of(n: usize) -> u32
@@ -82,10 +81,8 @@ impl Member {
     {
         // an endpoint is not 0, so what is sent has a text
         let _ = subject.number();
-        // picked here: a function that gave it back would move it once more
         let limit = self.limit();
-        let updates = self.buffer.pick(limit, UPDATES_MAX, &mut Visits::new());
-        answer.send(Out {
+        let out = Out {
             to,
             datagram: Datagram {
                 version: self.settings.rules_of(),
@@ -94,8 +91,9 @@ impl Member {
                 seq,
                 sender: self.settings.me,
                 subject: Cursor::at(subject),
-                updates,
+                updates: ArrayVec::new(),
             },
-        });
+        };
+        answer.send_picked(out, &mut self.buffer, limit);
     }
 }

@@ -1,13 +1,14 @@
 //! Steps: what a member does at an event.
 
-ghost use Rattle.std.specs.Prelude.{◌≡◌, ◌≢◌, ◌≤◌, ◌+◌, ◌++◌, ◌∷◌, [], List, All, length, true};
+ghost use Rattle.std.specs.Prelude.{◌≡◌, ◌≢◌, ◌≤◌, ◌+◌, ◌++◌, ◌∷◌, [], List, All, length, true, IsTrue};
 ghost use Rattle.std.specs.List.{list_all};
 ghost use Rattle.swim_wire.specs.Spelling.{HasText};
 ghost use Rattle.swim_wire.specs.declared.rules.Rules.TheVariants.{Two};
-ghost use Rattle.swim_member.specs.declared.state.Phase.TheVariants.{Expelled};
+ghost use Rattle.swim_member.specs.declared.state.Phase.TheVariants.{Running, Expelled};
 ghost use Rattle.swim_member.specs.Checks.{rules_of};
 ghost use Rattle.swim_member.specs.State.{State};
-ghost use Rattle.swim_member.specs.Judge.{judge, wanted, number_wanted, MayAct, HasDeal};
+ghost use Rattle.swim_wire.specs.Decoding.{decoded};
+ghost use Rattle.swim_member.specs.Judge.{judge, judge_bytes, wanted, number_wanted, MayAct, HasDeal};
 ghost use Rattle.swim_member.specs.Events.{Step, state_of, answer, number_after, actions, actions_of, Show, no_answer};
 ghost use Rattle.swim_member.specs.Fit.{is_fit, AreAll, own_numbers_in};
 ghost use Rattle.swim_member.specs.Machinery.Steps.{after, answer_by};
@@ -19,7 +20,7 @@ use crate::judge::Judgement;
 use crate::member::Member;
 use crate::state::Phase;
 use crate::tick::LAST_TIME;
-use swim_wire::Cursor;
+use swim_wire::{Cursor, Datagram, Endpoint};
 
 impl Member {
     /// Shows the members after a cursor.
@@ -103,7 +104,33 @@ impl Member {
         self.obey(&judged, granted, answer);
     }
 
-    /// Does what is judged of an event. A tick that counts goes without a judgement, which has room for a datagram.
+    /// Whether the member takes part.
+    fn is_running(&self) -> bool
+        ensures { IsTrue result → self.now.phase ≡ Running }
+    {
+        self.phase == Phase::Running
+    }
+
+    /// Does what is judged of received bytes. The datagram stays where it is read: in a judgement it would be moved.
+    fn obey_bytes(&mut self, from: Endpoint, bytes: &[u8], granted: u64, answer: &mut Answer)
+        requires { answer.old ≡ no_answer }
+        ensures state { self.new ≡ after self.old
+            (actions_of (judge_bytes self.old from (decoded bytes.now)) granted) }
+        ensures answer { answer.new ≡ answer_by self.old
+            (actions_of (judge_bytes self.old from (decoded bytes.now)) granted) }
+        ensures fit { list_all (is_fit self.new.settings.me self.new.number) answer.new.outs.items
+            ≡ true }
+        ensures few { length answer.new.outs.items ≤ self.old.settings.helpers + 2 }
+    {
+        let mut datagram = Datagram::default();
+        match self.read(from, bytes, &mut datagram) {
+            Ok(own) => self.receive(&datagram, own, granted, answer),
+            Err(note) => answer.note(note),
+        }
+    }
+
+    /// Does what is judged of an event. A tick that counts and received bytes go without a judgement, which has room for
+    /// a datagram.
     fn obey_event(&mut self, event: &Event, granted: u64, answer: &mut Answer)
         requires { answer.old ≡ no_answer }
         ensures state { self.new ≡ after self.old (actions self.old event.now granted) }
@@ -118,6 +145,12 @@ impl Member {
                 // the type's invariant holds
                 let _ = deal.numbers();
                 self.tick(deal, answer);
+                return;
+            }
+        }
+        if let Event::Datagram { from, bytes } = event {
+            if self.is_running() {
+                self.obey_bytes(*from, bytes, granted, answer);
                 return;
             }
         }

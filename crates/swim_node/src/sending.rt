@@ -8,7 +8,7 @@ ghost use Rattle.swim_node.specs.Sending.{Sends, taken_by};
 use crate::{Link, Outcome};
 use arrayvec::ArrayVec;
 use swim_member::{OUTS_MAX, Out};
-use swim_wire::encode;
+use swim_wire::{DATAGRAM_MAX, encode_into};
 
 /// Sends one datagram.
 fn send_one<L: Link>(link: &mut L, out: &Out) -> Outcome
@@ -18,8 +18,9 @@ fn send_one<L: Link>(link: &mut L, out: &Out) -> Outcome
         → L.took link.new ≡ L.took link.old ++ taken_by (out.now ∷ []) (result ∷ []) }
     ensures failures { L.failures link.new ≡ L.failures link.old + lost_in (result ∷ []) }
 {
-    let bytes = encode(&out.datagram);
-    match link.send(out.to, &bytes) {
+    let mut room = [0; DATAGRAM_MAX];
+    let len = encode_into(&out.datagram, &mut room);
+    match link.send(out.to, &room[..len]) {
         Ok(()) => Outcome::Taken,
         Err(_) => Outcome::Lost,
     }

@@ -1,11 +1,11 @@
 -- The order of the faults.
 use Rattle.std.specs.Prelude.{IsTrue, ◌↔◌}
-use Rattle.std.proofs.Common.{◌≡◌, ℕ, Bool, true, false, zero, suc, ◌+◌, ◌<◌, List, refl, sym, ap, subst, ◌∙◌, arith, inl, inr}
+use Rattle.std.proofs.Common.{◌≡◌, ℕ, Bool, true, false, zero, suc, ◌+◌, ◌<◌, ◌⊎◌, List, refl, sym, ap, subst, ◌∙◌, arith, inl, inr}
 use Rattle.std.proofs.lemmas.Bool.{cases_lt}
 use Rattle.swim_wire.specs.declared.fault.WireFault.{WireFault}
 use Rattle.swim_wire.specs.declared.fault.WireFault.TheVariants.{TooShort, TooLong, Magic, Version, Kind, Count, Reserved, Endpoint, UpdateKind, Number}
 use Rattle.swim_wire.specs.Codes.{fault_number}
-use Rattle.swim_wire.specs.Faults.{Has, HasNoneBelow, IsFirstFault, IsFaultless}
+use Rattle.swim_wire.specs.Faults.{Has, HasReserved, HasNoEndpoint, HasUnknownUpdateKind, HasNumberOver, HasNoneBelow, IsFirstFault, IsFaultless}
 
 -- the fault with this number
 fault_of : ℕ → WireFault
@@ -72,6 +72,20 @@ first_fault_one f g bytes p q =
         | inr le' ↦ fault_number_one f g (omega arith)
       ]
     ]
+
+-- ---- faults of fields
+
+pub neither : (A B : Type 0) → ¬ A → ¬ B → ¬ (A ⊎ B)
+neither A B a b (inl x) = a x
+neither A B a b (inr x) = b x
+
+-- without the faults before them and without those of fields there is none
+pub none_of_fields : (bytes : List ℕ) → HasNoneBelow 7 bytes → ¬ HasReserved bytes → ¬ HasNoEndpoint bytes → ¬ HasUnknownUpdateKind bytes → ¬ HasNumberOver bytes → IsFaultless bytes
+none_of_fields bytes none reserved endpoint kind number =
+    let none_8 = none_next Reserved 8 bytes none reserved refl in
+    let none_9 = none_next Endpoint 9 bytes none_8 endpoint refl in
+    let none_10 = none_next UpdateKind 10 bytes none_9 kind refl in
+    none_at_all bytes (none_next Number 11 bytes none_10 number refl)
 
 -- ---- what a test says
 

@@ -1,6 +1,6 @@
 //! A datagram as plain data.
 
-ghost use Rattle.std.specs.Prelude.{◌≡◌, ◌≢◌, ◌↔◌, IsTrue, Some, None, IfSome, IfNone};
+ghost use Rattle.std.specs.Prelude.{◌≡◌, ◌≢◌, ◌↔◌, [], IsTrue, Some, None, IfSome, IfNone};
 ghost use Rattle.swim_wire.specs.Codes.{kind_code, MayHaveZero};
 ghost use Rattle.swim_wire.specs.declared.datagram.Kind.{Kind as Kinds};
 
@@ -109,5 +109,30 @@ impl Datagram {
             .as_slice()
             .iter()
             .all(|update| update.number <= NUMBER_MAX)
+    }
+}
+
+/// A ping with nothing in it: what stands in a place before a datagram is read there.
+impl Default for Datagram {
+    fn default() -> Datagram
+        ensures { result ≡ record {
+          version = Rules.One;
+          kind = Kind.Ping;
+          group = 0;
+          seq = 0;
+          sender = 1;
+          subject = 0;
+          updates = record { items = [] };
+        } }
+    {
+        Datagram {
+            version: Rules::One,
+            kind: Kind::Ping,
+            group: 0,
+            seq: 0,
+            sender: Endpoint::default(),
+            subject: Cursor::zero(),
+            updates: ArrayVec::new(),
+        }
     }
 }

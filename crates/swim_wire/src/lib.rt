@@ -26,7 +26,7 @@ pub use fault::WireFault;
 pub use laws::{
     datagram_has_one_text, own_numbers_of_spelled, spelled_or_faulty, text_spells_one_datagram,
 };
-pub use reading::decode;
+pub use reading::{decode, decode_into};
 pub use rules::Rules;
 pub use update::{LEAP, MEMBERS_MAX, NUMBER_MAX, Update, UpdateKind};
-pub use writing::encode;
+pub use writing::{encode, encode_into};

@@ -115,7 +115,8 @@ impl Update {
         };
         Update {
             kind,
-            who: Endpoint::from_bytes(&bytes[WHO_AT..]),
+            // the low six bytes of the first word
+            who: Endpoint::from_number(BigEndian::read_u64(bytes) % (1 << 48)),
             number: BigEndian::read_u64(&bytes[NUMBER_AT..]),
         }
     }
@@ -125,9 +126,10 @@ impl Update {
         ensures text { result ≡ update_text self.now }
         ensures who { IsEndpoint self.now.who }
     {
+        // kind, zero and member make one word, which is written at once
+        let first = self.kind.code() as u64 * (1 << 56) + self.who.number();
         let mut bytes = [0; UPDATE_LEN];
-        bytes[KIND_AT] = self.kind.code();
-        BigEndian::write_u48(&mut bytes[WHO_AT..], self.who.number());
+        BigEndian::write_u64(&mut bytes[KIND_AT..], first);
         BigEndian::write_u64(&mut bytes[NUMBER_AT..], self.number);
         bytes
     }
@@ -176,4 +178,18 @@ pub(crate) fn has_great_number(bytes: &[u8]) -> bool
     ensures { IsTrue result ↔ HasGreatNumber bytes.now }
 {
     BigEndian::read_u64(&bytes[NUMBER_AT..]) > NUMBER_MAX
+}
+
+/// Whether the update with which the bytes begin has none of the four faults.
+pub(crate) fn is_well(bytes: &[u8]) -> bool
+    requires { 16 ≤ length bytes.now }
+    ensures reserved { IsTrue result → ¬ HasReservedUpdate bytes.now }
+    ensures member { IsTrue result → ¬ HasNoMember bytes.now }
+    ensures kind { IsTrue result → ¬ HasUnknownCode bytes.now }
+    ensures number { IsTrue result → ¬ HasGreatNumber bytes.now }
+{
+    !(has_reserved_byte(bytes)
+        || has_no_member(bytes)
+        || has_unknown_code(bytes)
+        || has_great_number(bytes))
 }

@@ -4,4 +4,4 @@ use Rattle.swim_node.proofs.sending.send_one.Goals as goal
 pub returns-in-Ok-clause-took : goal.returns-in-Ok-clause-took
 returns-in-Ok-clause-took g c tells =
     c.in-Ok.ensures.took tells
-    ∙ ap (λ (text : List ℕ). g.L.Link.took c.args.link.now ++ (c.args.out.now.to, text) ∷ []) (c.deref.ensures.0 ∙ c.encode-bytes.ensures.text)
+    ∙ ap (λ (text : List ℕ). g.L.Link.took c.args.link.now ++ (c.args.out.now.to, text) ∷ []) c.encode_into-len.ensures.text.text
