@@ -1,6 +1,6 @@
 //! An era that ended, with where it began.
 
-ghost use Rattle.std.specs.Prelude.{◌≡◌, IfOk};
+ghost use Rattle.std.specs.Prelude.{◌≡◌, ◌≤◌, ◌↔◌, length, IfOk, IsTrue};
 ghost use Rattle.swim_record.specs.Recording.{recording_text};
 
 use std::alloc::{AllocError, Global};
@@ -38,6 +38,13 @@ impl Finished {
             ≡ recording_text self.now.base self.now.entries) }
     {
         recording(alloc, &self.beginning, self.era.journal())
+    }
+
+    /// Whether it ended because it was full. Any other era was ended on purpose.
+    pub fn is_full(&self) -> bool
+        ensures { IsTrue result ↔ (self.now.base.limit ≤ length self.now.entries) }
+    {
+        self.beginning.limit as usize <= self.era.journal().len()
     }
 
     /// Its room, for the entries of another era.

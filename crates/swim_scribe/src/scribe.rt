@@ -6,9 +6,43 @@ use std::io::ErrorKind;
 use std::sync::Arc;
 use std::sync::atomic::{AtomicBool, Ordering};
 use std::thread::{self, JoinHandle, Threads};
+use std::time::{Clock, Duration, Instant};
 use swim_node::Room;
 use swim_recorder::{FileName, Finished, Folder, Keeper};
 use swim_trace::Trace;
+
+/// How many times as long as the last writer wrote the next one rests first, so that a flood of eras leaves the processors to the
+/// member.
+const RESTS: u32 = 19;
+
+/// It rests no longer, in milliseconds.
+const REST_MAX_MILLIS: u64 = 200;
+
+/// Since when nothing is written, and for how long nothing is to be.
+#[derive(Drop)]
+struct Rest {
+    since: Instant,
+    time: Duration,
+}
+
+impl Rest {
+    /// That of a writer which has written since then until now. None if the clock cannot be read.
+    fn after<R: Clock>(rt: &R, begun: &Instant) -> Option<Rest> {
+        let written = begun.elapsed(rt).ok()?;
+        let time = written.saturating_mul(RESTS);
+        Some(Rest {
+            since: Instant::now(rt).ok()?,
+            time: time.min(Duration::from_millis(REST_MAX_MILLIS)),
+        })
+    }
+
+    /// Waits for its end, which is now if the clock cannot be read.
+    fn wait<R: Clock>(&self, rt: &R) {
+        if let Ok(rested) = self.since.elapsed(rt) {
+            thread::sleep(rt, self.time.saturating_sub(rested));
+        }
+    }
+}
 
 /// An era that is to be recorded under a name.
 #[derive(Drop)]
@@ -35,38 +69,58 @@ impl Named {
     }
 }
 
+/// What a thread has written, and the rest that is due then.
+#[derive(Drop)]
+struct Wrote {
+    waited: Option<Written>,
+    last: Written,
+    rest: Option<Rest>,
+}
+
 /// What a thread of its own writes: the era that waited, if one did, and the one that ended now.
 #[derive(Drop)]
 struct Writing {
+    clock: HostRuntime,
     folder: Arc<Folder, Global>,
     is_done: Arc<AtomicBool, Global>,
     waited: Option<Named>,
     last: Named,
+    rest: Option<Rest>,
 }
 
 impl Writing {
-    /// Writes it, the era that waited first.
-    fn run(self) -> (Option<Written>, Written) {
+    /// Rests, and then writes it, the era that waited first.
+    fn run(self) -> Wrote {
         let Writing {
+            clock,
             folder,
             is_done,
             waited,
             last,
+            rest,
         } = self;
+        if let Some(rest) = rest {
+            rest.wait(&clock);
+        }
+        let begun = Instant::now(&clock);
         let waited = match waited {
             Some(waited) => Some(waited.write(&folder)),
             None => None,
         };
         let last = last.write(&folder);
+        let rest = match begun {
+            Ok(begun) => Rest::after(&clock, &begun),
+            Err(_) => None,
+        };
         is_done.store(true, Ordering::SeqCst);
-        (waited, last)
+        Wrote { waited, last, rest }
     }
 }
 
 /// A thread that writes, and whether it is done.
 #[derive(Drop)]
 struct Writer {
-    thread: JoinHandle<(Option<Written>, Written)>,
+    thread: JoinHandle<Wrote>,
     is_done: Arc<AtomicBool, Global>,
 }
 
@@ -87,16 +141,19 @@ fn shared_folder<T: Log>(
     }
 }
 
-/// Writes each era that it is given into a folder, in a thread of its own. While that is busy one era waits; one that ended later
-/// takes its place, and the log tells how many were passed over. A folder that takes no file is told once in the log.
+/// Writes eras that it is given into a folder, in a thread of its own, which rests first where the last one has just written. Meanwhile
+/// full eras are passed over, and the log tells how many; one that was ended on purpose waits. A folder that takes no file is told once
+/// in the log.
 #[derive(Drop)]
 pub struct Scribe<'a, T> {
     rt: &'a T,
-    alloc: Global,
+    files: HostRuntime,
     folder: Option<Arc<Folder, Global>>,
     /// How many eras it was given.
     eras: u64,
     writer: Option<Writer>,
+    /// The rest that is due before the next full era is written.
+    rest: Option<Rest>,
     waiting: Option<Named>,
     /// How many eras were passed over since the last recording was begun.
     passed: u64,
@@ -106,15 +163,16 @@ pub struct Scribe<'a, T> {
     given: Trace<Finished>,
 }
 
-impl<'a, T: Threads + Log> Scribe<'a, T> {
+impl<'a, T: Threads + Log + Clock> Scribe<'a, T> {
     /// Into the folder at this path, of which so many recordings are kept. Without a path it records nothing.
     pub fn new(rt: &'a T, files: HostRuntime, path: Option<String>, kept: u64) -> Scribe<'a, T> {
         Scribe {
             rt,
-            alloc: files.alloc(),
+            files,
             folder: shared_folder(rt, files, path, kept),
             eras: 0,
             writer: None,
+            rest: None,
             waiting: None,
             passed: 0,
             spare: Vec::new(files.alloc()),
@@ -145,15 +203,16 @@ impl<'a, T: Threads + Log> Scribe<'a, T> {
     /// Waits until what is written now is written.
     fn collect(&mut self) {
         if let Some(writer) = self.writer.take() {
-            let (waited, last) = writer.thread.join(self.rt);
+            let Wrote { waited, last, rest } = writer.thread.join(self.rt);
             if let Some(waited) = waited {
                 self.take(waited);
             }
             self.take(last);
+            self.rest = rest;
         }
     }
 
-    /// Whether a thread writes now.
+    /// Whether a thread writes now, or rests before it does.
     fn is_busy(&self) -> bool {
         match &self.writer {
             Some(writer) => !writer.is_done.load(Ordering::SeqCst),
@@ -170,16 +229,19 @@ impl<'a, T: Threads + Log> Scribe<'a, T> {
         }
     }
 
-    /// What a thread is to write now.
+    /// What a thread is to write next.
     fn writing(&mut self, last: Named) -> Option<Writing> {
         let waited = self.waiting.take();
+        let rest = self.rest.take();
         let folder = Arc::try_clone(self.folder.as_ref()?).ok()?;
-        let is_done = Arc::new(self.alloc, AtomicBool::new(false)).ok()?;
+        let is_done = Arc::new(self.files.alloc(), AtomicBool::new(false)).ok()?;
         Some(Writing {
+            clock: self.files,
             folder,
             is_done,
             waited,
             last,
+            rest,
         })
     }
 
@@ -190,9 +252,12 @@ impl<'a, T: Threads + Log> Scribe<'a, T> {
         Some(Writer { thread, is_done })
     }
 
-    /// Has a thread write this era, and the one that waits before it.
+    /// Has a thread write this era, and the one that waits before it. An era that was ended on purpose is written without a rest.
     fn start(&mut self, last: Named) {
         self.tell_passed(last.name);
+        if !last.era.is_full() {
+            self.rest = None;
+        }
         self.writer = match self.writing(last) {
             Some(writing) => self.spawn(writing),
             None => None,
@@ -202,11 +267,19 @@ impl<'a, T: Threads + Log> Scribe<'a, T> {
         }
     }
 
-    /// Lets an era wait, in the place of one that waits already.
+    /// Passes an era over, and takes its room.
+    fn pass_over(&mut self, passed: Named) {
+        let _ = self.spare.push(passed.era.into_room());
+        self.passed = self.passed.saturating_add(1);
+    }
+
+    /// Passes a full era over: its room is in the processor's cache, and the next era fills it. One that was ended on purpose waits, in
+    /// the place of one that does so already.
     fn stand_by(&mut self, last: Named) {
-        if let Some(passed) = self.waiting.replace(last) {
-            let _ = self.spare.push(passed.era.into_room());
-            self.passed = self.passed.saturating_add(1);
+        if last.era.is_full() {
+            self.pass_over(last);
+        } else if let Some(passed) = self.waiting.replace(last) {
+            self.pass_over(passed);
         }
     }
 
@@ -214,13 +287,14 @@ impl<'a, T: Threads + Log> Scribe<'a, T> {
     pub fn finish(mut self) {
         self.collect();
         if let Some(last) = self.waiting.take() {
+            self.rest = None;
             self.start(last);
             self.collect();
         }
     }
 }
 
-impl<'a, T: Threads + Log> Keeper for Scribe<'a, T> {
+impl<'a, T: Threads + Log + Clock> Keeper for Scribe<'a, T> {
     ghost use Rattle.std.specs.Prelude.{◌≡◌, ◌++◌, ◌∷◌, []};
 
     ghost given = { λ r. r.given };
