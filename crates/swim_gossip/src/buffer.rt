@@ -166,7 +166,9 @@ impl Buffer {
         self.len += 1;
     }
 
-    /// Takes out the update about a member, if there is one.
+    /// Takes out the update about a member, if there is one. It is called: inlined, it would take registers from each tick at
+    /// which nobody is forgotten.
+    #[inline(never)]
     pub fn remove(&mut self, who: Endpoint, visits: &mut Visits)
         requires begun { visits.old ≡ 0 }
         ensures queue { self.new ≡ record self.old { queue = without who self.old.queue } }

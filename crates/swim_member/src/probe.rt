@@ -98,6 +98,7 @@ impl Member {
     }
 
     /// At the end of a period, suspects the target of a probe that was not answered.
+    #[inline(never)]
     pub(crate) fn blame(&mut self, answer: &mut Answer)
         requires { HasRoom answer.old }
         ensures state { self.new ≡ apply_all (perform self.old Blame) self.old }
@@ -131,6 +132,7 @@ impl Member {
     }
 
     /// At the end of a period, pings the member to which the turn comes.
+    #[inline(never)]
     pub(crate) fn probe_next(&mut self, deal: &Deal, answer: &mut Answer)
         requires { length answer.old.outs.items < OUTS_MAX }
         ensures state { self.new ≡ apply_all (perform self.old (Probe_next deal.now)) self.old }
@@ -173,6 +175,7 @@ impl Member {
     }
 
     /// Where the moment has come, asks other members to ping a target that did not answer.
+    #[inline(never)]
     pub(crate) fn ask_all(&mut self, answer: &mut Answer)
         requires { length answer.old.outs.items ≤ 2 }
         ensures state { self.new ≡ after self.old (each_from 0 HELPERS_MAX (λ k. Ask k)) }

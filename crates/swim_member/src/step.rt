@@ -91,6 +91,7 @@ impl Member {
     }
 
     /// Judges an event, and does what was judged.
+    #[inline(never)]
     fn obey_judged(&mut self, event: &Event, granted: u64, answer: &mut Answer)
         requires { answer.old ≡ no_answer }
         ensures state { self.new ≡ after self.old (actions self.old event.now granted) }
@@ -111,7 +112,9 @@ impl Member {
         self.phase == Phase::Running
     }
 
-    /// Does what is judged of received bytes. The datagram stays where it is read: in a judgement it would be moved.
+    /// Does what is judged of received bytes. The datagram stays where it is read: in a judgement it would be moved. It is
+    /// called, since its room would be part of a tick's.
+    #[inline(never)]
     fn obey_bytes(&mut self, from: Endpoint, bytes: &[u8], granted: u64, answer: &mut Answer)
         requires { answer.old ≡ no_answer }
         ensures state { self.new ≡ after self.old

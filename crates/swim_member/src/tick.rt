@@ -33,7 +33,8 @@ impl Member {
         moment != 0 && moment != self.settings.direct
     }
 
-    /// A tick that counts: time goes on, rows change by it, and a probe ends, is asked about or begins.
+    /// A tick that counts: time goes on, rows change by it, and a probe ends, is asked about or begins. Most ticks do
+    /// nothing, so what a probe does is called: inlined, it would take room and registers from each of them.
     pub(crate) fn tick(&mut self, deal: &Deal, answer: &mut Answer)
         requires time { self.old.time < LAST_TIME }
         requires nothing { answer.old ≡ no_answer }

@@ -247,7 +247,8 @@ fn remove(rows: &mut ArrayVec<Row, ROWS_MAX>, tallies: &mut Tallies, place: usiz
     tallies.remove(&row);
 }
 
-/// Removes the row of a member, if there is one.
+/// Removes the row of a member, if there is one. It is called, as `earliest` is.
+#[inline(never)]
 fn remove_in(rows: &mut ArrayVec<Row, ROWS_MAX>, tallies: &mut Tallies, who: Endpoint)
     requires order { AreInOrder rows.old.items }
     requires counted { AreTallies tallies.old rows.old.items }

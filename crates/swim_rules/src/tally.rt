@@ -26,7 +26,9 @@ fn count_kind(rows: &[Row], kind: UpdateKind) -> usize
     rows.iter().filter(|row| row.is_of_kind(kind)).count()
 }
 
-/// The earliest tick at which a row of this kind was heard, or the greatest number where there is none.
+/// The earliest tick at which a row of this kind was heard, or the greatest number where there is none. It is called: inlined,
+/// it would take registers from each tick at which nothing is due.
+#[inline(never)]
 fn earliest(rows: &[Row], kind: UpdateKind) -> u64
     ensures { result ≡ earliest kind rows.now }
 {
