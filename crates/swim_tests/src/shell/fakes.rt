@@ -7,7 +7,7 @@ use std::io::{self, ErrorKind, Read, Write};
 use swim_member::{Event, Note, Phase};
 use swim_node::{Entry, Reply, Save, Status, Tag};
 use swim_scenes::endpoint;
-use swim_shell::{Caller, Gate, Observer, Refusal, Turn};
+use swim_shell::{COUNTERS, Caller, Counters, Gate, Observer, Refusal, Turn};
 use swim_trace::Trace;
 use swim_wire::{Update, UpdateKind};
 
@@ -184,6 +184,12 @@ impl<const LIMIT: usize> Observer for Scripted<LIMIT> {
             return None;
         }
         Some(self.shown())
+    }
+
+    fn counters(&mut self) -> Counters {
+        Counters {
+            values: [u64::MAX; COUNTERS],
+        }
     }
 }
 
