@@ -256,7 +256,7 @@ impl Read for Pieces {
 }
 
 /// The most bytes that a [`Slow`] takes.
-pub(super) const MOST: usize = 512;
+pub(super) const MOST: usize = 2048;
 
 /// A writer that takes at most so many bytes at a time, and so many in all before it fails.
 #[derive(Drop)]

@@ -130,7 +130,7 @@ fn control_lines(rt: HostRuntime) -> Result<(), Fail> {
             let mut writer = Slow::new(MOST, size, kinds);
             let mut caller = Scripted::<3>::new(talk.script);
             let mut conversation = Conversation::new(&mut reader, &mut writer);
-            let end = run(&rt, &mut conversation, &mut caller, &mut Goes { left: 999 });
+            let end = run(&rt, &mut conversation, &mut caller, &mut Goes { left: 9999 });
             same(&rt, end, Some(talk.end));
             same(&rt, writer.out(), talk.output);
         }
