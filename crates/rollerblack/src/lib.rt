@@ -225,8 +225,8 @@ pub use swim_shared::{CallFault, Closed, ClosedSent, Name, Outbox, Parts, Pass, 
 // The workers of a member that runs, and what they ask of their surroundings.
 pub use swim_serve::{Beat, Desk, Fault, Logs, MemberEnd, Outside, run_member};
 pub use swim_shell::{
-    Alarm, Alarmed, Caller, ControlEnd, Doors, Inbound, Joiner, LIST_MAX, Observer, Paces,
-    ReceiveFault, Receiver, Refusal, Ticker, WorkerEnd,
+    Alarm, Alarmed, COUNTERS, Caller, ControlEnd, Counter, Counters, Doors, Inbound, Joiner,
+    LIST_MAX, Observer, Paces, ReceiveFault, Receiver, Refusal, Ticker, WorkerEnd,
 };
 
 // The sockets that it usually has.

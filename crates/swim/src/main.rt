@@ -13,7 +13,10 @@ use std::sync::Wait;
 use std::thread::Threads;
 use std::time::Clock;
 use std::{env, fs};
-use swim_ask::{Paint, StatusJson, Watched, ask, read_status, show_members, watch_members};
+use swim_ask::{
+    CountersJson, Paint, StatusJson, Watched, ask, read_counters, read_status, show_members,
+    watch_members,
+};
 use swim_check::{Stop, check};
 use swim_cli::{LogStream, Stamped, Subcommand, hold_standard, level, make, read_words};
 use swim_ending::Ending;
@@ -96,16 +99,27 @@ fn check_input(rt: &HostRuntime) -> Result<ExitCode, Ending> {
     }
 }
 
-/// Asks a member, and prints its answer, a status as a JSON object where that is wanted. The exit status says whether it begins with
-/// `ok`.
+/// Prints the answer of a member, a status or counters as a JSON object.
+fn print_json(rt: &HostRuntime, answer: &[u8]) -> Result<(), Ending> {
+    if let Some(status) = read_status(answer) {
+        let shown = StatusJson(status);
+        return println!(rt; "{shown}").map_err(|_| Ending::File);
+    }
+    if let Some(counters) = read_counters(answer) {
+        let shown = CountersJson(counters);
+        return println!(rt; "{shown}").map_err(|_| Ending::File);
+    }
+    print_bytes(rt, answer)
+}
+
+/// Asks a member, and prints its answer, a status or counters as a JSON object where that is wanted. The exit status says whether
+/// it begins with `ok`.
 fn ask_member(rt: &HostRuntime, to: &str, line: &str, as_json: bool) -> Result<ExitCode, Ending> {
     let answer = ask(rt, to, line)?;
-    match read_status(answer.as_slice()) {
-        Some(status) if as_json => {
-            let shown = StatusJson(status);
-            println!(rt; "{shown}").map_err(|_| Ending::File)?;
-        }
-        _ => print_bytes(rt, answer.as_slice())?,
+    if as_json {
+        print_json(rt, answer.as_slice())?;
+    } else {
+        print_bytes(rt, answer.as_slice())?;
     }
     Ok(if answer.as_slice().starts_with(b"ok") {
         ExitCode::SUCCESS

@@ -13,7 +13,7 @@ use swim_words::{read_number, split_at_byte};
 /// How many milliseconds the whole exchange may take.
 const LIMIT_MILLIS: u64 = 5000;
 
-/// The most bytes of an answer, and so the most reads: 31 lines of at most 43 bytes are less.
+/// The most bytes of an answer, and so the most reads: 31 lines of at most 51 bytes are less.
 const ANSWER_MAX: usize = 4096;
 
 /// What is left of the time limit; an error where nothing is.
@@ -25,15 +25,15 @@ fn left<R: Clock>(rt: &R, start: &Instant) -> io::Result<Duration> {
     Ok(left)
 }
 
-/// Whether the line asks for members, whose answer has more lines than one.
-fn asks_members(line: &str) -> bool {
-    line == "members" || line.starts_with("members ")
+/// Whether the line asks for members or counters, whose answer has more lines than one.
+fn asks_lines(line: &str) -> bool {
+    line == "members" || line.starts_with("members ") || line == "counters"
 }
 
-/// How many lines the answer has that begins so: with `ok N`, where members were asked for, N more than one.
+/// How many lines the answer has that begins so: with `ok N`, where members or counters were asked for, N more than one.
 fn lines_wanted(line: &str, answer: &[u8]) -> Option<u64> {
     let (first, _) = split_at_byte(answer, b'\n')?;
-    if !asks_members(line) {
+    if !asks_lines(line) {
         return Some(1);
     }
     let more = match first.strip_prefix(b"ok ") {

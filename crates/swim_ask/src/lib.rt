@@ -2,6 +2,7 @@
 #![tactic(auto)]
 
 mod asking;
+mod counters;
 mod gap;
 mod looking;
 mod paging;
@@ -12,6 +13,7 @@ mod timed;
 mod watching;
 
 pub use asking::ask;
+pub use counters::{CountersJson, read_counters};
 pub use looking::{Shown, look};
 pub use paint::Paint;
 pub use place::{find, judge};

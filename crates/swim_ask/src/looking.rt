@@ -1,6 +1,7 @@
 //! One look at a running member.
 
 use crate::asking::exchange;
+use crate::counters::read_counters;
 use crate::paging::read_rows;
 use crate::place::find;
 use crate::status::read_status;
@@ -9,6 +10,7 @@ use std::rt::Clock;
 use swim_ending::Ending;
 use swim_news::Rows;
 use swim_node::Status;
+use swim_shell::Counters;
 
 /// What a member said of itself and of all members.
 #[derive(Drop)]
@@ -17,10 +19,12 @@ pub struct Shown {
     pub status: Status,
     /// All rows, itself among them; none where its era was full, so that it has to be asked again.
     pub rows: Option<Rows>,
+    /// What it has done since it began; none where it does not know that line, as it is of an older version.
+    pub counters: Option<Counters>,
 }
 
-/// Asks the member whose control socket a word names for its status and for all rows. Each of its answers takes at most 5 seconds. An error says that it did not
-/// answer, or not so.
+/// Asks the member whose control socket a word names for its status, all rows, and what it has done. Each of its answers takes at
+/// most 5 seconds. An error says that it did not answer, or not so.
 pub fn look<R: Net<Stream = TcpStream> + Clock + AllocGlobal>(
     rt: &R,
     word: &str,
@@ -29,5 +33,10 @@ pub fn look<R: Net<Stream = TcpStream> + Clock + AllocGlobal>(
     let answer = exchange(rt, to, "status")?;
     let status = read_status(answer.as_slice()).ok_or(Ending::Answer)?;
     let rows = read_rows(rt, to)?;
-    Ok(Shown { status, rows })
+    let answer = exchange(rt, to, "counters")?;
+    Ok(Shown {
+        status,
+        rows,
+        counters: read_counters(answer.as_slice()),
+    })
 }

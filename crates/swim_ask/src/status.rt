@@ -31,7 +31,7 @@ fn after_word<'a>(text: &'a [u8], word: &[u8]) -> Option<&'a [u8]>
 }
 
 /// The count after a name, and what stands after the byte that ends it.
-fn read_count<'a>(text: &'a [u8], name: &[u8], end: u8) -> Option<(u64, &'a [u8])>
+pub(crate) fn read_count<'a>(text: &'a [u8], name: &[u8], end: u8) -> Option<(u64, &'a [u8])>
     ensures { IfSome result (λ r. text.now ≡ name.now ++ 32 ∷ decimal r.0 ++ end ∷ r.1.now) }
 {
     let rest = after_word(text, name)?;

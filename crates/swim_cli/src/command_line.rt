@@ -41,7 +41,7 @@ pub enum Subcommand<'a> {
         to: &'a str,
         /// The line.
         line: &'a str,
-        /// Whether as JSON, which only the line `status` has.
+        /// Whether as JSON, which only the lines `status` and `counters` have.
         as_json: bool,
     },
     /// All rows of a member.
@@ -258,9 +258,9 @@ fn ctl_command<'a>(alloc: Global) -> Result<Command<'a>, Error> {
         alloc,
         "line",
         "LINE",
-        "status, members, members A, join A, leave, record or stop",
+        "status, members, members A, counters, join A, leave, record or stop",
     );
-    let as_json = json(alloc).help("Prints the answer to status as a JSON object");
+    let as_json = json(alloc).help("Prints the answer to status or counters as a JSON object");
     let command = Command::new(alloc, "ctl")
         .about("Sends a control line and prints the answer")
         .after_help(examples::CTL);

@@ -7,7 +7,8 @@ use Rattle.swim_wire.specs.declared.update.Update.{Update}
 use Rattle.swim_wire.specs.declared.update.UpdateKind.{UpdateKind}
 use Rattle.swim_wire.specs.declared.update.UpdateKind.TheVariants.{Alive, Suspect, Confirm}
 use Rattle.swim_pages.specs.Answers.{answer_for, answer_with, code_head}
-use Rattle.swim_pages.specs.Metrics.{count_kind, gauge, gauge_head, kind_sample, member_text, sample_of}
+use Rattle.swim_shell.specs.Counters.{counter_at}
+use Rattle.swim_pages.specs.Metrics.{count_kind, counter_metric, told_text, gauge, gauge_head, kind_sample, member_text, note_sample, sample_of, total}
 use Rattle.swim_pages.specs.Requests.{IsMethod, IsPath, path_in}
 use Rattle.swim_pages.specs.declared.answer.Code.TheVariants as code
 use Rattle.swim_pages.specs.declared.answer.Content.TheVariants as content
@@ -86,6 +87,19 @@ unfolding kind_sample sample_of
 suspects = refl
 
 -- of a member that does not answer nothing is told but that
-silent : member_text None rows ≡ codes "# HELP swim_up Whether the member answers.\n# TYPE swim_up gauge\nswim_up " ++ (decimal 0 ++ codes "\n")
+silent : member_text None rows None ≡ codes "# HELP swim_up Whether the member answers.\n# TYPE swim_up gauge\nswim_up " ++ (decimal 0 ++ codes "\n")
 unfolding gauge gauge_head
 silent = refl
+
+-- a counter under its name, and one of notes
+entries : counter_metric (counter_at 3) 9 ≡ codes "# HELP swim_entries_total Answered calls of the member, each one entry.\n# TYPE swim_entries_total counter\nswim_entries_total " ++ (decimal 9 ++ codes "\n")
+unfolding total
+entries = refl
+
+leaps : note_sample (counter_at 15) 2 ≡ codes "swim_notes_total{note=\"Leap\"} " ++ (decimal 2 ++ codes "\n")
+unfolding sample_of
+leaps = refl
+
+-- a member that knows no such line has no counters
+untold : told_text None ≡ []
+untold = refl

@@ -112,7 +112,8 @@ http_head a size = code_head a.code ++ type_text a.content ++ size_text size ++ 
 -- what the body of an answer says: of a page and of the rows nothing is said here
 abbrev pub IsContent : Content → Code → Seen → List ℕ → Type 0
 IsContent content.Page _ seen body = Unit {0}
-IsContent content.Metrics _ seen body = body ≡ metrics_text seen.status seen.rows seen.quiet
+IsContent content.Metrics _ seen body =
+    body ≡ metrics_text seen.status seen.rows seen.counters seen.quiet
 IsContent content.Members _ seen body = Unit {0}
 IsContent content.Phase _ seen body = body ≡ phase_line (phase_in seen.status)
 IsContent content.Code code seen body = body ≡ code_line code ++ codes "\n"

@@ -1,11 +1,17 @@
 -- The numbers of a member, as Prometheus reads them.
-use Rattle.std.specs.Prelude.{ℕ, List, ◌++◌, codes, count_by, Option, Some, None}
+use Rattle.std.specs.Prelude.{ℕ, List, [], ◌++◌, codes, count_by, take, drop}
+use Rattle.std.specs.Prelude.{Option, Some, None}
 use Rattle.std.specs.Prelude.{Bool, true, false}
 use Rattle.std.specs.Fmt.{decimal}
 use Rattle.swim_member.specs.Texts.{phase_word}
 use Rattle.swim_member.specs.declared.state.Phase.{Phase}
 use Rattle.swim_member.specs.declared.state.Phase.TheVariants.{Running, Left, Expelled}
 use Rattle.swim_node.specs.declared.entry.Status.{Status}
+use Rattle.swim_shell.specs.Counters.{counter_name, lines_from}
+use Rattle.swim_shell.specs.declared.counters.Counter.{Counter}
+use Rattle.swim_shell.specs.declared.counters.Counter.TheVariants as counter
+use Rattle.swim_shell.specs.declared.counters.Counters.{Counters}
+use Rattle.swim_shell.specs.declared.counters.TheConstants.{NOTES_FROM}
 use Rattle.swim_wire.specs.Text.{kind_word}
 use Rattle.swim_wire.specs.declared.update.Update.{Update}
 use Rattle.swim_wire.specs.declared.update.UpdateKind.{UpdateKind}
@@ -96,6 +102,55 @@ quiet_text quiet =
     gauge (codes "swim_quiet_seconds")
     (codes "Seconds since this server last saw a change of the member or of its rows.") quiet
 
+-- what a counter of eras or of calls is; those of notes have one text together
+abbrev pub counter_help : Counter → List ℕ
+counter_help counter.Eras = codes "Eras that ended."
+counter_help counter.PeerSaves = codes "Saves of the known peers at the end of an era."
+counter_help counter.PeerSavesFailed =
+    codes "Saves of the known peers at the end of an era that failed."
+counter_help counter.Entries = codes "Answered calls of the member, each one entry."
+counter_help counter.Ticks = codes "Ticks."
+counter_help counter.Joins = codes "Calls that were to join a member."
+counter_help counter.Received = codes "Datagrams that came."
+counter_help counter.ReceiveFailures = codes "Receives that failed."
+counter_help counter.Sent = codes "Datagrams that were taken for sending."
+counter_help counter.Lost = codes "Datagrams that were not taken for sending, or not sent."
+counter_help counter.Refutations =
+    codes "Suspicions of itself that the member refuted by a greater number."
+counter_help (counter.Noted note) = []
+
+-- a metric that never falls while the member runs, with its name in short
+unfoldable pub total : List ℕ → List ℕ → ℕ → List ℕ
+total name help n =
+    codes "# HELP swim_" ++ (name ++ (codes "_total " ++ (help ++ (codes "\n# TYPE swim_" ++ (name
+    ++ (codes "_total counter\nswim_" ++ (name ++ (codes "_total " ++ (decimal n
+    ++ codes "\n")))))))))
+
+-- the metric of a counter of eras or of calls
+abbrev pub counter_metric : Counter → ℕ → List ℕ
+counter_metric c n = total (counter_name c) (counter_help c) n
+
+-- how many notes there were of a kind
+abbrev pub note_sample : Counter → ℕ → List ℕ
+note_sample c n = sample_of (codes "swim_notes_total") (codes "note") (counter_name c) n
+
+-- what stands before the counts of notes
+unfoldable pub notes_head : List ℕ
+notes_head =
+    codes "# HELP swim_notes_total Notes of the member by their kind.\n"
+    ++ codes "# TYPE swim_notes_total counter\n"
+
+-- what is said of all that a member did
+abbrev pub done_text : List ℕ → List ℕ
+done_text counts =
+    lines_from counter_metric 0 (take NOTES_FROM counts)
+    ++ (notes_head ++ lines_from note_sample NOTES_FROM (drop NOTES_FROM counts))
+
+-- the same, where it told what it did
+abbrev pub told_text : Option Counters → List ℕ
+told_text None = []
+told_text (Some counters) = done_text counters.values
+
 -- what is said of a member that answered so
 abbrev pub answering_text : Status → List Update → List ℕ
 answering_text s rows =
@@ -103,10 +158,10 @@ answering_text s rows =
     ++ entries_text s.length)))
 
 -- what is said of a member, whether it answered or not
-abbrev pub member_text : Option Status → List Update → List ℕ
-member_text None rows = up_text 0
-member_text (Some s) rows = answering_text s rows
+abbrev pub member_text : Option Status → List Update → Option Counters → List ℕ
+member_text None rows counters = up_text 0
+member_text (Some s) rows counters = answering_text s rows ++ told_text counters
 
 -- all its numbers
-abbrev pub metrics_text : Option Status → List Update → ℕ → List ℕ
-metrics_text status rows quiet = member_text status rows ++ quiet_text quiet
+abbrev pub metrics_text : Option Status → List Update → Option Counters → ℕ → List ℕ
+metrics_text status rows counters quiet = member_text status rows counters ++ quiet_text quiet

@@ -3,6 +3,7 @@
 #![tactic(auto)]
 
 mod answer;
+mod counted;
 mod members;
 mod metrics;
 mod page;

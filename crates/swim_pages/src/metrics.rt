@@ -1,14 +1,17 @@
 //! The numbers of a member, as Prometheus reads them.
 
 ghost use Rattle.std.specs.Prelude.{◌≡◌, ◌++◌, OnOk};
+ghost use Rattle.swim_pages.specs.Metrics.{told_text};
 ghost use Rattle.swim_pages.specs.Metrics.{count_kind, entries_text, gauge, gauge_head, has_kind, kind_sample, kinds_text, member_text, metrics_text, number_text, phase_flag, phase_sample, phases_text, quiet_text, sample_of, answering_text, up_text};
 
+use crate::counted::write_counters;
 use crate::seen::Seen;
 use std::alloc::AllocError;
 use std::fmt::Write;
 use swim_member::Phase;
 use swim_news::Rows;
 use swim_node::Status;
+use swim_shell::Counters;
 use swim_wire::{Update, UpdateKind};
 
 /// The metrics of members by state, and of the phase.
@@ -48,7 +51,7 @@ fn write_head(text: &mut String, name: &str, help: &str) -> Result<(), AllocErro
 
 /// Adds a number of a metric that is of one of several things.
 #[tactic(auto, unfolding(crate::specs::Metrics::sample_of))]
-fn write_of(
+pub(crate) fn write_of(
     text: &mut String,
     name: &str,
     label: &str,
@@ -155,23 +158,42 @@ fn write_status(text: &mut String, status: &Status, rows: &Rows) -> Result<(), A
     write_entries(text, status.length as u64)
 }
 
+/// Adds what is said of a member that answered, and that may have told what it did.
+fn write_answering(
+    text: &mut String,
+    status: &Status,
+    rows: &Rows,
+    counters: &Option<Counters>,
+) -> Result<(), AllocError>
+    ensures { OnOk result (text.new.bytes.items ≡ text.old.bytes.items
+        ++ (answering_text status.now rows.now ++ told_text counters.now)) }
+{
+    write_status(text, status, rows)?;
+    write_counters(text, counters)
+}
+
 /// Adds what is said of a member, whether it answered or not.
-fn write_member(text: &mut String, status: &Option<Status>, rows: &Rows) -> Result<(), AllocError>
+fn write_member(
+    text: &mut String,
+    status: &Option<Status>,
+    rows: &Rows,
+    counters: &Option<Counters>,
+) -> Result<(), AllocError>
     ensures { OnOk result (text.new.bytes.items
-        ≡ text.old.bytes.items ++ member_text status.now rows.now) }
+        ≡ text.old.bytes.items ++ member_text status.now rows.now counters.now) }
 {
     match status {
-        Some(status) => write_status(text, status, rows),
+        Some(status) => write_answering(text, status, rows, counters),
         None => write_up(text, 0),
     }
 }
 
 /// Adds the numbers of a member, as Prometheus reads them: whether it answers, and for how long nothing changed; and where it
-/// answers, its rows by state, its phase, its own number, and how long its era is.
+/// answers, its rows by state, its phase, its own number, how long its era is, and what it has done, if it tells that.
 pub fn write_metrics(text: &mut String, seen: &Seen) -> Result<(), AllocError>
     ensures { OnOk result (text.new.bytes.items ≡ text.old.bytes.items
-        ++ metrics_text seen.now.status seen.now.rows seen.now.quiet) }
+        ++ metrics_text seen.now.status seen.now.rows seen.now.counters seen.now.quiet) }
 {
-    write_member(text, &seen.status, &seen.rows)?;
+    write_member(text, &seen.status, &seen.rows, &seen.counters)?;
     write_quiet(text, seen.quiet)
 }

@@ -6,6 +6,7 @@ ghost use Rattle.swim_pages.specs.Answers.{phase_in};
 use swim_member::Phase;
 use swim_news::Rows;
 use swim_node::Status;
+use swim_shell::Counters;
 
 /// What was read of a member over its control socket.
 #[derive(Drop)]
@@ -14,6 +15,8 @@ pub struct Seen {
     pub status: Option<Status>,
     /// All rows, itself among them, as it showed them last.
     pub rows: Rows,
+    /// What it has done since it began; none where it does not tell.
+    pub counters: Option<Counters>,
     /// For how many whole seconds nothing of it changed.
     pub quiet: u64,
 }

@@ -11,6 +11,8 @@ use Rattle.swim_shared.proofs.Crosses.{Sender-send, Shared-sync, Pass-send}
 use Rattle.swim_trace.specs.contracts.Trace as Trace
 use Rattle.swim_trace.proofs.Crosses.{Trace-send}
 use Rattle.swim_member.specs.contracts.event.Event as Event
+use Rattle.swim_serve.specs.contracts.board.Row as Row
+use Rattle.swim_serve.specs.contracts.call_log.CallLog as CallLog
 use Rattle.swim_serve.specs.contracts.handle.Handle as Handle
 use Rattle.swim_serve.specs.contracts.note_log.NoteLog as NoteLog
 use Rattle.swim_serve.specs.contracts.outgoing.RingSender as RingSender
@@ -23,6 +25,13 @@ module _ (N : RattleType) (n : Name.Ghosts N.Denot) (ns : IsSend N) where
 pub NoteLog-field-send : IsSend NoteLog.the_field.row
 NoteLog-field-send = search (sendable, crosses) depth 60 fits 20000
 
+pub CallLog-field-send : IsSend CallLog.the_field.row
+CallLog-field-send = search (sendable, crosses, NoteLog-field-send) depth 60 fits 20000
+
+-- a row is read while its worker writes there
+pub Row-sync : IsSync Row.the_row
+Row-sync = search (sendable, crosses) depth 60 fits 20000
+
 -- the events that a caller was to enter
 pub asked-send : IsSend (Trace.the_row Event.the_row)
 asked-send = Trace-send Event.the_row (search (sendable, crosses) depth 60 fits 20000)
@@ -30,4 +39,4 @@ asked-send = Trace-send Event.the_row (search (sendable, crosses) depth 60 fits 
 -- a caller of a shared member
 module _ (x : NamedLft) (N D L R W : RattleType) (n : Name.Ghosts N.Denot) (d : Disk.Ghosts D.Denot) (l : Link.Ghosts L.Denot) (ns : IsSend N) (ds : IsSend D) (ls : IsSend L) (rs : IsSend R) (ws : IsSync W) where
   pub Handle-send : IsSend (Handle.the_row x N D L R W n d l)
-  Handle-send = search (sendable, crosses, Shared-sync, Pass-send, NoteLog-field-send, asked-send) depth 60 fits 20000
+  Handle-send = search (sendable, crosses, Shared-sync, Pass-send, Row-sync, CallLog-field-send, asked-send) depth 60 fits 20000

@@ -9,7 +9,7 @@ use Rattle.swim_state.specs.Held.{HasPeers}
 use Rattle.swim_node.specs.History.{Base, state_after}
 use Rattle.swim_node.specs.Node.{NodeView, granted_base}
 use Rattle.swim_node.specs.Peers.{known_peers}
-use Rattle.swim_serve.specs.Peers.{FailedBy, KeepsPeers, BeginsKept}
+use Rattle.swim_serve.specs.Peers.{FailedBy, HasSaved, CouldNotSave, KeepsPeers, BeginsKept}
 
 -- who is known does not depend on the ceiling of a base
 known-same : {D : Type 0} (a b : NodeView D) → a.entries ≡ [] → b.entries ≡ [] → b.base ≡ granted_base a.base b.base.granted → known_peers (state_after a.base a.entries) ≡ known_peers (state_after b.base b.entries)
@@ -28,6 +28,18 @@ keeps_peers keeps state a b (Ok u) none empty base ok named device changed full 
 keeps_peers keeps state a b (Err Device) none empty base ok named device changed full ready steady = inr (Device, record { failed = (is_broken (Err Device) Device refl (λ e. cc) ready, device refl); stood = steady })
 keeps_peers keeps state a b (Err Changed) none empty base ok named device changed full ready steady = inr (Changed, record { failed = (changed refl, is_broken (Err Changed) Changed refl (λ e. cc) ready); stood = steady })
 keeps_peers keeps state a b (Err Exhausted) none empty base ok named device changed full ready steady = inr (Exhausted, record { failed = full refl; stood = steady })
+
+-- where it was done
+pub has_saved : {D : Type 0} (keeps : Type 0) (state : D → DiskState) (a b : NodeView D) (u : Unit {0}) (saved : Result (Unit {0}) SaveFault) → saved ≡ Ok u → a.entries ≡ [] → b.entries ≡ [] → b.base ≡ granted_base a.base b.base.granted → OnOk saved ((a.base.granted < b.base.granted) × (b.peers ≡ known_peers (state_after a.base a.entries)) × (b.broken ≡ false)) → (keeps → OnOk saved (HasPeers (state b.disk) b.peers)) → HasSaved keeps state a b
+has_saved keeps state a b u (Ok v) is none empty base ok named = record { known = ok.1 ∙ known-same a b none empty base; raised = ok.0; whole = ok.2; lasts = named }
+has_saved keeps state a b u (Err why) is none empty base ok named = absurd cc
+
+-- where it could not be
+pub could_not : {D : Type 0} (state : D → DiskState) (a b : NodeView D) (why : SaveFault) (saved : Result (Unit {0}) SaveFault) → saved ≡ Err why → (saved ≡ Err Device → (state b.disk).failures ≡ (state a.disk).failures + 1) → (saved ≡ Err Changed → a.broken ≡ true) → (saved ≡ Err Exhausted → b.base.granted ≡ NUMBER_MAX) → OnErr saved ((saved ≡ Err Exhausted) ⊎ (b.broken ≡ true)) → OnErr saved (a.broken ≡ false → (b.base.granted ≡ a.base.granted) × (b.peers ≡ a.peers)) → (why : SaveFault) × CouldNotSave state a b why
+could_not state a b why (Ok v) is device changed full ready steady = absurd cc
+could_not state a b why (Err Device) is device changed full ready steady = (Device, record { failed = (is_broken (Err Device) Device refl (λ e. cc) ready, device refl); stood = steady })
+could_not state a b why (Err Changed) is device changed full ready steady = (Changed, record { failed = (changed refl, is_broken (Err Changed) Changed refl (λ e. cc) ready); stood = steady })
+could_not state a b why (Err Exhausted) is device changed full ready steady = (Exhausted, record { failed = full refl; stood = steady })
 
 begins : {D : Type 0} (state : D → DiskState) (a b : NodeView D) (why : SaveFault) → FailedBy state a b why → BeginsKept b
 begins state a b Device f = inr (inl f.0)

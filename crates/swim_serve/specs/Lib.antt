@@ -1,4 +1,5 @@
 pub mod Desks
+pub mod EraCounts
 pub mod Eras
 pub mod Faults
 pub mod Members

@@ -8,6 +8,8 @@ use Rattle.swim_state.specs.Held.{HasPeers}
 use Rattle.swim_node.specs.History.{state_after}
 use Rattle.swim_node.specs.Node.{NodeView, next_base}
 use Rattle.swim_node.specs.Peers.{known_peers}
+use Rattle.swim_serve.specs.declared.logs.PeersSave.{PeersSave}
+use Rattle.swim_serve.specs.declared.logs.PeersSave.TheVariants as peers
 
 -- where an era ends so and nothing is saved, the next one begins so
 abbrev pub next_era : {D : Type 0} → NodeView D → NodeView D
@@ -52,6 +54,13 @@ pub record CouldNotSave {D : Type 0} (state : D → DiskState) (a b : NodeView D
 abbrev pub KeepsPeers : {D : Type 0} → Type 0 → (D → DiskState) → NodeView D → NodeView D → Type 0
 KeepsPeers keeps state a b =
     HasSaved keeps state a b ⊎ ((why : SaveFault) × CouldNotSave state a b why)
+
+-- what became of the peers that the member knows, which may have been in the state file
+abbrev pub BecameOf : {D : Type 0} → Type 0 → (D → DiskState) → NodeView D → NodeView D → PeersSave
+    → Type 0
+BecameOf keeps state a b peers.Spared = HasKnown a × (b ≡ a)
+BecameOf keeps state a b peers.Done = HasSaved keeps state a b
+BecameOf keeps state a b peers.Failed = (why : SaveFault) × CouldNotSave state a b why
 
 -- an era begins, and the state file has the peers that the member knows, or it could not keep them
 abbrev pub BeginsKept : {D : Type 0} → NodeView D → Type 0

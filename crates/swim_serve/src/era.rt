@@ -12,13 +12,14 @@ ghost use Rattle.swim_serve.specs.Views.{known_of, new_caller};
 
 use crate::attending::{Attended, Callers, Workers, attend};
 use crate::beat::Beat;
+use crate::board::Board;
 use crate::crew::{Ends, Work};
 use crate::desk::Desk;
 use crate::ending::Ending;
 use crate::gates::{Pace, Ringing};
 use crate::handle::{Handle, Observing};
 use crate::job::{Job, Left};
-use crate::logs::Logs;
+use crate::logs::{EraCounts, Logs};
 use crate::minding::Minding;
 use crate::outgoing::{RingLink, RingSender};
 use log::Log;
@@ -114,6 +115,7 @@ fn callers_of<'x, N: Name, D: Disk, R: Wait + Log + Clock + Drop>(
     passes: &mut Vec<Pass<N>>,
     watches: &mut Vec<Watch<N>>,
     logs: &Logs,
+    board: &'x Board,
     pace: &'x Pace,
 ) -> Option<(Callers<'x, Share<'x, N, D, R>, R>, Shown<'x, N, D, R>)>
     requires { passes.old.items ≡ new_passes CALLERS }
@@ -123,19 +125,19 @@ fn callers_of<'x, N: Name, D: Disk, R: Wait + Log + Clock + Drop>(
     ensures control { IfSome result (λ c. known_of c.1.handle ≡ new_caller 3) }
     ensures all { IfSome result (λ _. passes.new.items ≡ []) }
     ensures logs { IfSome result (λ c. (c.0.receiver.numbers ≡ logs.now.numbers)
-        × (c.0.receiver.caller.notes ≡ logs.now.receiver) × (c.0.ticker.notes ≡ logs.now.ticker)
-        × (c.0.sender.notes ≡ logs.now.sender) × (c.1.handle.notes ≡ logs.now.control)) }
+        × (c.0.receiver.caller.log ≡ logs.now.receiver) × (c.0.ticker.log ≡ logs.now.ticker)
+        × (c.0.sender.log ≡ logs.now.sender) × (c.1.handle.log ≡ logs.now.control)) }
 {
     let passes = Passes::out_of(passes)?;
     let watch = watches.pop()?;
-    let receiver = Handle::new(rt, shared, passes.receiver, logs.receiver);
+    let receiver = Handle::new(rt, shared, passes.receiver, &board.receiver, logs.receiver);
     let callers = Callers {
         receiver: Minding::new(rt, pace, receiver, logs.numbers),
-        ticker: Handle::new(rt, shared, passes.ticker, logs.ticker),
-        sender: Handle::new(rt, shared, passes.sender, logs.sender),
+        ticker: Handle::new(rt, shared, passes.ticker, &board.ticker, logs.ticker),
+        sender: Handle::new(rt, shared, passes.sender, &board.sender, logs.sender),
     };
-    let control = Handle::new(rt, shared, passes.control, logs.control);
-    Some((callers, Observing::new(control, watch)))
+    let control = Handle::new(rt, shared, passes.control, &board.control, logs.control);
+    Some((callers, Observing::new(control, watch, board)))
 }
 
 /// Tells what the era before lost and told in no call.
@@ -157,6 +159,7 @@ fn begin<'x, N: Name, D: Disk, R: Wait + Log + Clock + Drop>(
     held: (Vec<Pass<N>>, Vec<Watch<N>>),
     logs: &Logs,
     owed: u32,
+    board: &'x Board,
     pace: &'x Pace,
 ) -> Result<Begun<'x, N, D, R>, Refusal>
     requires { held.0.items ≡ new_passes CALLERS }
@@ -168,7 +171,7 @@ fn begin<'x, N: Name, D: Disk, R: Wait + Log + Clock + Drop>(
     ensures room { IfOk result (λ c. c.2.items ≡ []) }
 {
     let (mut passes, mut watches) = held;
-    let made = callers_of(rt, shared, &mut passes, &mut watches, logs, pace);
+    let made = callers_of(rt, shared, &mut passes, &mut watches, logs, board, pace);
     let (mut callers, shown) = made.ok_or(Refusal::Memory)?;
     tell(&mut callers.sender, owed)?;
     Ok((callers, shown, passes))
@@ -185,7 +188,7 @@ pub struct Outside<I: Inbound + Drop, M: Link + Drop, R: Log + Clock + Drop, O: 
     pub desk: Desk<R, O>,
     /// Where datagrams go.
     pub link: M,
-    /// What each worker has logged.
+    /// What each worker has logged and counted.
     pub logs: Logs,
     /// The losses that no call has told.
     pub owed: u32,
@@ -240,6 +243,7 @@ fn take_apart<
     ticker: Left<Share<'x, N, D, R>, Ticker>,
     sender: SenderLeft<'x, N, D, R, M>,
     control: DeskLeft<'x, N, D, R, O>,
+    eras: EraCounts,
     beat: Beat,
     room: Vec<Pass<N>>,
 ) -> Back<N, I, M, R, O>
@@ -259,18 +263,19 @@ fn take_apart<
     ensures room { result.room ≡ room }
     ensures logs { result.outside.logs ≡ record {
       numbers = receiver.entry.caller.numbers;
-      receiver = receiver.entry.caller.caller.notes;
-      ticker = ticker.entry.caller.notes;
-      sender = sender.entry.caller.notes;
-      control = control.entry.caller.handle.notes;
+      receiver = receiver.entry.caller.caller.log;
+      ticker = ticker.entry.caller.log;
+      sender = sender.entry.caller.log;
+      control = control.entry.caller.handle.log;
+      eras = eras;
     } }
     ensures rest { (result.outside.beat ≡ beat) × (result.outside.owed ≡ 0) }
 {
     let (handle, numbers) = receiver.caller.into_parts();
-    let (receiver_pass, receiver_notes) = handle.into_parts();
-    let (ticker_pass, ticker_notes) = ticker.caller.into_parts();
-    let (sender_pass, sender_notes) = sender.caller.into_parts();
-    let (control_pass, control_notes) = control.caller.into_handle().into_parts();
+    let (receiver_pass, receiver_log) = handle.into_parts();
+    let (ticker_pass, ticker_log) = ticker.caller.into_parts();
+    let (sender_pass, sender_log) = sender.caller.into_parts();
+    let (control_pass, control_log) = control.caller.into_handle().into_parts();
     let (ring, link) = sender.worker.outgoing.into_parts();
     Back {
         passes: Passes {
@@ -288,10 +293,11 @@ fn take_apart<
             link,
             logs: Logs {
                 numbers,
-                receiver: receiver_notes,
-                ticker: ticker_notes,
-                sender: sender_notes,
-                control: control_notes,
+                receiver: receiver_log,
+                ticker: ticker_log,
+                sender: sender_log,
+                control: control_log,
+                eras,
             },
             owed: 0,
             beat,
@@ -316,6 +322,7 @@ fn together<
     O: Doors + Drop,
 >(
     ends: SharedEnds<'x, N, D, R, I, M, DeskLeft<'x, N, D, R, O>>,
+    eras: EraCounts,
     beat: Beat,
     room: Vec<Pass<N>>,
 ) -> Result<Back<N, I, M, R, O>, Refusal>
@@ -338,7 +345,7 @@ fn together<
     let receiver = ends.receiver.ok_or(Refusal::Memory)?;
     let ticker = ends.ticker.ok_or(Refusal::Memory)?;
     let sender = ends.sender.ok_or(Refusal::Memory)?;
-    Ok(take_apart(receiver, ticker, sender, ends.control, beat, room))
+    Ok(take_apart(receiver, ticker, sender, ends.control, eras, beat, room))
 }
 
 /// Runs the workers of a shared member, and control beside them.
@@ -393,6 +400,7 @@ fn work<
     held: (Vec<Pass<N>>, Vec<Watch<N>>),
     ring: RingSender<N>,
     outside: Outside<I, M, R, O>,
+    board: &'x Board,
     ending: &'x Ending<'x, I::Alarm>,
 ) -> Result<Back<N, I, M, R, O>, Refusal>
     requires { held.0.items ≡ new_passes CALLERS }
@@ -423,7 +431,7 @@ fn work<
         mut beat,
     } = outside;
     let pace = ending.pace();
-    let (callers, shown, room) = begin(rt, shared, held, &logs, owed, pace)?;
+    let (callers, shown, room) = begin(rt, shared, held, &logs, owed, board, pace)?;
     let workers = Workers {
         receiver,
         ticker,
@@ -439,7 +447,7 @@ fn work<
         ending,
     };
     let ends = attend_shared(rt, ending, &mut beat, callers, workers, control);
-    together(ends, beat, room)
+    together(ends, logs.eras, beat, room)
 }
 
 /// What is left of an era.
@@ -538,8 +546,9 @@ pub fn run_era<
     let (shared, held) = share::<N, D, R>(rt, alloc, parts)?;
     let pace = Pace::new();
     let ending = Ending::new(&pace, alarms);
+    let board = Board::new(&outside.logs);
     let ring = RingSender::<N>::new(ring);
-    let back = work(rt, &shared, held, ring, outside, &ending)?;
+    let back = work(rt, &shared, held, ring, outside, &board, &ending)?;
     let Back {
         passes,
         room,

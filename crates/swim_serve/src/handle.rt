@@ -5,7 +5,8 @@ ghost use Rattle.swim_node.specs.History.{IsLegal};
 ghost use Rattle.swim_shared.specs.Passes.{IsPass};
 ghost use Rattle.swim_serve.specs.Numbers.{origin_of};
 
-use crate::note_log::NoteLog;
+use crate::board::{Board, Row};
+use crate::call_log::CallLog;
 use log::Log;
 use std::sync::Wait;
 use std::time::Clock;
@@ -13,17 +14,19 @@ use swim_disk::Disk;
 use swim_member::Event;
 use swim_node::{Link, Reply, Status};
 use swim_shared::{CallFault, Name, Pass, Shared, Watch};
-use swim_shell::{Caller, Observer, Refusal};
+use swim_shell::{Caller, Counters, EventKind, Observer, Refusal};
 use swim_trace::Trace;
 use swim_wire::Endpoint;
 
-/// Calls a shared member by a pass of its own, and logs the notes of each reply.
+/// Calls a shared member by a pass of its own. It logs the notes of each reply, and counts and shows each answered call.
 #[derive(Drop)]
 pub struct Handle<'a, N: Name, D: Disk, L: Link, R: Wait + Drop, W: Wait + Log + Clock> {
     rt: &'a W,
     shared: &'a Shared<N, D, L, R>,
     pass: Pass<N>,
-    notes: NoteLog,
+    /// Where it shows what it counts.
+    row: &'a Row,
+    log: CallLog,
     /// Whether a call could not be read back, or found the pass behind the journal. Each later call is refused.
     is_spent: bool,
     /// The events that it was to enter.
@@ -48,18 +51,25 @@ impl<'a, N: Name, D: Disk, L: Link, R: Wait + Drop, W: Wait + Log + Clock> Handl
     R,
     W,
 > {
-    /// Calls by this pass, and goes on with what was logged of notes.
-    pub fn new(rt: &'a W, shared: &'a Shared<N, D, L, R>, pass: Pass<N>, notes: NoteLog) -> Self
+    /// Calls by this pass, goes on with what was logged and counted, and shows that in this row.
+    pub fn new(
+        rt: &'a W,
+        shared: &'a Shared<N, D, L, R>,
+        pass: Pass<N>,
+        row: &'a Row,
+        log: CallLog,
+    ) -> Self
         ensures pass { result.pass ≡ pass }
         ensures spent { result.is_spent ≡ false }
         ensures asked { result.asked ≡ [] }
-        ensures notes { result.notes ≡ notes }
+        ensures log { result.log ≡ log }
     {
         Handle {
             rt,
             shared,
             pass,
-            notes,
+            row,
+            log,
             is_spent: false,
             asked: Trace::new(),
         }
@@ -72,43 +82,58 @@ impl<'a, N: Name, D: Disk, L: Link, R: Wait + Drop, W: Wait + Log + Clock> Handl
         let _ = self.pass.calls();
     }
 
-    /// The pass, for the end of the shared member, and what was logged.
-    pub fn into_parts(self) -> (Pass<N>, NoteLog)
+    /// The pass, for the end of the shared member, and what was logged and counted.
+    pub fn into_parts(self) -> (Pass<N>, CallLog)
         ensures pass { result.0 ≡ self.entry.pass }
         ensures is_pass { IsPass N.base result.0 }
-        ensures notes { result.1 ≡ self.entry.notes }
+        ensures log { result.1 ≡ self.entry.log }
     {
         let _ = self.pass.calls();
         let Handle {
             rt: _,
             shared: _,
             pass,
-            notes,
+            row: _,
+            log,
             is_spent: _,
             asked: _,
         } = self;
-        (pass, notes)
+        (pass, log)
     }
 }
 
 impl<'a, N: Name, D: Disk, L: Link, R: Wait + Drop, W: Wait + Log + Clock> Caller
     for Handle<'a, N, D, L, R, W> {
-    ghost use Rattle.swim_serve.specs.Views.{view_of};
+    ghost use Rattle.std.specs.Prelude.{◌≡◌, IfErr, IfOk, OnErr};
+    ghost use Rattle.swim_shell.specs.Calls.{NewCall, Refuses};
+    ghost use Rattle.swim_shell.specs.Counts.{counts_after, event_kind};
+    ghost use Rattle.swim_serve.specs.Views.{known_of, view_of};
 
     ghost known = { λ h. view_of h.pass h.is_spent h.asked };
 
     ghost limit = { N.base.limit };
 
     #[tactic(auto, using(crate::proofs::Passing::called_new, crate::proofs::Passing::refused_memory, crate::proofs::Passing::refused_full, crate::proofs::Passing::refused_turn, crate::proofs::Passing::refused_unread, crate::proofs::Passing::refused_spent))]
-    fn call(&mut self, event: Event) -> Result<Reply, Refusal> {
+    fn call(&mut self, event: Event) -> Result<Reply, Refusal>
+        ensures ok { IfOk result (λ reply. NewCall (known_of self.old) (known_of self.new)
+            event reply) }
+        ensures err { IfErr result (λ why. Refuses N.base.limit why (known_of self.old)
+            (known_of self.new) event) }
+        // beside what every caller does: an answered call is counted, and a refused one is not
+        ensures counted { IfOk result (λ reply. self.new.log.counts
+            ≡ counts_after (event_kind event) reply self.old.log.counts) }
+        ensures uncounted { OnErr result (self.new.log ≡ self.old.log) }
+    {
         self.asked = self.asked.and(&event);
         if self.is_spent {
             return Err(Refusal::Unread);
         }
         let from = origin_of(&event);
+        let kind = EventKind::of(&event);
         match self.shared.call(self.rt, &mut self.pass, event) {
             Ok(reply) => {
-                self.notes.log(self.rt, &reply, &from);
+                self.log.take(self.rt, kind, &from, &reply);
+                self.row.show(self.log.counts(), !reply.notes.is_empty());
                 Ok(reply)
             }
             Err(CallFault::NoMemory) => Err(Refusal::Memory),
@@ -121,11 +146,12 @@ impl<'a, N: Name, D: Disk, L: Link, R: Wait + Drop, W: Wait + Log + Clock> Calle
     }
 }
 
-/// Calls a shared member, and lets a watch know of each call that is answered.
+/// Calls a shared member, lets a watch know of each call that is answered, and reads what all callers have counted.
 #[derive(Drop)]
 pub struct Observing<'a, N: Name, D: Disk, L: Link, R: Wait + Drop, W: Wait + Log + Clock> {
     handle: Handle<'a, N, D, L, R, W>,
     watch: Watch<N>,
+    board: &'a Board,
 }
 
 impl<'a, N: Name, D: Disk, L: Link, R: Wait + Drop, W: Wait + Log + Clock> Observing<
@@ -136,18 +162,26 @@ impl<'a, N: Name, D: Disk, L: Link, R: Wait + Drop, W: Wait + Log + Clock> Obser
     R,
     W,
 > {
-    /// Calls as this caller does, and reads by this watch.
-    pub fn new(handle: Handle<'a, N, D, L, R, W>, watch: Watch<N>) -> Self
+    /// Calls as this caller does, and reads by this watch and from this board.
+    pub fn new(handle: Handle<'a, N, D, L, R, W>, watch: Watch<N>, board: &'a Board) -> Self
         ensures handle { result.handle ≡ handle.entry }
     {
-        Observing { handle, watch }
+        Observing {
+            handle,
+            watch,
+            board,
+        }
     }
 
     /// The caller.
     pub fn into_handle(self) -> Handle<'a, N, D, L, R, W>
         ensures { result ≡ self.entry.handle }
     {
-        let Observing { handle, watch: _ } = self;
+        let Observing {
+            handle,
+            watch: _,
+            board: _,
+        } = self;
         handle
     }
 }
@@ -178,5 +212,9 @@ impl<'a, N: Name, D: Disk, L: Link, R: Wait + Drop, W: Wait + Log + Clock> Obser
     for Observing<'a, N, D, L, R, W> {
     fn status(&mut self) -> Option<Status> {
         self.watch.read()
+    }
+
+    fn counters(&mut self) -> Counters {
+        self.board.read()
     }
 }

@@ -5,6 +5,8 @@ mod aside;
 mod attending;
 mod beat;
 mod bell;
+mod board;
+mod call_log;
 mod crew;
 mod desk;
 mod ending;
@@ -21,6 +23,8 @@ mod serving;
 
 pub use attending::{Attended, Callers, Workers, attend};
 pub use beat::Beat;
+pub use board::{Board, Row};
+pub use call_log::CallLog;
 pub use crew::{Crew, Ends, Work, serve};
 pub use desk::Desk;
 pub use ending::Ending;

@@ -1,29 +1,94 @@
-//! What the workers of a member have logged.
+//! What the workers of a member have logged and counted.
 
-use crate::note_log::NoteLog;
+ghost use Rattle.std.specs.Prelude.{◌≡◌, ◌∷◌, []};
+ghost use Rattle.swim_serve.specs.EraCounts.{with_era};
+
+use crate::call_log::CallLog;
 use crate::number_log::NumberLog;
+use swim_shell::ERA_COUNTS;
 use swim_wire::Endpoint;
 
-/// What each worker has logged, from one era to the next.
+/// What became of the peers that a member knows where an era ended.
+#[derive(Clone, Copy, Debug, PartialEq, Eq)]
+pub(crate) enum PeersSave {
+    /// They stood in the state file.
+    Spared,
+    /// They were saved.
+    Done,
+    /// They could not be saved.
+    Failed,
+}
+
+/// What became of the eras of a member. A count stays at the greatest number.
+#[derive(Clone, Copy, Debug, PartialEq, Eq)]
+pub(crate) struct EraCounts {
+    /// How many ended.
+    ended: u64,
+    /// How often peers were saved.
+    saved: u64,
+    /// How often they could not be.
+    unsaved: u64,
+}
+
+impl EraCounts {
+    /// None ended yet.
+    fn new() -> EraCounts {
+        EraCounts {
+            ended: 0,
+            saved: 0,
+            unsaved: 0,
+        }
+    }
+
+    /// Adds an era that ended, with what became of the peers.
+    fn add(&mut self, peers: PeersSave)
+        ensures { self.new ≡ with_era peers self.old }
+    {
+        self.ended = self.ended.saturating_add(1);
+        match peers {
+            PeersSave::Spared => {}
+            PeersSave::Done => self.saved = self.saved.saturating_add(1),
+            PeersSave::Failed => self.unsaved = self.unsaved.saturating_add(1),
+        }
+    }
+
+    /// They, in the order in which they are shown.
+    pub(crate) fn counts(&self) -> [u64; ERA_COUNTS]
+        ensures { result ≡ self.now.ended ∷ self.now.saved ∷ self.now.unsaved ∷ [] }
+    {
+        [self.ended, self.saved, self.unsaved]
+    }
+}
+
+/// What each worker has logged and counted, and what became of the eras, from one era to the next.
 #[derive(Clone, Copy, Debug, PartialEq, Eq)]
 pub struct Logs {
     /// What datagrams said of the own number.
     pub(crate) numbers: NumberLog,
-    pub(crate) receiver: NoteLog,
-    pub(crate) ticker: NoteLog,
-    pub(crate) sender: NoteLog,
-    pub(crate) control: NoteLog,
+    pub(crate) receiver: CallLog,
+    pub(crate) ticker: CallLog,
+    pub(crate) sender: CallLog,
+    pub(crate) control: CallLog,
+    pub(crate) eras: EraCounts,
 }
 
 impl Logs {
-    /// Nothing was logged yet of this member, whose life begins with this number.
+    /// Nothing was logged or counted yet of this member, whose life begins with this number.
     pub fn new(me: Endpoint, number: u64) -> Logs {
         Logs {
             numbers: NumberLog::new(me, number),
-            receiver: NoteLog::new(),
-            ticker: NoteLog::new(),
-            sender: NoteLog::new(),
-            control: NoteLog::new(),
+            receiver: CallLog::new(number),
+            ticker: CallLog::new(number),
+            sender: CallLog::new(number),
+            control: CallLog::new(number),
+            eras: EraCounts::new(),
         }
+    }
+
+    /// Counts an era that ended, with what became of the peers.
+    pub(crate) fn end_era(&mut self, peers: PeersSave)
+        ensures { self.new ≡ record self.old { eras = with_era peers self.old.eras } }
+    {
+        self.eras.add(peers);
     }
 }

@@ -4,6 +4,7 @@ pub mod Running
 pub mod Trying
 pub mod Reading
 pub mod Writing
+pub mod Counting
 pub mod Hearing
 pub mod Talking
 pub mod Receiving

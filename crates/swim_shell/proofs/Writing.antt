@@ -66,9 +66,9 @@ rows_text-append (r ∷ rows) row = ap (λ w. row_text r ++ w) (rows_text-append
 pub row_written : (old text new : List ℕ) (rows more : List Update) (row : Update) → text ≡ old ++ rows_text rows → new ≡ text ++ row_text row → more ≡ rows ++ row ∷ [] → new ≡ old ++ rows_text more
 row_written old text new rows more row so_far is next = is ∙ (ap (λ w. w ++ row_text row) so_far ∙ (assoc old (rows_text rows) (row_text row) ∙ (ap (λ w. old ++ w) (sym (rows_text-append rows row)) ∙ ap (λ w. old ++ rows_text w) (sym next))))
 
--- a head, and the lines of all rows
-pub members_written : (old head new : List ℕ) (count : List ℕ) (rows : List Update) → head ≡ old ++ (codes "ok " ++ (count ++ codes "\n")) → new ≡ head ++ rows_text rows → new ≡ old ++ (codes "ok " ++ (count ++ (codes "\n" ++ rows_text rows)))
-members_written old head new count rows is then = then ∙ (ap (λ w. w ++ rows_text rows) is ∙ (assoc old (codes "ok " ++ (count ++ codes "\n")) (rows_text rows) ∙ ap (λ w. old ++ (codes "ok " ++ w)) (assoc count (codes "\n") (rows_text rows))))
+-- a head that says how many lines follow, and the lines
+pub lines_written : (old head new : List ℕ) (count lines : List ℕ) → head ≡ old ++ (codes "ok " ++ (count ++ codes "\n")) → new ≡ head ++ lines → new ≡ old ++ (codes "ok " ++ (count ++ (codes "\n" ++ lines)))
+lines_written old head new count lines is then = then ∙ (ap (λ w. w ++ lines) is ∙ (assoc old (codes "ok " ++ (count ++ codes "\n")) lines ∙ ap (λ w. old ++ (codes "ok " ++ w)) (assoc count (codes "\n") lines)))
 
 -- steps after which there are more
 

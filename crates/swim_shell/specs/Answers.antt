@@ -112,6 +112,10 @@ ShowsStatus p q None answer = q ≡ p
 ShowsStatus p q (Some why) answer =
     (q ≡ p) × (why ≡ refusal.Unread) × (answer ≡ refusal_text why)
 
+-- no event was to be entered, and none was refused; what the member has done is written
+abbrev pub ShowsCounters : CallerView → CallerView → Option Refusal → Type 0
+ShowsCounters p q refused = (q ≡ p) × (refused ≡ None)
+
 -- what a request makes of the caller, why that was refused, if it was, and what is written
 abbrev pub Answers : ℕ → Request → CallerView → CallerView → Option Refusal → List ℕ → Type 0
 Answers limit asked.Status p q refused answer = ShowsStatus p q refused answer
@@ -124,6 +128,7 @@ Answers limit asked.Leave p q refused answer =
 Answers limit asked.Stop p q refused answer = Plain p q refused answer (codes "ok stopping\n")
 Answers limit asked.Record p q refused answer =
     Plain p q refused answer (codes "ok era ends\n")
+Answers limit asked.Counters p q refused answer = ShowsCounters p q refused
 Answers limit asked.Unknown p q refused answer =
     Plain p q refused answer (codes "error 1 unknown\n")
 Answers limit asked.Address p q refused answer =

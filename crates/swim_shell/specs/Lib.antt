@@ -5,6 +5,8 @@ pub mod Tries
 pub mod Lines
 pub mod Requests
 pub mod Answers
+pub mod Counters
+pub mod Counts
 pub mod Writes
 pub mod Views
 pub mod Control

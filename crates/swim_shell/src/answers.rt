@@ -74,12 +74,12 @@ fn add_row(answer: &mut Answer, row: &Update) -> fmt::Result
     writeln!(answer, "{kind} {who} {number}")
 }
 
-/// Adds how many members a page has.
-fn write_count(answer: &mut Answer, rows: usize) -> fmt::Result
-    ensures { OnOk result (answer.new.bytes ≡ answer.old.bytes ++ (codes "ok " ++ (decimal rows
+/// Adds how many lines follow.
+pub(crate) fn write_count(answer: &mut Answer, lines: usize) -> fmt::Result
+    ensures { OnOk result (answer.new.bytes ≡ answer.old.bytes ++ (codes "ok " ++ (decimal lines
         ++ codes "\n"))) }
 {
-    writeln!(answer, "ok {rows}")
+    writeln!(answer, "ok {lines}")
 }
 
 /// Adds how many members a page has, and their lines, where they fit.

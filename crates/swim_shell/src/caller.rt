@@ -3,6 +3,7 @@
 ghost use Rattle.std.specs.Prelude.{◌≡◌, IfOk, IfErr};
 ghost use Rattle.swim_shell.specs.Calls.{NewCall, Refuses};
 
+use crate::counters::Counters;
 use swim_member::Event;
 use swim_node::{Reply, Status};
 use thiserror::Error;
@@ -45,5 +46,10 @@ pub trait Observer: Caller {
     /// The status, without a call and without waiting for one: that after its last answered call, or a later one. None if
     /// there is no reading just now.
     fn status(&mut self) -> Option<Status>
+        ensures { Self.known self.new ≡ Self.known self.old };
+
+    /// What the member has done since it began, in all its eras, without a call and without waiting for one. No contract can
+    /// say what was counted by callers in other threads: it is theirs, as each of them told it after its last call.
+    fn counters(&mut self) -> Counters
         ensures { Self.known self.new ≡ Self.known self.old };
 }

@@ -1,12 +1,13 @@
 //! A control connection.
 
 ghost use Rattle.std.specs.Prelude.{◌≡◌, ◌≤◌, [], None, length};
-ghost use Rattle.swim_shell.specs.Answers.{Answers, ShowsStatus, end_of};
+ghost use Rattle.swim_shell.specs.Answers.{Answers, ShowsCounters, ShowsStatus, end_of};
 ghost use Rattle.swim_shell.specs.Control.{carried};
 
 use crate::answer_writer::{AnswerWriter, Sent};
 use crate::answers::{ANSWER_MAX, Answer, add_refusal, add_reply, add_status, add_text};
 use crate::caller::{Observer, Refusal};
+use crate::counters::add_counters;
 use crate::lines::{LineReader, NoLine};
 use crate::request::{Request, understand};
 use crate::worker::Worker;
@@ -82,6 +83,14 @@ fn show_status<C: Observer>(caller: &mut C, answer: &mut Answer) -> Option<Refus
     }
 }
 
+/// Writes what the member has done, for which no call is made, and so none is refused.
+fn show_counters<C: Observer>(caller: &mut C, answer: &mut Answer) -> Option<Refusal>
+    ensures { ShowsCounters (C.known caller.old) (C.known caller.new) result }
+{
+    add_counters(answer, &caller.counters());
+    None
+}
+
 /// Writes a text for which no call is made, and so none is refused.
 fn say(answer: &mut Answer, text: &str) -> Option<Refusal>
     requires { answer.old.bytes ≡ [] }
@@ -105,6 +114,7 @@ fn respond<C: Observer>(caller: &mut C, answer: &mut Answer, asked: Request) -> 
         Request::Leave => Event::Leave,
         Request::Stop => return say(answer, "ok stopping\n"),
         Request::Record => return say(answer, "ok era ends\n"),
+        Request::Counters => return show_counters(caller, answer),
         Request::Unknown => return say(answer, "error 1 unknown\n"),
         Request::Address => return say(answer, "error 2 address\n"),
         Request::TooLong => return say(answer, "error 3 too long\n"),

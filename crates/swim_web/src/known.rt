@@ -37,6 +37,7 @@ impl Known {
             seen: Seen {
                 status: None,
                 rows: Rows::new(),
+                counters: None,
                 quiet: 0,
             },
             since: None,
@@ -65,6 +66,7 @@ impl Known {
         match look {
             Some(look) => {
                 self.seen.status = Some(look.status);
+                self.seen.counters = look.counters;
                 if let Some(rows) = look.rows {
                     self.seen.rows = rows;
                 }

@@ -7,7 +7,7 @@ use std::io::{self, ErrorKind, Read, Write};
 use swim_member::{Event, Note, Phase};
 use swim_node::{Entry, Reply, Save, Status, Tag};
 use swim_scenes::endpoint;
-use swim_shell::{Caller, Gate, Observer, Refusal, Turn};
+use swim_shell::{COUNTERS, Caller, Counters, Gate, Observer, Refusal, Turn};
 use swim_trace::Trace;
 use swim_wire::{Update, UpdateKind};
 
@@ -185,6 +185,12 @@ impl<const LIMIT: usize> Observer for Scripted<LIMIT> {
         }
         Some(self.shown())
     }
+
+    fn counters(&mut self) -> Counters {
+        Counters {
+            values: [u64::MAX; COUNTERS],
+        }
+    }
 }
 
 /// What a connection does before each read, write and flush: the kinds of errors in turn, and then it goes on.
@@ -250,7 +256,7 @@ impl Read for Pieces {
 }
 
 /// The most bytes that a [`Slow`] takes.
-pub(super) const MOST: usize = 512;
+pub(super) const MOST: usize = 2048;
 
 /// A writer that takes at most so many bytes at a time, and so many in all before it fails.
 #[derive(Drop)]

@@ -15,8 +15,42 @@ struct Talk {
     end: ControlEnd,
 }
 
+/// The longest answer to `counters`, and that to `status`.
+const COUNTED: &[u8] = b"ok 29
+eras 18446744073709551615
+peer_saves 18446744073709551615
+peer_saves_failed 18446744073709551615
+entries 18446744073709551615
+ticks 18446744073709551615
+joins 18446744073709551615
+datagrams_received 18446744073709551615
+receive_failures 18446744073709551615
+datagrams_sent 18446744073709551615
+datagrams_lost 18446744073709551615
+refutations 18446744073709551615
+BadDatagram 18446744073709551615
+OtherGroup 18446744073709551615
+NotSender 18446744073709551615
+FromSelf 18446744073709551615
+Leap 18446744073709551615
+NoNumberLeft 18446744073709551615
+TableFull 18446744073709551615
+Misdirected 18446744073709551615
+RelaysFull 18446744073709551615
+UnknownTarget 18446744073709551615
+Unasked 18446744073709551615
+SaveFailed 18446744073709551615
+Expelled 18446744073709551615
+Stopped 18446744073709551615
+ReceiveFailed 18446744073709551615
+SendFailed 18446744073709551615
+TimeOver 18446744073709551615
+OtherVersion 18446744073709551615
+ok running number 1 alive 3 suspect 1 confirmed 2 length 0
+";
+
 /// In an era of three calls.
-const TALKS: [Talk; 9] = [
+const TALKS: [Talk; 10] = [
     Talk {
         input: b"status\nsta",
         script: &[],
@@ -66,6 +100,12 @@ const TALKS: [Talk; 9] = [
         end: ControlEnd::Asked,
     },
     Talk {
+        input: b"counters\nstatus\n",
+        script: &[],
+        output: COUNTED,
+        end: ControlEnd::Closed,
+    },
+    Talk {
         input: b"",
         script: &[],
         output: b"",
@@ -90,7 +130,12 @@ fn control_lines(rt: HostRuntime) -> Result<(), Fail> {
             let mut writer = Slow::new(MOST, size, kinds);
             let mut caller = Scripted::<3>::new(talk.script);
             let mut conversation = Conversation::new(&mut reader, &mut writer);
-            let end = run(&rt, &mut conversation, &mut caller, &mut Goes { left: 999 });
+            let end = run(
+                &rt,
+                &mut conversation,
+                &mut caller,
+                &mut Goes { left: 9999 },
+            );
             same(&rt, end, Some(talk.end));
             same(&rt, writer.out(), talk.output);
         }

@@ -1,0 +1,8 @@
+use Rattle.std.proofs.Common.{◌≡◌, take}
+use Rattle.swim_shell.specs.Counters.{counter_line, lines_from}
+use Rattle.swim_ask.proofs.Counted.{read_so_far}
+use Rattle.swim_ask.proofs.counters.read_counters.Given as goal
+
+-- the lines that were read, and what is left
+abbrev pub invariant-loop-place : goal.invariant-loop-place
+invariant-loop-place l = l.answer ≡ read_so_far (lines_from counter_line 0 (take l.place l.values)) l.left

@@ -1,0 +1,88 @@
+//! What the workers of an era show of what they count, for the one that answers control lines.
+
+use crate::logs::Logs;
+use std::sync::atomic::{AtomicU64, Ordering};
+use swim_shell::{CALL_COUNTS, COUNTERS, Counters, Counts, ERA_COUNTS, NOTE_KINDS, NOTES_FROM};
+
+/// What one worker shows. It alone writes here, and nobody waits for another.
+#[derive(Drop)]
+pub struct Row {
+    calls: [AtomicU64; CALL_COUNTS],
+    notes: [AtomicU64; NOTE_KINDS],
+}
+
+/// Shows these counts. One that is shown already is only read, which costs less than a write.
+fn show_all(cells: &[AtomicU64], counts: &[u64]) {
+    for (cell, count) in cells.iter().zip(counts) {
+        if cell.load(Ordering::SeqCst) != *count {
+            cell.store(*count, Ordering::SeqCst);
+        }
+    }
+}
+
+/// Adds what is shown.
+fn add_all(counts: &mut [u64], cells: &[AtomicU64]) {
+    for (count, cell) in counts.iter_mut().zip(cells) {
+        *count = count.saturating_add(cell.load(Ordering::SeqCst));
+    }
+}
+
+impl Row {
+    /// Shows these counts at first.
+    fn new(counts: &Counts) -> Row {
+        Row {
+            calls: counts.calls().map(|count| AtomicU64::new(count)),
+            notes: counts.notes.map(|count| AtomicU64::new(count)),
+        }
+    }
+
+    /// Shows the counts after a call, which may have had notes.
+    pub(crate) fn show(&self, counts: &Counts, has_notes: bool) {
+        show_all(&self.calls, &counts.calls());
+        if has_notes {
+            show_all(&self.notes, &counts.notes);
+        }
+    }
+
+    /// Adds what is shown.
+    fn add_to(&self, values: &mut [u64; COUNTERS]) {
+        add_all(&mut values[ERA_COUNTS..NOTES_FROM], &self.calls);
+        add_all(&mut values[NOTES_FROM..], &self.notes);
+    }
+}
+
+/// What all workers of an era show. No contract can say what the others have shown: what is read here is what each of them
+/// counted up to one of its last calls, and it never falls.
+#[derive(Drop)]
+pub struct Board {
+    /// What became of the eras before.
+    eras: [u64; ERA_COUNTS],
+    pub(crate) receiver: Row,
+    pub(crate) ticker: Row,
+    pub(crate) sender: Row,
+    pub(crate) control: Row,
+}
+
+impl Board {
+    /// Of an era that begins, after those in which this was counted.
+    pub fn new(logs: &Logs) -> Board {
+        Board {
+            eras: logs.eras.counts(),
+            receiver: Row::new(logs.receiver.counts()),
+            ticker: Row::new(logs.ticker.counts()),
+            sender: Row::new(logs.sender.counts()),
+            control: Row::new(logs.control.counts()),
+        }
+    }
+
+    /// What the member has done since it began.
+    pub(crate) fn read(&self) -> Counters {
+        let mut values = [0; COUNTERS];
+        values[..ERA_COUNTS].copy_from_slice(&self.eras);
+        self.receiver.add_to(&mut values);
+        self.ticker.add_to(&mut values);
+        self.sender.add_to(&mut values);
+        self.control.add_to(&mut values);
+        Counters { values }
+    }
+}

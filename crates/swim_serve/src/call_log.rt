@@ -1,0 +1,49 @@
+//! What becomes of an answered call beside its reply: its notes are logged, and it is counted.
+
+ghost use Rattle.std.specs.Prelude.{◌≡◌};
+ghost use Rattle.swim_shell.specs.Counts.{counts_after};
+
+use crate::note_log::NoteLog;
+use log::Log;
+use std::time::Clock;
+use swim_node::Reply;
+use swim_shell::{Counts, EventKind};
+use swim_wire::Endpoint;
+
+/// What a worker has logged and counted of its calls, from one era to the next.
+#[derive(Clone, Copy, Debug, PartialEq, Eq)]
+pub struct CallLog {
+    notes: NoteLog,
+    counts: Counts,
+}
+
+impl CallLog {
+    /// Nothing was logged or counted yet of a member whose own number is this one.
+    pub fn new(number: u64) -> CallLog {
+        CallLog {
+            notes: NoteLog::new(),
+            counts: Counts::new(number),
+        }
+    }
+
+    /// What its calls have come to.
+    pub fn counts(&self) -> &Counts
+        ensures { result.now ≡ self.now.counts }
+    {
+        &self.counts
+    }
+
+    /// Logs the notes of an answered call, with whence the datagram came that it is about, and counts it.
+    pub(crate) fn take<W: Log + Clock>(
+        &mut self,
+        rt: &W,
+        kind: EventKind,
+        from: &Option<Endpoint>,
+        reply: &Reply,
+    )
+        ensures { self.new.counts ≡ counts_after kind reply.now self.old.counts }
+    {
+        self.notes.log(rt, reply, from);
+        self.counts.count(kind, reply);
+    }
+}
