@@ -33,23 +33,23 @@ same_number None None = true
 same_number _ _ = false
 
 -- the same bytes, or none twice
-abbrev pub same_bytes : Option (List ℕ) → Option (List ℕ) → Bool
-same_bytes (Some a) (Some b) = bytes_eq a b
-same_bytes None None = true
-same_bytes _ _ = false
+abbrev pub same_text : Option (List ℕ) → Option (List ℕ) → Bool
+same_text (Some a) (Some b) = bytes_eq a b
+same_text None None = true
+same_text _ _ = false
 
 -- both have the same at a key that is not taken anew
-abbrev pub is_same : RunSettings → RunSettings → Key → Bool
-is_same now then key.Me = now.settings.me == then.settings.me
-is_same now then key.Control = now.control == then.control
-is_same now then key.RandomKey = same_bytes now.random_key then.random_key
-is_same now then key =
+abbrev pub agree_at : RunSettings → RunSettings → Key → Bool
+agree_at now then key.Me = now.settings.me == then.settings.me
+agree_at now then key.Control = now.control == then.control
+agree_at now then key.RandomKey = same_text now.random_key then.random_key
+agree_at now then key =
     same_number (shown_number key now) (shown_number key then)
-    && same_bytes (shown_text key now) (shown_text key then)
+    && same_text (shown_text key now) (shown_text key then)
 
 -- they differ at the key, and a running member doesn't take it
 abbrev pub needs_restart : RunSettings → RunSettings → Key → Bool
-needs_restart now then key = not (is_taken_anew key) && not (is_same now then key)
+needs_restart now then key = not (is_taken_anew key) && not (agree_at now then key)
 
 -- the keys at which they do, in order
 abbrev pub restart_keys : RunSettings → RunSettings → List Key

@@ -3,7 +3,7 @@
 ghost use Rattle.std.specs.Prelude.{◌≡◌, ◌+◌, ◌<◌, ◌≤◌, ◌∷◌, [], ◌++◌, length, option_map, string_bytes};
 ghost use Rattle.std.specs.List.{filter};
 ghost use Rattle.swim_settings.specs.Ranges.{AreInRange};
-ghost use Rattle.swim_settings.specs.Reloads.{is_same, is_taken_anew, needs_restart, restart_keys, same_bytes, same_number, taken_anew};
+ghost use Rattle.swim_settings.specs.Reloads.{agree_at, is_taken_anew, needs_restart, restart_keys, same_text, same_number, taken_anew};
 
 use crate::key::{KEYS, Key};
 use crate::settings::RunSettings;
@@ -30,7 +30,7 @@ fn is_same_number(now: Option<u64>, then: Option<u64>) -> bool
 
 /// Whether these are the same texts.
 fn is_same_text(now: Option<&str>, then: Option<&str>) -> bool
-    ensures { result ≡ same_bytes (option_map (λ text. text.now) now.entry)
+    ensures { result ≡ same_text (option_map (λ text. text.now) now.entry)
         (option_map (λ text. text.now) then.entry) }
 {
     match (now, then) {
@@ -42,7 +42,7 @@ fn is_same_text(now: Option<&str>, then: Option<&str>) -> bool
 
 /// Whether these are the same keys of a generator.
 fn is_same_key(now: Option<[u8; 32]>, then: Option<[u8; 32]>) -> bool
-    ensures { result ≡ same_bytes now then }
+    ensures { result ≡ same_text now then }
 {
     match (now, then) {
         (Some(now), Some(then)) => now == then,
@@ -52,8 +52,8 @@ fn is_same_key(now: Option<[u8; 32]>, then: Option<[u8; 32]>) -> bool
 }
 
 /// Whether both have the same at a key that no running member takes.
-fn is_same(now: &RunSettings, then: &RunSettings, key: Key) -> bool
-    ensures { result ≡ is_same now.now then.now key }
+fn agree_at(now: &RunSettings, then: &RunSettings, key: Key) -> bool
+    ensures { result ≡ agree_at now.now then.now key }
 {
     match key {
         Key::Me => now.settings.me == then.settings.me,
@@ -70,7 +70,7 @@ fn is_same(now: &RunSettings, then: &RunSettings, key: Key) -> bool
 fn needs_restart(now: &RunSettings, then: &RunSettings, key: Key) -> bool
     ensures { result ≡ needs_restart now.now then.now key }
 {
-    !is_taken_anew(key) && !is_same(now, then, key)
+    !is_taken_anew(key) && !agree_at(now, then, key)
 }
 
 /// Adds the key, if it needs a restart.
