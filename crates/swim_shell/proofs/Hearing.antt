@@ -7,24 +7,26 @@ use Rattle.swim_shell.specs.declared.request.Request.{Request}
 use Rattle.swim_shell.specs.declared.request.Request.TheVariants as asked
 use Rattle.swim_shell.specs.Requests.{IsUnknown, IsNoAddress, NamesShort, Names}
 
-pub unknown_split : (text first word : List ℕ) → text ≢ codes "status" → text ≢ codes "members" → text ≢ codes "leave" → text ≢ codes "stop" → text ≢ codes "record" → text ≡ split_by 32 first word → Lacks 32 first → first ≢ codes "join" → first ≢ codes "members" → IsUnknown text
-unknown_split text first word s m l p r is lacks join members = record {
+pub unknown_split : (text first word : List ℕ) → text ≢ codes "status" → text ≢ codes "members" → text ≢ codes "leave" → text ≢ codes "stop" → text ≢ codes "record" → text ≢ codes "reload" → text ≡ split_by 32 first word → Lacks 32 first → first ≢ codes "join" → first ≢ codes "members" → IsUnknown text
+unknown_split text first word s m l p r o is lacks join members = record {
   status = s;
   members = m;
   leave = l;
   stop = p;
   renew = r;
+  reload = o;
   members_after = λ w e. members (same_split 32 text first word (codes "members") w lacks is (lacks_byte 32 (codes "members") refl) e).0;
   join = λ w e. join (same_split 32 text first word (codes "join") w lacks is (lacks_byte 32 (codes "join") refl) e).0;
 }
 
-pub unknown_word : (text : List ℕ) → text ≢ codes "status" → text ≢ codes "members" → text ≢ codes "leave" → text ≢ codes "stop" → text ≢ codes "record" → Lacks 32 text → IsUnknown text
-unknown_word text s m l p r lacks = record {
+pub unknown_word : (text : List ℕ) → text ≢ codes "status" → text ≢ codes "members" → text ≢ codes "leave" → text ≢ codes "stop" → text ≢ codes "record" → text ≢ codes "reload" → Lacks 32 text → IsUnknown text
+unknown_word text s m l p r o lacks = record {
   status = s;
   members = m;
   leave = l;
   stop = p;
   renew = r;
+  reload = o;
   members_after = λ w. no_split 32 (codes "members") w text lacks;
   join = λ w. no_split 32 (codes "join") w text lacks;
 }
@@ -40,6 +42,7 @@ names_short text (asked.Join peer) h n = (h, n)
 names_short text asked.Leave h n = (h, n)
 names_short text asked.Stop h n = (h, n)
 names_short text asked.Record h n = (h, n)
+names_short text asked.Reload h n = (h, n)
 names_short text asked.Unknown h n = (h, n)
 names_short text asked.Address h n = (h, n)
 names_short text asked.TooLong h n = absurd n

@@ -13,6 +13,7 @@ pub record IsUnknown (text : List ℕ) : Type 0 where
   pub leave : text ≢ codes "leave"
   pub stop : text ≢ codes "stop"
   pub renew : text ≢ codes "record"
+  pub reload : text ≢ codes "reload"
   pub members_after : (word : List ℕ) → text ≢ spaced (codes "members") word
   pub join : (word : List ℕ) → text ≢ spaced (codes "join") word
 
@@ -33,6 +34,7 @@ NamesShort text (asked.Join peer) =
 NamesShort text asked.Leave = text ≡ codes "leave"
 NamesShort text asked.Stop = text ≡ codes "stop"
 NamesShort text asked.Record = text ≡ codes "record"
+NamesShort text asked.Reload = text ≡ codes "reload"
 NamesShort text asked.Address = IsNoAddress text
 NamesShort text asked.Unknown = IsUnknown text
 NamesShort text asked.TooLong = ⊥

@@ -23,6 +23,8 @@ pub enum Request {
     Stop,
     /// To end the era, so that it is recorded.
     Record,
+    /// To read the settings again.
+    Reload,
     /// It is none of the lines.
     Unknown,
     /// The word that is to be an endpoint is none.
@@ -39,6 +41,7 @@ fn with_word(text: &[u8]) -> Request
     requires leave { text.now ≢ codes "leave" }
     requires stop { text.now ≢ codes "stop" }
     requires renew { text.now ≢ codes "record" }
+    requires reload { text.now ≢ codes "reload" }
     ensures { NamesShort text.now result }
 {
     match split_at_byte(text, b' ') {
@@ -79,6 +82,9 @@ fn short(text: &[u8]) -> Request
     }
     if text == b"record".as_slice() {
         return Request::Record;
+    }
+    if text == b"reload".as_slice() {
+        return Request::Reload;
     }
     with_word(text)
 }
