@@ -2,6 +2,8 @@
 #![tactic(auto)]
 
 mod ended;
+mod live_settings;
+mod reading;
 mod running;
 mod sockets;
 mod state_file;

@@ -1,40 +1,25 @@
 //! `swim run`.
 
 ghost use Rattle.swim_settings.specs.Ranges.{AreInRange};
-ghost use Rattle.std.specs.Prelude.{IfOk};
 
 use crate::ended::ended_by;
+use crate::live_settings::LiveSettings;
+use crate::reading::settings_at;
 use crate::sockets::{Sockets, waits};
 use crate::state_file::{StateFile, open_node};
 use crate::watched_doors::WatchedDoors;
 use log::{Log, info};
-use std::fs::{self, File};
+use std::fs::File;
 use std::io;
 use std::rt::Files;
 use std::sync::Wait;
 use std::thread::Threads;
 use std::time::{Clock, Duration};
 use swim_ending::Ending;
-use swim_scribe::Scribe;
 use swim_serve::{Beat, Desk, Logs, Outside, run_kept};
-use swim_settings::{Refusal, RunSettings, read_settings, show_settings};
+use swim_settings::{RunSettings, show_settings};
 use swim_shell::{Joiner, Receiver, Ticker};
-use swim_start::{generators, key_of, paces_of, peers_of};
-
-/// The settings that a file says.
-fn settings_at<R: Files<File = File> + AllocGlobal>(
-    rt: &R,
-    config: &str,
-) -> Result<RunSettings, Ending>
-    ensures { IfOk result AreInRange }
-{
-    let bytes = fs::read(rt, config).map_err(|error| Ending::of(&error, Ending::File))?;
-    match read_settings(rt.alloc(), bytes.as_slice()) {
-        Ok(settings) => Ok(settings),
-        Err(Refusal::Memory) => Err(Ending::Memory),
-        Err(refusal) => Err(Ending::Settings(refusal)),
-    }
-}
+use swim_start::{generators, key_of};
 
 /// The settings that a file says, as the text of a file with all keys, but for `random_key`. Nothing else is opened, and nothing is
 /// written. An error is why `run` would end before it opens the state file.
@@ -61,6 +46,7 @@ fn beat_of(told: &RunSettings) -> Beat {
 fn live<'a, T: Threads + Wait + Log + Clock + Send + Sync + Copy + Drop>(
     rt: &HostRuntime,
     logged: &'a T,
+    config: &'a str,
     told: RunSettings,
     key: [u8; 32],
     held: StateFile,
@@ -73,32 +59,39 @@ fn live<'a, T: Threads + Wait + Log + Clock + Send + Sync + Copy + Drop>(
     let number = node.first();
     info!(logged; "up with number {number}, at {}, control at {}", settings.me, told.control);
     let (rng, draws) = generators(key);
-    let peers = peers_of(settings.me, told.join.as_slice(), node.peers().as_slice());
-    let paces = paces_of(&settings, told.rejoin, told.tick_ms);
-    let joiner = Joiner::new(settings.me, settings.rules_of(), peers, paces, draws);
+    let beat = beat_of(&told);
+    let ends_expelled = told.ends_expelled;
+    let mut host = LiveSettings::new(*rt, logged, config, told);
+    let joins = host.joins_with(&node.peers());
+    let joiner = Joiner::new(
+        settings.me,
+        settings.rules_of(),
+        joins.peers,
+        joins.paces,
+        draws,
+    );
     let doors = WatchedDoors::new(sockets.doors, held.own, *logged);
     let desk = Desk::new(rt.alloc(), *logged, joiner, doors).map_err(|_| Ending::Memory)?;
     let outside = Outside {
         receiver: Receiver::new(sockets.inbound),
         ticker: Ticker { rng },
-        beat: beat_of(&told),
+        beat,
         link: sockets.link,
         owed: 0,
         desk,
         logs: Logs::new(settings.me, number),
     };
     let alarms = sockets.alarms;
-    let mut scribe = Scribe::new(logged, *rt, told.record_folder, told.record_eras);
     let ended = run_kept(
         logged,
         rt.alloc(),
         node,
         outside,
         &alarms,
-        told.ends_expelled,
-        &mut scribe,
+        ends_expelled,
+        &mut host,
     );
-    scribe.finish();
+    host.finish();
     ended_by(ended)
 }
 
@@ -117,5 +110,5 @@ pub fn run<T: Threads + Wait + Log + Clock + Send + Sync + Copy + Drop>(
     let key = drawn.map_err(|error: io::Error| Ending::of(&error, Ending::File))?;
     let (waits, connections) = waits(rt, rt.alloc())?;
     let sockets = Sockets::bind(rt, logged, &waits, connections, &told)?;
-    live(rt, logged, told, key, held, sockets)
+    live(rt, logged, config, told, key, held, sockets)
 }

@@ -1,7 +1,7 @@
 //! Who writes the eras of a member that ended, beside the member.
 
 use log::{Log, warn};
-use std::alloc::Global;
+use std::alloc::{AllocError, Global};
 use std::io::ErrorKind;
 use std::sync::Arc;
 use std::sync::atomic::{AtomicBool, Ordering};
@@ -44,9 +44,10 @@ impl Rest {
     }
 }
 
-/// An era that is to be recorded under a name.
+/// An era that is to be recorded in a folder, under a name.
 #[derive(Drop)]
 struct Named {
+    folder: Arc<Folder, Global>,
     name: FileName,
     era: Finished,
 }
@@ -54,17 +55,20 @@ struct Named {
 /// An era that was written, or could not be.
 #[derive(Drop)]
 struct Written {
+    folder: Arc<Folder, Global>,
     ended: Result<(), ErrorKind>,
     room: Room,
 }
 
 impl Named {
-    /// Writes its recording into a folder.
-    fn write(self, folder: &Folder) -> Written {
-        let ended = folder.record(self.name, &self.era);
+    /// Writes its recording.
+    fn write(self) -> Written {
+        let Named { folder, name, era } = self;
+        let ended = folder.record(name, &era);
         Written {
+            folder,
             ended: ended.map_err(|error| error.kind()),
-            room: self.era.into_room(),
+            room: era.into_room(),
         }
     }
 }
@@ -81,7 +85,6 @@ struct Wrote {
 #[derive(Drop)]
 struct Writing {
     clock: HostRuntime,
-    folder: Arc<Folder, Global>,
     is_done: Arc<AtomicBool, Global>,
     waited: Option<Named>,
     last: Named,
@@ -93,7 +96,6 @@ impl Writing {
     fn run(self) -> Wrote {
         let Writing {
             clock,
-            folder,
             is_done,
             waited,
             last,
@@ -104,10 +106,10 @@ impl Writing {
         }
         let begun = Instant::now(&clock);
         let waited = match waited {
-            Some(waited) => Some(waited.write(&folder)),
+            Some(waited) => Some(waited.write()),
             None => None,
         };
-        let last = last.write(&folder);
+        let last = last.write();
         let rest = match begun {
             Ok(begun) => Rest::after(&clock, &begun),
             Err(_) => None,
@@ -124,15 +126,20 @@ struct Writer {
     is_done: Arc<AtomicBool, Global>,
 }
 
-/// The folder at this path, if there is one, for all who use it. That there is no memory for it is told.
+/// The folder at this path, for all who use it. An error is that there is no memory for it.
+fn folder_at(files: HostRuntime, path: &str, kept: u64) -> Result<Arc<Folder, Global>, AllocError> {
+    let path = String::from_str(files.alloc(), path)?;
+    Ok(Arc::new(files.alloc(), Folder::new(files, path, kept))?)
+}
+
+/// The folder at this path, if there is one. That there is no memory for it is told.
 fn shared_folder<T: Log>(
     rt: &T,
     files: HostRuntime,
-    path: Option<String>,
+    path: Option<&str>,
     kept: u64,
 ) -> Option<Arc<Folder, Global>> {
-    let folder = Folder::new(files, path?, kept);
-    match Arc::new(files.alloc(), folder) {
+    match folder_at(files, path?, kept) {
         Ok(folder) => Some(folder),
         Err(_) => {
             warn!(rt; "record refused: memory; no era is recorded");
@@ -164,8 +171,10 @@ pub struct Scribe<'a, T> {
 }
 
 impl<'a, T: Threads + Log + Clock> Scribe<'a, T> {
+    ghost use Rattle.std.specs.Prelude.{◌≡◌};
+
     /// Into the folder at this path, of which so many recordings are kept. Without a path it records nothing.
-    pub fn new(rt: &'a T, files: HostRuntime, path: Option<String>, kept: u64) -> Scribe<'a, T> {
+    pub fn new(rt: &'a T, files: HostRuntime, path: Option<&str>, kept: u64) -> Scribe<'a, T> {
         Scribe {
             rt,
             files,
@@ -181,13 +190,21 @@ impl<'a, T: Threads + Log + Clock> Scribe<'a, T> {
         }
     }
 
-    /// Tells how the writing ended: a failure once, until a recording is written again.
-    fn tell(&mut self, ended: Result<(), ErrorKind>) {
+    /// Records into the folder at this path from the next era on, of which so many recordings are kept; nothing without a path. What
+    /// it was given before goes into the folder of then.
+    pub fn redirect(&mut self, files: HostRuntime, path: Option<&str>, kept: u64)
+        ensures { self.new.given ≡ self.old.given }
+    {
+        self.folder = shared_folder(self.rt, files, path, kept);
+        self.has_told = false;
+    }
+
+    /// Tells how the writing into a folder ended: a failure once, until a recording is written again.
+    fn tell(&mut self, folder: &Folder, ended: Result<(), ErrorKind>) {
         let has_told = self.has_told;
         self.has_told = ended.is_err();
         if let Err(why) = ended
             && !has_told
-            && let Some(folder) = &self.folder
         {
             let path = folder.path();
             warn!(self.rt; "record refused in {path}: {why}; the member goes on. Make the folder, room in it, or the right to write there");
@@ -196,7 +213,7 @@ impl<'a, T: Threads + Log + Clock> Scribe<'a, T> {
 
     /// Takes what was written: it tells how that ended, and keeps the room. Without memory to keep it, the room is let go.
     fn take(&mut self, written: Written) {
-        self.tell(written.ended);
+        self.tell(&written.folder, written.ended);
         let _ = self.spare.push(written.room);
     }
 
@@ -229,15 +246,18 @@ impl<'a, T: Threads + Log + Clock> Scribe<'a, T> {
         }
     }
 
+    /// The folder that eras are recorded into now, if there is one.
+    fn folder_now(&self) -> Option<Arc<Folder, Global>> {
+        Arc::try_clone(self.folder.as_ref()?).ok()
+    }
+
     /// What a thread is to write next.
     fn writing(&mut self, last: Named) -> Option<Writing> {
         let waited = self.waiting.take();
         let rest = self.rest.take();
-        let folder = Arc::try_clone(self.folder.as_ref()?).ok()?;
         let is_done = Arc::new(self.files.alloc(), AtomicBool::new(false)).ok()?;
         Some(Writing {
             clock: self.files,
-            folder,
             is_done,
             waited,
             last,
@@ -262,8 +282,10 @@ impl<'a, T: Threads + Log + Clock> Scribe<'a, T> {
             Some(writing) => self.spawn(writing),
             None => None,
         };
-        if self.writer.is_none() {
-            self.tell(Err(ErrorKind::OutOfMemory));
+        if self.writer.is_none()
+            && let Some(folder) = self.folder_now()
+        {
+            self.tell(&folder, Err(ErrorKind::OutOfMemory));
         }
     }
 
@@ -280,6 +302,26 @@ impl<'a, T: Threads + Log + Clock> Scribe<'a, T> {
             self.pass_over(last);
         } else if let Some(passed) = self.waiting.replace(last) {
             self.pass_over(passed);
+        }
+    }
+
+    /// Has an era of this life recorded, now or later.
+    fn record(&mut self, life: u64, era: Finished) {
+        self.eras = self.eras.saturating_add(1);
+        let Some(folder) = self.folder_now() else {
+            let _ = self.spare.push(era.into_room());
+            return;
+        };
+        let name = FileName {
+            life,
+            era: self.eras,
+        };
+        let last = Named { folder, name, era };
+        if self.is_busy() {
+            self.stand_by(last);
+        } else {
+            self.collect();
+            self.start(last);
         }
     }
 
@@ -305,18 +347,7 @@ impl<'a, T: Threads + Log + Clock> Keeper for Scribe<'a, T> {
 
     fn keep(&mut self, life: u64, era: Finished) -> Option<Room> {
         let given = self.given.and(&era);
-        self.eras = self.eras.saturating_add(1);
-        let name = FileName {
-            life,
-            era: self.eras,
-        };
-        let last = Named { name, era };
-        if self.is_busy() {
-            self.stand_by(last);
-        } else {
-            self.collect();
-            self.start(last);
-        }
+        self.record(life, era);
         self.given = given;
         self.spare.pop()
     }

@@ -1,13 +1,14 @@
 -- What a desk does with its caller.
-use Rattle.std.specs.Prelude.{◌≡◌, ℕ, List, [], ◌∷◌, ◌++◌, ◌⊎◌, Option, Some, None}
+use Rattle.std.specs.Prelude.{◌≡◌, ◌≢◌, ℕ, List, [], ◌∷◌, ◌++◌, ◌⊎◌, Option, Some, None}
 use Rattle.swim_shell.specs.declared.caller.Refusal.{Refusal}
 use Rattle.swim_shell.specs.declared.conversation.Conversation.{Conversation}
 use Rattle.swim_shell.specs.declared.conversation.ControlEnd.{ControlEnd}
 use Rattle.swim_shell.specs.declared.conversation.ControlEnd.TheVariants as ends
 use Rattle.swim_shell.specs.Calls.{CallerView}
-use Rattle.swim_shell.specs.Joins.{JoinerView, Asks, AsksInVain}
+use Rattle.swim_shell.specs.declared.paces.Paces.{Paces}
+use Rattle.swim_shell.specs.Joins.{JoinerView, Asks, AsksInVain, IsRelisted}
 use Rattle.swim_shell.specs.Views.{ConversationView, view_of}
-use Rattle.swim_shell.specs.Control.{Converses, ConversedBy}
+use Rattle.swim_shell.specs.Control.{Converses, ConversedBy, IsTold}
 use Rattle.swim_serve.specs.Works.{Worked}
 
 -- what a contract sees of a desk: its joiner, the conversation that has the turns, and those that
@@ -38,6 +39,7 @@ OfConnection ends.ReadFault = Unit {0}
 OfConnection ends.WriteFault = Unit {0}
 OfConnection ends.Asked = ⊥
 OfConnection ends.Renewed = ⊥
+OfConnection ends.Reloading = ⊥
 OfConnection (ends.Refused why) = ⊥
 
 -- the end of the desk's worker
@@ -47,6 +49,7 @@ OfMember ends.ReadFault = ⊥
 OfMember ends.WriteFault = ⊥
 OfMember ends.Asked = Unit {0}
 OfMember ends.Renewed = Unit {0}
+OfMember ends.Reloading = Unit {0}
 OfMember (ends.Refused why) = Unit {0}
 
 -- the conversation whose turn is next: a new one, or the first of the others
@@ -120,6 +123,11 @@ module _ {S : Type 0} (fresh : S → Type 0) (worked : S → CallerView → S �
   Opened p os None us = us ≡ os
   Opened p os (Some c) us = (first : S) × IsTurnIn fresh first os us × worked first p c p 0
 
+-- whom the joiner joins is the same, or, if it ever changes, it joins other peers by other paces
+abbrev pub MayRelist : Type 0 → JoinerView → JoinerView → Type 0
+MayRelist relists j k =
+    (k ≡ j) ⊎ (relists × (peers : List ℕ) × (paces : Paces) × IsRelisted peers paces j k)
+
 -- of a connection that is new nothing was heard, and nothing is left to write
 pub record IsNew (c : ConversationView) : Type 0 where
   pub kept : c.kept ≡ []
@@ -130,6 +138,33 @@ pub record IsNew (c : ConversationView) : Type 0 where
 module _ {Rd Wr : Type 0} (remaining : Rd → Option (List ℕ)) (contents : Wr → Option (List ℕ)) where
   abbrev pub IsNewTalk : Conversation Rd Wr → Type 0
   IsNewTalk c = IsNew (view_of remaining contents c)
+
+  -- the conversation has the answer to its line to write, where nothing was left to write
+  pub record IsAnswered (a b : Conversation Rd Wr) : Type 0 where
+    pub told : (view_of remaining contents a).left ≡ []
+        → (text : List ℕ) × IsTold text (view_of remaining contents a)
+        (view_of remaining contents b)
+    pub busy : (view_of remaining contents a).left ≢ [] → b ≡ a
+
+  -- so has the one that has the turns, if there is one
+  abbrev pub HasAnswer : Option (Conversation Rd Wr) → Option (Conversation Rd Wr) → Type 0
+  HasAnswer None now = now ≡ None
+  HasAnswer (Some a) now = (b : Conversation Rd Wr) × (now ≡ Some b) × IsAnswered a b
+
+  -- the one that ended an era by the line `reload` has its answer to write
+  abbrev pub AnswersLine : Option ControlEnd → Option (Conversation Rd Wr)
+      → Option (Conversation Rd Wr) → Type 0
+  AnswersLine (Some ends.Reloading) before now = HasAnswer before now
+  AnswersLine _ before now = now ≡ before
+
+  -- the host of a member was asked after an era whose control ended so: whom the joiner joins may
+  -- have changed, and the line `reload` has its answer
+  pub record IsHosted (relists : Type 0) (end : Option ControlEnd)
+      (a b : DeskView (Conversation Rd Wr))
+      : Type 0 where
+    pub joiner : MayRelist relists a.joiner b.joiner
+    pub conversation : AnswersLine end a.conversation b.conversation
+    pub others : b.others ≡ a.others
 
 -- the turns of a caller of so many calls
 module _ {Rd Wr : Type 0} (remaining : Rd → Option (List ℕ)) (contents : Wr → Option (List ℕ))

@@ -29,12 +29,13 @@ by_receiver None = None
 by_receiver (Some worker.Fault) = Some (fault.Worker worker.Fault)
 by_receiver (Some (worker.Refused why)) = by_refusal (Some why)
 
--- and the desk by no end of a connection, nor by `stop` or `record`
+-- and the desk by no end of a connection, nor by `stop`, `record` or `reload`
 abbrev pub by_desk : Option ControlEnd → Option Fault
 by_desk None = None
 by_desk (Some control.Closed) = None
 by_desk (Some control.Asked) = None
 by_desk (Some control.Renewed) = None
+by_desk (Some control.Reloading) = None
 by_desk (Some control.ReadFault) = None
 by_desk (Some control.WriteFault) = None
 by_desk (Some (control.Refused why)) = by_refusal (Some why)

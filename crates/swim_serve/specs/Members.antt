@@ -11,7 +11,7 @@ use Rattle.swim_shell.specs.Inbounds.{ReceiverView}
 use Rattle.swim_serve.specs.declared.era.EraEnds.{EraEnds}
 use Rattle.swim_serve.specs.declared.serving.MemberEnd.{MemberEnd}
 use Rattle.swim_serve.specs.declared.serving.MemberEnd.TheVariants as member
-use Rattle.swim_serve.specs.Desks.{DeskView, Tended}
+use Rattle.swim_serve.specs.Desks.{DeskView, IsHosted, Tended}
 use Rattle.swim_serve.specs.Eras.{EraOf, SendsAll, Served}
 use Rattle.swim_serve.specs.Views.{new_caller}
 use Rattle.swim_serve.specs.Works.{Received, Ticked}
@@ -48,10 +48,13 @@ abbrev pub member_end : Option ControlEnd → Phase → Bool → Option MemberEn
 member_end (Some control.Asked) now ends_expelled = Some member.Stopped
 member_end _ now ends_expelled = end_by_phase now ends_expelled
 
--- eras one after another, each of which takes a member so from one view to the next
-pub data Eras {V : Type 0} (era : V → V → EraEnds → Type 0) : V → V → Type 0 where
-  Here : (a : V) → Eras era a a
-  Next : (a b c : V) (ends : EraEnds) → Eras era a b → era b c ends → Eras era a c
+-- eras one after another, each of which takes a member so from one view to the next; and what
+-- happens to it after each of them
+pub data Eras {V : Type 0} (era : V → V → EraEnds → Type 0) (then : EraEnds → V → V → Type 0)
+    : V → V → Type 0 where
+  Here : (a : V) → Eras era then a a
+  Next : (a b c d : V) (ends : EraEnds) → Eras era then a b → era b c ends → then ends c d
+      → Eras era then a d
 
 -- a link and an inbound tell what they did, a reader what is to come, and a writer what it has
 module _ {M Rd Wr : Type 0} (came : Type 0) (tells : Type 0) (took : M → List (ℕ × List ℕ))
@@ -65,13 +68,24 @@ module _ {M Rd Wr : Type 0} (came : Type 0) (tells : Type 0) (took : M → List 
       (SendsAll tells took failures a.base.limit a.owed b.owed a.link b.link ends.sender)
       (Served (Tended remaining contents a.base.limit) a.desk (new_caller 3) b.desk ends.control)
 
-  -- eras took it from this view to one in which it ends so; the last of them ended so
-  pub record Lived (ends_expelled : Bool) (first : MemberView M (Conversation Rd Wr))
-      (end : MemberEnd)
+  -- its host was asked after an era that ended so
+  pub record Hosts (relists : Type 0) (ends : EraEnds) (a b : MemberView M (Conversation Rd Wr))
+      : Type 0 where
+    pub desk : IsHosted remaining contents relists ends.control a.desk b.desk
+    pub rest : b ≡ record a { desk = b.desk }
+
+  -- eras took it from this view to one in which it ends so; the last of them ended so. After each
+  -- other one its host was asked, which ever changes whom it joins, or never
+  pub record LivedBy (relists : Type 0) (ends_expelled : Bool)
+      (first : MemberView M (Conversation Rd Wr)) (end : MemberEnd)
       : Type 0 where
     pub before : MemberView M (Conversation Rd Wr)
     pub last : MemberView M (Conversation Rd Wr)
     pub ends : EraEnds
-    pub eras : Eras Era first before
+    pub eras : Eras Era (Hosts relists) first before
     pub era : Era before last ends
     pub end_is : member_end ends.control last.base.state.phase ends_expelled ≡ Some end
+
+  -- the same of one whose host never changes that
+  abbrev pub Lived : Bool → MemberView M (Conversation Rd Wr) → MemberEnd → Type 0
+  Lived = LivedBy ⊥

@@ -3,16 +3,20 @@
 ghost use Rattle.std.specs.Prelude.{◌≡◌, ◌<◌, ◌≤◌, [], ◌∷◌, ◌++◌, None, IfNone, IfSome, IfOk, IfErr};
 ghost use Rattle.std.specs.Prelude.{OnErr, OnOk, IsSome, IsTrue, false, ◌+◌, length, option_to_list, min, if◌then◌else◌};
 ghost use Rattle.swim_serve.specs.declared.aside.TheConstants.{OPEN_MAX};
-ghost use Rattle.swim_shell.specs.Joins.{Asks, AsksInVain};
+ghost use Rattle.swim_shell.specs.Joins.{Asks, AsksInVain, IsRelisted};
 ghost use Rattle.swim_shell.specs.Calls.{CallerView};
 ghost use Rattle.swim_serve.specs.Desks.{TalkGoes};
-ghost use Rattle.swim_serve.specs.Desks.{OfConnection, OfMember, Opens};
+ghost use Rattle.swim_serve.specs.Desks.{HasAnswer, OfConnection, OfMember, Opens};
 
 use crate::aside::{Aside, OPEN_MAX};
+use arrayvec::ArrayVec;
 use log::Log;
 use std::alloc::{AllocError, Global};
 use std::time::Clock;
-use swim_shell::{ControlEnd, Conversation, Doors, Joiner, Observer, Refusal, Worker};
+use swim_shell::{
+    Answer, ControlEnd, Conversation, Doors, Joiner, LIST_MAX, Observer, Paces, Refusal, Worker,
+};
+use swim_wire::Endpoint;
 
 /// Serves control connections, a line a turn: the one that has the turns keeps them until its answer is written, and then stands
 /// aside for the next. Between two of them the joiner has a turn. It waits only when none of them has anything to say.
@@ -69,6 +73,27 @@ impl<W: Log + Clock + Drop, O: Doors + Drop> Desk<W, O> {
             others,
             silent: 0,
         })
+    }
+
+    /// Has the joiner join these peers from now on, by these paces.
+    pub(crate) fn relist(&mut self, peers: ArrayVec<Endpoint, LIST_MAX>, paces: Paces)
+        ensures joiner { IsRelisted peers.items paces self.old.joiner self.new.joiner }
+        ensures same { (self.new.conversation ≡ self.old.conversation)
+            × (self.new.others ≡ self.old.others) }
+    {
+        self.joiner.relist(peers, paces);
+    }
+
+    /// Gives the conversation that has the turns the answer to its line `reload`.
+    pub(crate) fn answer(&mut self, answer: Answer)
+        ensures told { HasAnswer O.Reader.remaining O.Writer.contents self.old.conversation
+            self.new.conversation }
+        ensures same { (self.new.joiner ≡ self.old.joiner)
+            × (self.new.others ≡ self.old.others) }
+    {
+        if let Some(conversation) = &mut self.conversation {
+            conversation.answer(answer);
+        }
     }
 
     /// Has the conversation stand aside, behind all others.

@@ -7,11 +7,12 @@ ghost use Rattle.swim_recorder.specs.Handing.{begun_at, recorded};
 ghost use Rattle.swim_shell.specs.Ticks.{answers};
 ghost use Rattle.swim_serve.specs.Desks.{desk_of};
 ghost use Rattle.swim_serve.specs.Faults.{by_desk, by_receiver, by_refusal, fault_by, fault_of};
-ghost use Rattle.swim_serve.specs.Members.{Era, Lived, end_by_phase, member_end, member_of};
+ghost use Rattle.swim_serve.specs.Members.{Era, Lived, LivedBy, end_by_phase, member_end, member_of};
 ghost use Rattle.swim_serve.specs.Peers.{BecameOf, BeginsKept, HasKnown, KeepsPeers, next_era};
 ghost use Rattle.swim_serve.specs.Works.{receiver_of};
 
 use crate::era::{CALLERS, EraEnd, EraEnds, Outside, WATCHES, run_era};
+use crate::host::{Host, ask_host};
 use crate::logs::PeersSave;
 use log::{Log, warn};
 use std::alloc::Global;
@@ -252,14 +253,15 @@ pub fn run_member<
     run_kept(rt, alloc, node, outside, alarms, ends_expelled, &mut keeper)
 }
 
-/// Runs a member as `run_member` does, and hands each era that ended to its keeper.
+/// Runs a member as `run_member` does, and hands each era that ended to its host. After each of them it asks the host, which reads
+/// the settings again where the line `reload` ended the era, and may change whom the member joins.
 pub fn run_kept<
     D: Disk + Send + Drop,
     R: Threads + Wait + Log + Clock + Send + Sync + Copy + Drop,
     I: Alarmed<Alarm: Sync> + Send + Drop,
     M: Link + Send + Drop,
     O: Doors + Drop,
-    K: Keeper,
+    H: Host,
 >(
     rt: &R,
     alloc: Global,
@@ -267,22 +269,24 @@ pub fn run_kept<
     outside: Outside<I, M, R, O>,
     alarms: &[I::Alarm],
     ends_expelled: bool,
-    keeper: &mut K,
+    host: &mut H,
 ) -> Result<MemberEnd, Fault>
     requires { node.entries ≡ [] }
-    ensures { IfOk result (Lived I.tells M.tells M.took M.failures O.Reader.remaining
-        O.Writer.contents ends_expelled
+    ensures { IfOk result (LivedBy I.tells M.tells M.took M.failures O.Reader.remaining
+        O.Writer.contents H.relists ends_expelled
         (member_of node.base (receiver_of I.came I.failures outside.receiver)
         (answers outside.ticker.rng) outside.link outside.owed
         (desk_of outside.desk.joiner outside.desk.conversation outside.desk.others))) }
 {
     let mut left = (node, outside);
     for _ in rt.forever() {
-        let era = one_era(rt, alloc, left.0, left.1, alarms, keeper)?;
+        let mut era = one_era(rt, alloc, left.0, left.1, alarms, host)?;
         let phase = era.node.status().phase;
         if let Some(end) = member_end(era.ends.control, phase, ends_expelled) {
             return Ok(end);
         }
+        let stored = era.node.peers();
+        ask_host(&mut era.outside.desk, era.ends.control, &stored, host);
         left = (era.node, era.outside);
     }
     unreachable!()

@@ -6,6 +6,9 @@ ghost use Rattle.swim_settings.specs.Keys.{key_text};
 use crate::table::Keys;
 use std::fmt;
 
+/// How many keys there are.
+pub const KEYS: usize = 21;
+
 /// A key of a settings file.
 #[derive(Clone, Copy, Debug, PartialEq, Eq)]
 pub enum Key {
@@ -55,7 +58,7 @@ pub enum Key {
 
 impl Key {
     /// All keys, in the order in which a refused one is looked for.
-    pub const ALL: [Key; 21] = [
+    pub const ALL: [Key; KEYS] = [
         Key::File,
         Key::Group,
         Key::Me,
@@ -106,6 +109,13 @@ impl Key {
             Key::Record => "record",
             Key::RecordEras => "record_eras",
         }
+    }
+}
+
+/// The first one, in the free places of a list.
+impl Default for Key {
+    fn default() -> Key {
+        Key::File
     }
 }
 

@@ -5,14 +5,16 @@
 mod key;
 mod preset;
 mod refusal;
+mod reload;
 mod settings;
 mod shown;
 mod table;
 mod value;
 
-pub use key::Key;
+pub use key::{KEYS, Key};
 pub use preset::{Preset, Times};
 pub use refusal::Refusal;
+pub use reload::restart_keys;
 pub use settings::{JOIN_MAX, RunSettings, read_settings};
 pub use shown::show_settings;
 pub use table::{Keys, as_number, read_table, refuse_unknown};

@@ -19,7 +19,7 @@ use toml::Value;
 const HIDDEN: &str = "# random_key is set, and not shown\n";
 
 /// The number at a key that takes one.
-fn number_of(key: Key, run: &RunSettings) -> Option<u64>
+pub(crate) fn number_of(key: Key, run: &RunSettings) -> Option<u64>
     ensures { result ≡ shown_number key run.now }
 {
     match key {
@@ -41,7 +41,7 @@ fn number_of(key: Key, run: &RunSettings) -> Option<u64>
 }
 
 /// The text at a key that takes one, but for an endpoint.
-fn text_of<'a>(key: Key, run: &'a RunSettings) -> Option<&'a str>
+pub(crate) fn text_of<'a>(key: Key, run: &'a RunSettings) -> Option<&'a str>
     ensures { option_map (λ text. text.now) result ≡ shown_text key run.now }
 {
     match key {
@@ -51,10 +51,7 @@ fn text_of<'a>(key: Key, run: &'a RunSettings) -> Option<&'a str>
             None => None,
         },
         Key::Expelled => Some(if run.ends_expelled { "end" } else { "stay" }),
-        Key::Record => match &run.record_folder {
-            Some(folder) => Some(folder.as_str()),
-            None => None,
-        },
+        Key::Record => run.folder(),
         _ => None,
     }
 }

@@ -52,6 +52,7 @@ waits_on : (due : Option LineEnd) (out : Bool) → is_waiting (carried due) out 
 waits_on None out e = e
 waits_on (Some line_end.Asked) out e = refl
 waits_on (Some line_end.Renewed) out e = refl
+waits_on (Some line_end.Reloading) out e = refl
 waits_on (Some (line_end.Refused why)) out e = refl
 
 pub converses_start : (limit : ℕ) (comes gone : Option (List ℕ)) (kept left : List ℕ) (due : Option LineEnd) (out : Bool) (p : CallerView) → Converses limit (record { comes = comes; kept = kept; gone = gone; left = left; due = due; waits = is_waiting due out }) p (record { comes = comes; kept = kept; gone = gone; left = left; due = carried due; waits = is_waiting (carried due) out }) p 0

@@ -129,6 +129,7 @@ Answers limit asked.Stop p q refused answer = Plain p q refused answer (codes "o
 Answers limit asked.Record p q refused answer =
     Plain p q refused answer (codes "ok era ends\n")
 Answers limit asked.Counters p q refused answer = ShowsCounters p q refused
+Answers limit asked.Reload p q refused answer = Plain p q refused answer []
 Answers limit asked.Unknown p q refused answer =
     Plain p q refused answer (codes "error 1 unknown\n")
 Answers limit asked.Address p q refused answer =
@@ -147,6 +148,7 @@ abbrev pub end_of : Option Refusal → Request → Option LineEnd
 end_of (Some why) asked = end_by why
 end_of None asked.Stop = Some line_end.Asked
 end_of None asked.Record = Some line_end.Renewed
+end_of None asked.Reload = Some line_end.Reloading
 end_of None _ = None
 
 -- of what was left to write and these bytes some went to a writer, and the rest is left

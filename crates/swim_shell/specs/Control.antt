@@ -62,7 +62,7 @@ pub record Talks (limit : ℕ) (a : ConversationView) (p : CallerView) (b : Conv
   pub ends : DueAfter before heard due
 
 -- an end that stays due with another caller: a refusal was the former one's, and so was the era
--- that was to end
+-- that was to end; but nothing was read again yet
 abbrev pub carried : Option LineEnd → Option LineEnd
 carried (Some (line_end.Refused why)) = None
 carried (Some line_end.Renewed) = None
@@ -88,6 +88,7 @@ end_by_line ends.ReadFault due = None
 end_by_line ends.WriteFault due = due
 end_by_line ends.Asked due = Some line_end.Asked
 end_by_line ends.Renewed due = Some line_end.Renewed
+end_by_line ends.Reloading due = Some line_end.Reloading
 end_by_line (ends.Refused why) due = Some (line_end.Refused why)
 
 -- all answers are written, and no end is due
@@ -103,7 +104,12 @@ EndsAt ends.ReadFault b = IsSettled b × Lacks 10 b.kept
 EndsAt ends.WriteFault b = Unit {0}
 EndsAt ends.Asked b = IsSettled b
 EndsAt ends.Renewed b = IsSettled b
+EndsAt ends.Reloading b = IsSettled b
 EndsAt (ends.Refused why) b = IsSettled b
+
+-- the text is the answer that is left to write, and all else is the same
+abbrev pub IsTold : List ℕ → ConversationView → ConversationView → Type 0
+IsTold text a b = b ≡ record a { left = text; waits = true }
 
 -- the lines that were heard before a conversation ended so
 pub record ConversedBy (end : ControlEnd) (limit : ℕ) (a : ConversationView) (p : CallerView)

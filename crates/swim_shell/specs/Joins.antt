@@ -1,6 +1,6 @@
 -- What a joiner asks.
 use Rattle.std.specs.Prelude.{◌≡◌, ◌≢◌, ◌⊎◌, ℕ, ◌<◌, ◌≤◌, ◌+◌, ◌-◌, ◌*◌, ◌%◌, ◌==◌, nat_lt, min}
-use Rattle.std.specs.Prelude.{if◌then◌else◌, unwrap_or}
+use Rattle.std.specs.Prelude.{◌↔◌, if◌then◌else◌, unwrap_or}
 use Rattle.std.specs.Prelude.{Bool, true, false, not, Option, Some, None}
 use Rattle.std.specs.Prelude.{List, [], ◌∷◌, ◌++◌, length, slice_get}
 use Rattle.std.specs.Option.{option_map}
@@ -57,6 +57,14 @@ pub record JoinerView : Type 0 where
   pub joined : Option Instant
   pub missing : List ℕ
   pub news : NewsView
+
+-- these peers are joined from now on, by these paces: the list begins anew, and all else is the
+-- same
+pub record IsRelisted (peers : List ℕ) (paces : Paces) (j k : JoinerView) : Type 0 where
+  pub list : k.peers.list ≡ peers
+  pub first : k.peers.next ≡ 0
+  pub all : (k.peers.were_all ≡ true) ↔ (peers ≡ [])
+  pub rest : k ≡ record j { peers = k.peers; paces = paces }
 
 -- how long after so many joins the next peer is joined, if it is, by whether all were and whether
 -- the member is alone

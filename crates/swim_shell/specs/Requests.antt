@@ -14,6 +14,7 @@ pub record IsUnknown (text : List ℕ) : Type 0 where
   pub stop : text ≢ codes "stop"
   pub renew : text ≢ codes "record"
   pub counters : text ≢ codes "counters"
+  pub reload : text ≢ codes "reload"
   pub members_after : (word : List ℕ) → text ≢ spaced (codes "members") word
   pub join : (word : List ℕ) → text ≢ spaced (codes "join") word
 
@@ -35,6 +36,7 @@ NamesShort text asked.Leave = text ≡ codes "leave"
 NamesShort text asked.Stop = text ≡ codes "stop"
 NamesShort text asked.Record = text ≡ codes "record"
 NamesShort text asked.Counters = text ≡ codes "counters"
+NamesShort text asked.Reload = text ≡ codes "reload"
 NamesShort text asked.Address = IsNoAddress text
 NamesShort text asked.Unknown = IsUnknown text
 NamesShort text asked.TooLong = ⊥

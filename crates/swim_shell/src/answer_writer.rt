@@ -1,6 +1,6 @@
 //! Answers that wait until they are written.
 
-ghost use Rattle.std.specs.Prelude.{◌≡◌, ◌≤◌, ◌++◌, ◌∷◌, true, false, [], length, IfOk, IsTrue, OnOk, ◌<◌};
+ghost use Rattle.std.specs.Prelude.{◌≡◌, ◌≢◌, ◌≤◌, ◌++◌, ◌∷◌, true, false, [], length, IfOk, IsTrue, OnOk, ◌<◌};
 ghost use Rattle.swim_shell.specs.Writes.{sent_by};
 
 use crate::answers::Answer;
@@ -77,6 +77,14 @@ impl<Wr: Write + Drop> AnswerWriter<Wr> {
         ensures none { IsTrue result → left_of self.now ≡ [] }
     {
         self.is_flushed && self.written >= self.answer.len()
+    }
+
+    /// Whether the last answer is written, flushed or not.
+    pub(crate) fn has_written(&self) -> bool
+        ensures yes { IsTrue result → left_of self.now ≡ [] }
+        ensures no { result ≡ false → left_of self.now ≢ [] }
+    {
+        self.written >= self.answer.len()
     }
 
     /// Takes the next answer, once the last one is written.

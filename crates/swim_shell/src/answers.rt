@@ -14,10 +14,10 @@ use swim_node::{Reply, Status};
 use swim_wire::Update;
 
 /// Room for the longest answer: a head, and thirty rows of at most 51 bytes.
-pub(crate) const ANSWER_MAX: usize = 2048;
+pub const ANSWER_MAX: usize = 2048;
 
 /// The text of an answer.
-pub(crate) type Answer = ArrayString<ANSWER_MAX>;
+pub type Answer = ArrayString<ANSWER_MAX>;
 
 /// Adds a text, where it fits.
 pub(crate) fn add_text(answer: &mut Answer, text: &str)

@@ -28,6 +28,9 @@ pub enum ControlEnd {
     /// The line `record` was answered: the era is to end, and the connection goes on in the next one.
     #[error("Renewed")]
     Renewed,
+    /// The line `reload` was heard: the era is to end, and the connection gets its answer in the next one.
+    #[error("Reloading")]
+    Reloading,
     /// A read failed.
     #[error("ReadFault")]
     ReadFault,
@@ -46,6 +49,8 @@ enum LineEnd {
     Asked,
     /// It is `record`.
     Renewed,
+    /// It is `reload`.
+    Reloading,
     /// Its call was refused, or there was no status to show.
     Refused(Refusal),
 }
@@ -115,6 +120,7 @@ fn respond<C: Observer>(caller: &mut C, answer: &mut Answer, asked: Request) -> 
         Request::Stop => return say(answer, "ok stopping\n"),
         Request::Record => return say(answer, "ok era ends\n"),
         Request::Counters => return show_counters(caller, answer),
+        Request::Reload => return say(answer, ""),
         Request::Unknown => return say(answer, "error 1 unknown\n"),
         Request::Address => return say(answer, "error 2 address\n"),
         Request::TooLong => return say(answer, "error 3 too long\n"),
@@ -140,11 +146,13 @@ fn end_of(refused: Option<Refusal>, asked: &Request) -> Option<LineEnd>
         (Some(why), _) => Some(LineEnd::Refused(why)),
         (None, Request::Stop) => Some(LineEnd::Asked),
         (None, Request::Record) => Some(LineEnd::Renewed),
+        (None, Request::Reload) => Some(LineEnd::Reloading),
         (None, _) => None,
     }
 }
 
-/// The end that stays due with another caller. That for a call which the former one refused does not, nor that of its era.
+/// The end that stays due with another caller. That for a call which the former one refused does not, nor that of its era; one by
+/// `reload` does, since nothing was read again yet.
 fn carried(due: Option<LineEnd>) -> Option<LineEnd>
     ensures { result ≡ carried due }
 {
@@ -155,9 +163,9 @@ fn carried(due: Option<LineEnd>) -> Option<LineEnd>
 }
 
 impl<Rd: Read + Drop, Wr: Write + Drop> Conversation<Rd, Wr> {
-    ghost use Rattle.std.specs.Prelude.{◌≡◌, false, [], None, OnOk, OnErr, IfErr};
+    ghost use Rattle.std.specs.Prelude.{◌≡◌, ◌≢◌, false, [], None, OnOk, OnErr, IfErr};
     ghost use Rattle.swim_shell.specs.Views.{left_of, view_of};
-    ghost use Rattle.swim_shell.specs.Control.{HearsLine, HearsNone, Sends, is_not_yet};
+    ghost use Rattle.swim_shell.specs.Control.{HearsLine, HearsNone, IsTold, Sends, is_not_yet};
 
     /// The conversation of a new connection, of which nothing was read or written.
     pub fn new(reader: Rd, writer: Wr) -> Conversation<Rd, Wr>
@@ -194,6 +202,18 @@ impl<Rd: Read + Drop, Wr: Write + Drop> Conversation<Rd, Wr> {
         self.due.is_some() || !self.answers.is_out()
     }
 
+    /// Has the answer to the line `reload` to write, unless an answer is left to write.
+    pub fn answer(&mut self, answer: Answer)
+        ensures told { left_of self.old.answers ≡ [] → IsTold answer.bytes
+            (view_of Rd.remaining Wr.contents self.old)
+            (view_of Rd.remaining Wr.contents self.new) }
+        ensures busy { left_of self.old.answers ≢ [] → self.new ≡ self.old }
+    {
+        if self.answers.has_written() {
+            self.answers.put(answer);
+        }
+    }
+
     /// Hears the next line, and has its answer to write.
     fn hear<C: Observer>(&mut self, caller: &mut C) -> Result<(), NoLine>
         requires { left_of self.old.answers ≡ [] }
@@ -227,6 +247,7 @@ impl<Rd: Read + Drop, Wr: Write + Drop> Conversation<Rd, Wr> {
             Sent::Out => match self.due.take()? {
                 LineEnd::Asked => Some(ControlEnd::Asked),
                 LineEnd::Renewed => Some(ControlEnd::Renewed),
+                LineEnd::Reloading => Some(ControlEnd::Reloading),
                 LineEnd::Refused(why) => Some(ControlEnd::Refused(why)),
             },
             Sent::NotYet => None,

@@ -4,7 +4,7 @@ ghost use Rattle.std.specs.Prelude.{◌≡◌, ◌⊎◌, ◌↔◌, ℕ, [], So
 ghost use Rattle.std.specs.Prelude.{IsTrue, IfSome, IfOk, IfErr, OnOk, OnErr};
 ghost use Rattle.swim_member.specs.declared.event.Event.TheVariants.{Join};
 ghost use Rattle.swim_shell.specs.Calls.{Refuses};
-ghost use Rattle.swim_shell.specs.Joins.{Asks, AsksInVain, IsDrawnFrom, IsNext, chosen, has_row};
+ghost use Rattle.swim_shell.specs.Joins.{Asks, AsksInVain, IsDrawnFrom, IsNext, IsRelisted, chosen, has_row};
 ghost use Rattle.swim_shell.specs.Turns.{DoesTurn, DoesTurnInVain, JoinsIf, JoinsPeer, LooksRound, LooksRoundInVain, TellsDue, Turned, TurnedInVain, after_draw, are_news_due, with_start, drawn_for, due_member, due_peer, is_alone, is_draw_due, joined_listed, list_turn, next_draw, told_missing, with_draw, with_draw_over, with_turn};
 
 use crate::caller::{Caller, Observer, Refusal};
@@ -158,6 +158,14 @@ impl Joiner {
             has_told: false,
             missing: Trace::new(),
         }
+    }
+
+    /// Joins these peers from now on, by these paces. The list begins anew, and all else goes on.
+    pub fn relist(&mut self, peers: ArrayVec<Endpoint, LIST_MAX>, paces: Paces)
+        ensures { IsRelisted peers.items paces self.old self.new }
+    {
+        self.peers = Peers::new(peers);
+        self.paces = paces;
     }
 
     /// The peer of the list to join now: one that was not joined yet, or the next one while the member is alone.

@@ -27,6 +27,7 @@ mod ticker;
 mod worker;
 
 pub use alarm::{Alarm, Alarmed};
+pub use answers::{ANSWER_MAX, Answer};
 pub use arrival::Arrival;
 pub use caller::{Caller, Observer, Refusal};
 pub use conversation::{ControlEnd, Conversation};

@@ -25,6 +25,8 @@ pub enum Request {
     Record,
     /// What the member has done since it began.
     Counters,
+    /// To read the settings again.
+    Reload,
     /// It is none of the lines.
     Unknown,
     /// The word that is to be an endpoint is none.
@@ -42,6 +44,7 @@ fn with_word(text: &[u8]) -> Request
     requires stop { text.now ≢ codes "stop" }
     requires renew { text.now ≢ codes "record" }
     requires counters { text.now ≢ codes "counters" }
+    requires reload { text.now ≢ codes "reload" }
     ensures { NamesShort text.now result }
 {
     match split_at_byte(text, b' ') {
@@ -85,6 +88,9 @@ fn short(text: &[u8]) -> Request
     }
     if text == b"counters".as_slice() {
         return Request::Counters;
+    }
+    if text == b"reload".as_slice() {
+        return Request::Reload;
     }
     with_word(text)
 }

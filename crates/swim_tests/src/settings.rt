@@ -3,7 +3,7 @@
 use crate::same::{holds, same, same_at};
 use std::alloc::{AllocError, Global};
 use std::test::Fail;
-use swim_settings::{RunSettings, Times, read_settings, show_settings};
+use swim_settings::{Key, RunSettings, Times, read_settings, restart_keys, show_settings};
 use swim_wire::Endpoint;
 
 /// What a file has to have at least, the first lines of each file below.
@@ -283,6 +283,59 @@ fn presets(rt: HostRuntime) -> Result<(), Fail> {
     let run = read_settings(rt.alloc(), text.as_bytes())?;
     let found = times_in(rt.alloc(), &run)?;
     same(&rt, found.as_str(), "1000 9 9 8 6 5 7");
+    Ok(())
+}
+
+/// Lines that a file gets while its member runs, and the keys that need a restart for them.
+const RELOADED: &str = "# nothing:
+join = ['10.0.0.2:7000']; rejoin = 7; record = 'eras'; record_eras = 3:
+period = 9; rejoin = 7: period
+record_eras = 3; rules = 2; limit = 20: limit rules
+preset = 'lan': preset suspect
+preset = 'local': preset tick_ms forget
+tick_ms = 20; lambda = 5; period = 8; direct = 7; suspect = 90; forget = 400: tick_ms lambda period direct suspect forget
+helpers = 0; limit = 20; block = 64; expelled = 'end': helpers limit block expelled
+random_key = '000102030405060708090a0b0c0d0e0f101112131415161718191A1B1C1D1E1F': random_key";
+
+/// The texts of keys, with a space between them.
+fn texts_of(alloc: Global, keys: &[Key]) -> Result<String, AllocError> {
+    let mut text = String::new(alloc);
+    for key in keys {
+        if !text.is_empty() {
+            text.push(' ')?;
+        }
+        text.push_str(key.text())?;
+    }
+    Ok(text)
+}
+
+/// The keys that need a restart where a file that has the least lines gets these.
+#[test]
+fn restarts(rt: HostRuntime) -> Result<(), Fail> {
+    let alloc = rt.alloc();
+    for row in RELOADED.lines() {
+        let (lines, keys) = row.rsplit_once(":").unwrap_or((row, ""));
+        let now = read_settings(alloc, file_with(alloc, "join", "")?.as_bytes())?;
+        let then = read_settings(alloc, file_with(alloc, "join", lines)?.as_bytes())?;
+        let told = texts_of(alloc, restart_keys(&now, &then).as_slice())?;
+        same_at(&rt, &row, told.as_str(), keys.trim());
+    }
+    Ok(())
+}
+
+/// A running member takes the keys that need no restart, and no others.
+#[test]
+fn taken_anew(rt: HostRuntime) -> Result<(), Fail> {
+    let alloc = rt.alloc();
+    let lines =
+        "join = ['10.0.0.2:7000']; rejoin = 7; record = 'eras'; record_eras = 3; limit = 20";
+    let mut now = read_settings(alloc, file_with(alloc, "join", "")?.as_bytes())?;
+    now.take_anew(read_settings(alloc, file_with(alloc, "join", lines)?.as_bytes())?);
+    same(&rt, now.join.len(), 1);
+    same(&rt, now.rejoin, 7);
+    same(&rt, now.folder(), Some("eras"));
+    same(&rt, now.record_eras, 3);
+    same(&rt, now.limit, 4096);
     Ok(())
 }
 

@@ -2,6 +2,7 @@
 
 use super::fakes::{Goes, MOST, Pieces, Said, Scripted, Slow};
 use crate::same::same;
+use arrayvec::ArrayString;
 use std::io::ErrorKind;
 use std::test::Fail;
 use swim_shell::{ControlEnd, Conversation, Refusal, run};
@@ -50,7 +51,7 @@ ok running number 1 alive 3 suspect 1 confirmed 2 length 0
 ";
 
 /// In an era of three calls.
-const TALKS: [Talk; 10] = [
+const TALKS: [Talk; 11] = [
     Talk {
         input: b"status\nsta",
         script: &[],
@@ -104,6 +105,12 @@ const TALKS: [Talk; 10] = [
         script: &[],
         output: COUNTED,
         end: ControlEnd::Closed,
+    },
+    Talk {
+        input: b"reload\nstatus\n",
+        script: &[],
+        output: b"",
+        end: ControlEnd::Reloading,
     },
     Talk {
         input: b"",
@@ -224,6 +231,37 @@ fn turns_in_eras(rt: HostRuntime) -> Result<(), Fail> {
             b"error 3 too long\nok left\nok stopping\n".as_slice(),
         );
         same(&rt, calls, 1);
+    }
+    Ok(())
+}
+
+/// The line `reload` ends an era once nothing is left to write, also where each turn is an era of its own. Its answer comes after that,
+/// and the next line is heard then.
+#[test]
+fn reloads(rt: HostRuntime) -> Result<(), Fail> {
+    for size in [1, 5, MOST] {
+        let mut reader = Pieces::new(b"frob\nreload\nleave\n", size, PAUSES);
+        let mut writer = Slow::new(MOST, size, PAUSES);
+        let mut conversation = Conversation::new(&mut reader, &mut writer);
+        let mut end = None;
+        for _ in 0..400 {
+            if end.is_none() {
+                let mut caller = Scripted::<0>::new(&[]);
+                end = run(&rt, &mut conversation, &mut caller, &mut Goes { left: 1 });
+            }
+        }
+        same(&rt, end, Some(ControlEnd::Reloading));
+        let mut answer = ArrayString::new();
+        answer.push_str("ok reloaded\n");
+        conversation.answer(answer);
+        let mut caller = Scripted::<1>::new(&[]);
+        let end = run(&rt, &mut conversation, &mut caller, &mut Goes { left: 999 });
+        same(&rt, end, Some(ControlEnd::Closed));
+        same(
+            &rt,
+            writer.out(),
+            b"error 1 unknown\nok reloaded\nok left\n".as_slice(),
+        );
     }
     Ok(())
 }

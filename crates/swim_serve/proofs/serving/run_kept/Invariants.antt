@@ -1,7 +1,7 @@
 use Rattle.std.proofs.Common.{◌≡◌, []}
 use Rattle.swim_shell.specs.Ticks.{answers}
 use Rattle.swim_serve.specs.Desks.{desk_of}
-use Rattle.swim_serve.specs.Members.{Era, Eras, member_of}
+use Rattle.swim_serve.specs.Members.{Era, Eras, Hosts, member_of}
 use Rattle.swim_serve.specs.Works.{receiver_of}
 use Rattle.swim_serve.proofs.serving.run_kept.Given as goal
 
@@ -13,5 +13,6 @@ invariant-loop g l =
     let now = l.left.1 in
     (l.left.0.entries ≡ []) × Eras
     (Era g.I.Inbound.tells g.M.Link.tells g.M.Link.took g.M.Link.failures g.O.Reader.Read.remaining g.O.Writer.Write.contents)
+    (Hosts g.I.Inbound.tells g.M.Link.tells g.M.Link.took g.M.Link.failures g.O.Reader.Read.remaining g.O.Writer.Write.contents g.H.Host.relists)
     (member_of l.fn.node.base (came first.receiver) (answers first.ticker.rng) first.link first.owed (desk_of first.desk.joiner first.desk.conversation first.desk.others))
     (member_of l.left.0.base (came now.receiver) (answers now.ticker.rng) now.link now.owed (desk_of now.desk.joiner now.desk.conversation now.desk.others))

@@ -1,0 +1,161 @@
+//! The settings of a running member.
+
+ghost use Rattle.swim_settings.specs.Ranges.{AreInRange};
+
+use crate::reading::settings_at;
+use arrayvec::ArrayString;
+use log::{Log, info, warn};
+use std::fmt::{self, Display, Formatter, Write};
+use std::thread::Threads;
+use swim_node::Room;
+use swim_recorder::{Finished, Keeper};
+use swim_scribe::Scribe;
+use swim_serve::{Host, Joins};
+use swim_settings::{Key, RunSettings, restart_keys};
+use swim_shell::Answer;
+use swim_start::{paces_of, peers_of};
+use swim_state::Peers;
+
+/// The answer where the settings file was refused.
+const REFUSED: &str = "error 8 settings\n";
+
+/// The answer where it was read again, and has nothing that needs a restart.
+const RELOADED: &str = "ok reloaded\n";
+
+/// Keys, with a space before each.
+#[derive(Clone, Copy, Debug)]
+struct KeyList<'k>(&'k [Key]);
+
+impl Display for KeyList<'_> {
+    fn fmt<W: fmt::Write>(&self, f: &mut Formatter<W>) -> fmt::Result {
+        for key in self.0 {
+            write!(f, " {key}")?;
+        }
+        Ok(())
+    }
+}
+
+/// The text, as an answer to a line.
+fn answer_of(text: &str) -> Answer {
+    let mut answer = ArrayString::new();
+    let _ = answer.try_push_str(text);
+    answer
+}
+
+/// The answer where the file was read again, and these keys need a restart.
+fn reloaded(keys: &[Key]) -> Answer {
+    if keys.is_empty() {
+        return answer_of(RELOADED);
+    }
+    let keys = KeyList(keys);
+    let mut answer = ArrayString::new();
+    let _ = writeln!(answer, "ok reloaded, restart for{keys}");
+    answer
+}
+
+/// What a running member has from its settings file: the settings in force, and who records its eras. Where a line asks for that the
+/// file is read again, and what a running member may take is in force then.
+#[derive(Drop)]
+pub(crate) struct LiveSettings<'a, T> {
+    rt: HostRuntime,
+    logged: &'a T,
+    /// The path of the settings file.
+    config: &'a str,
+    told: RunSettings,
+    scribe: Scribe<'a, T>,
+    /// Whether the joiner does not know yet whom to join.
+    is_new: bool,
+    ghost range: { AreInRange told },
+}
+
+impl<'a, T: Threads + Log> LiveSettings<'a, T> {
+    ghost use Rattle.std.specs.Prelude.{◌≡◌};
+
+    /// These settings, which the file at this path said.
+    pub(crate) fn new(
+        rt: HostRuntime,
+        logged: &'a T,
+        config: &'a str,
+        told: RunSettings,
+    ) -> LiveSettings<'a, T>
+        requires { AreInRange told }
+    {
+        let scribe = Scribe::new(logged, rt, told.folder(), told.record_eras);
+        LiveSettings {
+            rt,
+            logged,
+            config,
+            told,
+            scribe,
+            is_new: false,
+        }
+    }
+
+    /// Whom a member joins whose state file has these peers, and how often it does what.
+    pub(crate) fn joins_with(&self, stored: &Peers) -> Joins {
+        let told = &self.told;
+        let settings = &told.settings;
+        Joins {
+            peers: peers_of(settings.me, told.join.as_slice(), stored.as_slice()),
+            paces: paces_of(settings, told.rejoin, told.tick_ms),
+        }
+    }
+
+    /// Takes from these settings what a running member may take, and tells what needs a restart.
+    fn take(&mut self, then: RunSettings) -> Answer
+        requires { AreInRange then }
+        ensures { self.new.scribe.given ≡ self.old.scribe.given }
+    {
+        let keys = restart_keys(&self.told, &then);
+        if keys.is_empty() {
+            info!(self.logged; "the settings were read again");
+        } else {
+            let keys = KeyList(keys.as_slice());
+            warn!(self.logged; "the settings were read again, but for keys that need a restart:{keys}");
+        }
+        self.told.take_anew(then);
+        self.is_new = true;
+        self.scribe
+            .redirect(self.rt, self.told.folder(), self.told.record_eras);
+        reloaded(keys.as_slice())
+    }
+
+    /// Waits until all eras that are to be recorded are.
+    pub(crate) fn finish(self) {
+        self.scribe.finish();
+    }
+}
+
+impl<'a, T: Threads + Log> Keeper for LiveSettings<'a, T> {
+    ghost given = { λ s. s.scribe.given };
+
+    fn is_on(&self) -> bool {
+        self.scribe.is_on()
+    }
+
+    fn keep(&mut self, life: u64, era: Finished) -> Option<Room> {
+        self.scribe.keep(life, era)
+    }
+}
+
+impl<'a, T: Threads + Log> Host for LiveSettings<'a, T> {
+    ghost relists = { Unit {0} };
+
+    fn reload(&mut self) -> Answer {
+        match settings_at(&self.rt, self.config) {
+            Ok(then) => self.take(then),
+            Err(ending) => {
+                warn!(self.logged; "the settings were not read again, and stay as they are: {ending}");
+                answer_of(REFUSED)
+            }
+        }
+    }
+
+    fn joins(&mut self, stored: &Peers) -> Option<Joins> {
+        if !self.is_new {
+            return None;
+        }
+        self.is_new = false;
+        Some(self.joins_with(stored))
+    }
+}

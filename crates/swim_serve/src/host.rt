@@ -1,0 +1,78 @@
+//! Who is asked between two eras.
+
+ghost use Rattle.std.specs.Prelude.{◌≡◌};
+ghost use Rattle.swim_serve.specs.Desks.{IsHosted, desk_of};
+
+use crate::desk::Desk;
+use arrayvec::{ArrayString, ArrayVec};
+use log::Log;
+use std::time::Clock;
+use swim_recorder::{Keeper, Unkept};
+use swim_shell::{Answer, ControlEnd, Doors, LIST_MAX, Paces};
+use swim_state::Peers;
+use swim_wire::Endpoint;
+
+/// What a joiner goes by.
+#[derive(Drop)]
+pub struct Joins {
+    /// Whom the member joins.
+    pub peers: ArrayVec<Endpoint, LIST_MAX>,
+    /// How often it does what.
+    pub paces: Paces,
+}
+
+/// Who keeps the eras of a member that ended, reads its settings again where a line asks for that, and says then whom it joins.
+pub trait Host: Keeper {
+    ghost use Rattle.std.specs.Prelude.{◌≡◌, IfSome};
+
+    /// Whether it ever changes whom the member joins.
+    ghost relists: { Type 0 };
+
+    /// Reads the settings again, and gives the answer to the line that asked for it.
+    fn reload(&mut self) -> Answer
+        ensures { Self.given self.new ≡ Self.given self.old };
+
+    /// Whom the member joins from now on, and how often it does what, where that is to change. These peers stand in its state file.
+    fn joins(&mut self, stored: &Peers) -> Option<Joins>
+        ensures given { Self.given self.new ≡ Self.given self.old }
+        ensures relists { IfSome result (λ _. relists) };
+}
+
+/// What a member answers that has no settings to read again.
+const NO_SETTINGS: &str = "error 8 settings\n";
+
+impl Host for Unkept {
+    ghost use Rattle.std.specs.Prelude.{◌≡◌};
+
+    ghost relists = { ⊥ };
+
+    fn reload(&mut self) -> Answer {
+        let mut answer = ArrayString::new();
+        let _ = answer.try_push_str(NO_SETTINGS);
+        answer
+    }
+
+    fn joins(&mut self, _stored: &Peers) -> Option<Joins> {
+        None
+    }
+}
+
+/// Asks the host of a member after an era whose control ended so. The line `reload` gets its answer.
+pub(crate) fn ask_host<W: Log + Clock + Drop, O: Doors + Drop, H: Host>(
+    desk: &mut Desk<W, O>,
+    control: Option<ControlEnd>,
+    stored: &Peers,
+    host: &mut H,
+)
+    ensures given { H.given host.new ≡ H.given host.old }
+    ensures hosted { IsHosted O.Reader.remaining O.Writer.contents H.relists control
+        (desk_of desk.old.joiner desk.old.conversation desk.old.others)
+        (desk_of desk.new.joiner desk.new.conversation desk.new.others) }
+{
+    if control == Some(ControlEnd::Reloading) {
+        desk.answer(host.reload());
+    }
+    if let Some(joins) = host.joins(stored) {
+        desk.relist(joins.peers, joins.paces);
+    }
+}
