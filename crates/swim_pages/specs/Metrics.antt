@@ -12,6 +12,7 @@ use Rattle.swim_shell.specs.declared.counters.Counter.{Counter}
 use Rattle.swim_shell.specs.declared.counters.Counter.TheVariants as counter
 use Rattle.swim_shell.specs.declared.counters.Counters.{Counters}
 use Rattle.swim_shell.specs.declared.counters.TheConstants.{NOTES_FROM}
+use Rattle.swim_shell.specs.declared.counts.TheConstants.{NOTE_KINDS}
 use Rattle.swim_wire.specs.Text.{kind_word}
 use Rattle.swim_wire.specs.declared.update.Update.{Update}
 use Rattle.swim_wire.specs.declared.update.UpdateKind.{UpdateKind}
@@ -144,7 +145,8 @@ notes_head =
 abbrev pub done_text : List ℕ → List ℕ
 done_text counts =
     lines_from counter_metric 0 (take NOTES_FROM counts)
-    ++ (notes_head ++ lines_from note_sample NOTES_FROM (drop NOTES_FROM counts))
+    ++ (notes_head ++ lines_from note_sample NOTES_FROM
+    (take NOTE_KINDS (drop NOTES_FROM counts)))
 
 -- the same, where it told what it did
 abbrev pub told_text : Option Counters → List ℕ
