@@ -17,6 +17,8 @@ pub(crate) struct Listing {
     addresses: Addresses,
     /// Whether the joiner does not know them yet.
     is_new: bool,
+    /// Whether they were not asked for yet.
+    is_unasked: bool,
 }
 
 /// The address of a place without a lookup.
@@ -39,6 +41,7 @@ impl Listing {
             places: ArrayVec::new(),
             addresses: ArrayVec::new(),
             is_new: false,
+            is_unasked: true,
         };
         listing.name(places);
         listing.is_new = false;
@@ -66,6 +69,14 @@ impl Listing {
         self.places = named;
         self.addresses = addresses;
         self.is_new = true;
+        self.is_unasked = true;
+    }
+
+    /// Whether these places were not asked for yet. They are now.
+    pub(crate) fn take_unasked(&mut self) -> bool {
+        let is_unasked = self.is_unasked;
+        self.is_unasked = false;
+        is_unasked
     }
 
     /// The places, where a host is among them that is to be looked up.

@@ -67,7 +67,8 @@ impl<'a, O, T: Threads + Wait + Log + Clock> LookingDoors<'a, O, T> {
         let Ok(now) = Instant::now(self.logged) else {
             return;
         };
-        if !self.is_due(now) {
+        let is_unasked = self.listing.lock(self.logged).take_unasked();
+        if !is_unasked && !self.is_due(now) {
             return;
         }
         self.began = Some(now);
