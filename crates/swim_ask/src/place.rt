@@ -1,9 +1,9 @@
 //! Where a member is asked.
 
-use std::net::{Net, ToSocketAddrs};
+use std::net::Net;
 use std::str;
 use swim_ending::Ending;
-use swim_net::endpoint_of;
+use swim_net::first_address;
 use swim_wire::Endpoint;
 use swim_words::{read_endpoint, read_host};
 
@@ -19,13 +19,11 @@ pub fn judge(word: &str) -> Result<(), Ending> {
 
 /// The first IPv4 address that the system gives of a host now, with this port. An error is that there is none, or no memory.
 fn look_up<R: Net>(rt: &R, host: &str, port: u16) -> Result<Endpoint, Ending> {
-    let found = (host, port).to_socket_addrs(rt);
-    for address in found.map_err(|error| Ending::of(&error, Ending::Host))? {
-        if let Some(endpoint) = endpoint_of(address) {
-            return Ok(endpoint);
-        }
+    match first_address(rt, host, port) {
+        Ok(Some(endpoint)) => Ok(endpoint),
+        Ok(None) => Err(Ending::Host),
+        Err(error) => Err(Ending::of(&error, Ending::Host)),
     }
-    Err(Ending::Host)
 }
 
 /// The control socket that a word names now: an endpoint as it stands, or else a port of a host, which is looked up each time. An error

@@ -5,10 +5,12 @@
 
 mod connection;
 mod doors;
+mod hosts;
 mod udp;
 mod waits;
 
 pub use connection::{ConnectionReader, ConnectionWriter};
 pub use doors::TcpDoors;
+pub use hosts::first_address;
 pub use udp::{UdpInbound, UdpLink, address_of, bind_datagrams, endpoint_of, take};
 pub use waits::{SocketAlarm, Waits};

@@ -2,7 +2,11 @@
 #![tactic(auto)]
 
 mod ended;
+mod inside;
+mod listing;
 mod live_settings;
+mod looking_doors;
+mod lookup;
 mod reading;
 mod running;
 mod sockets;

@@ -2,10 +2,12 @@
 
 ghost use Rattle.swim_settings.specs.Ranges.{AreInRange};
 
+use crate::listing::Listing;
 use crate::reading::settings_at;
 use arrayvec::ArrayString;
 use log::{Log, info, warn};
 use std::fmt::{self, Display, Formatter, Write};
+use std::sync::{Mutex, Wait};
 use std::thread::Threads;
 use swim_node::Room;
 use swim_recorder::{Finished, Keeper};
@@ -63,20 +65,20 @@ pub(crate) struct LiveSettings<'a, T> {
     config: &'a str,
     told: RunSettings,
     scribe: Scribe<'a, T>,
-    /// Whether the joiner does not know yet whom to join.
-    is_new: bool,
+    listing: &'a Mutex<Listing>,
     ghost range: { AreInRange told },
 }
 
-impl<'a, T: Threads + Log> LiveSettings<'a, T> {
+impl<'a, T: Threads + Wait + Log> LiveSettings<'a, T> {
     ghost use Rattle.std.specs.Prelude.{◌≡◌};
 
-    /// These settings, which the file at this path said.
+    /// These settings, which the file at this path said, with the list of whom it names to join.
     pub(crate) fn new(
         rt: HostRuntime,
         logged: &'a T,
         config: &'a str,
         told: RunSettings,
+        listing: &'a Mutex<Listing>,
     ) -> LiveSettings<'a, T>
         requires { AreInRange told }
     {
@@ -87,7 +89,7 @@ impl<'a, T: Threads + Log> LiveSettings<'a, T> {
             config,
             told,
             scribe,
-            is_new: false,
+            listing,
         }
     }
 
@@ -95,8 +97,9 @@ impl<'a, T: Threads + Log> LiveSettings<'a, T> {
     pub(crate) fn joins_with(&self, stored: &Peers) -> Joins {
         let told = &self.told;
         let settings = &told.settings;
+        let listed = self.listing.lock(self.logged).endpoints();
         Joins {
-            peers: peers_of(settings.me, told.join.as_slice(), stored.as_slice()),
+            peers: peers_of(settings.me, listed.as_slice(), stored.as_slice()),
             paces: paces_of(settings, told.rejoin, told.tick_ms),
         }
     }
@@ -114,7 +117,9 @@ impl<'a, T: Threads + Log> LiveSettings<'a, T> {
             warn!(self.logged; "the settings were read again, but for keys that need a restart:{keys}");
         }
         self.told.take_anew(then);
-        self.is_new = true;
+        self.listing
+            .lock(self.logged)
+            .name(self.told.join.as_slice());
         self.scribe
             .redirect(self.rt, self.told.folder(), self.told.record_eras);
         reloaded(keys.as_slice())
@@ -138,7 +143,7 @@ impl<'a, T: Threads + Log> Keeper for LiveSettings<'a, T> {
     }
 }
 
-impl<'a, T: Threads + Log> Host for LiveSettings<'a, T> {
+impl<'a, T: Threads + Wait + Log> Host for LiveSettings<'a, T> {
     ghost relists = { Unit {0} };
 
     fn reload(&mut self) -> Answer {
@@ -152,10 +157,11 @@ impl<'a, T: Threads + Log> Host for LiveSettings<'a, T> {
     }
 
     fn joins(&mut self, stored: &Peers) -> Option<Joins> {
-        if !self.is_new {
-            return None;
+        let is_new = self.listing.lock(self.logged).take_new();
+        if is_new {
+            Some(self.joins_with(stored))
+        } else {
+            None
         }
-        self.is_new = false;
-        Some(self.joins_with(stored))
     }
 }

@@ -3,7 +3,9 @@
 ghost use Rattle.swim_settings.specs.Ranges.{AreInRange};
 
 use crate::ended::ended_by;
+use crate::listing::Listing;
 use crate::live_settings::LiveSettings;
+use crate::looking_doors::LookingDoors;
 use crate::reading::settings_at;
 use crate::sockets::{Sockets, waits};
 use crate::state_file::{StateFile, open_node};
@@ -12,7 +14,7 @@ use log::{Log, info};
 use std::fs::File;
 use std::io;
 use std::rt::Files;
-use std::sync::Wait;
+use std::sync::{Mutex, Wait};
 use std::thread::Threads;
 use std::time::{Clock, Duration};
 use swim_ending::Ending;
@@ -48,6 +50,7 @@ fn live<'a, T: Threads + Wait + Log + Clock + Send + Sync + Copy + Drop>(
     logged: &'a T,
     config: &'a str,
     told: RunSettings,
+    listing: &'a Mutex<Listing>,
     key: [u8; 32],
     held: StateFile,
     sockets: Sockets<'a, T>,
@@ -61,7 +64,7 @@ fn live<'a, T: Threads + Wait + Log + Clock + Send + Sync + Copy + Drop>(
     let (rng, draws) = generators(key);
     let beat = beat_of(&told);
     let ends_expelled = told.ends_expelled;
-    let mut host = LiveSettings::new(*rt, logged, config, told);
+    let mut host = LiveSettings::new(*rt, logged, config, told, listing);
     let joins = host.joins_with(&node.peers());
     let joiner = Joiner::new(
         settings.me,
@@ -70,7 +73,8 @@ fn live<'a, T: Threads + Wait + Log + Clock + Send + Sync + Copy + Drop>(
         joins.paces,
         draws,
     );
-    let doors = WatchedDoors::new(sockets.doors, held.own, *logged);
+    let doors = LookingDoors::new(sockets.doors, *rt, logged, listing);
+    let doors = WatchedDoors::new(doors, held.own, *logged);
     let desk = Desk::new(rt.alloc(), *logged, joiner, doors).map_err(|_| Ending::Memory)?;
     let outside = Outside {
         receiver: Receiver::new(sockets.inbound),
@@ -110,5 +114,6 @@ pub fn run<T: Threads + Wait + Log + Clock + Send + Sync + Copy + Drop>(
     let key = drawn.map_err(|error: io::Error| Ending::of(&error, Ending::File))?;
     let (waits, connections) = waits(rt, rt.alloc())?;
     let sockets = Sockets::bind(rt, logged, &waits, connections, &told)?;
-    live(rt, logged, config, told, key, held, sockets)
+    let listing = Mutex::new(Listing::new(told.join.as_slice()));
+    live(rt, logged, config, told, &listing, key, held, sockets)
 }

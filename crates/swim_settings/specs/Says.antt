@@ -2,13 +2,14 @@
 use Rattle.std.specs.Prelude.{◌≡◌, ◌≢◌, ◌⊎◌, ◌≤◌, ◌-◌, ℕ, ℤ, pos, negsuc, List, [], ◌∷◌}
 use Rattle.std.specs.Prelude.{IsUtf8, Option, Some, None, option_and_then, option_map, Ok, Bool}
 use Rattle.std.specs.Prelude.{true, false, codes, string_bytes}
+use Rattle.std.specs.Fmt.{decimal}
 use Rattle.std.specs.List.{AllByRecursion}
 use Rattle.hex.specs.Hex.{decode_of}
 use Rattle.toml.specs.Parse.{parse_document}
 use Rattle.toml.specs.Data.{Data, Items, no_items, item, Members, get_member, as_str, as_integer}
 use Rattle.toml.specs.Data.{as_array}
 use Rattle.swim_wire.specs.Numbers.{IsEndpoint}
-use Rattle.swim_words.specs.Words.{endpoint_text, No}
+use Rattle.swim_words.specs.Words.{endpoint_text, No, split_by}
 use Rattle.swim_settings.specs.declared.key.Key.{Key}
 use Rattle.swim_settings.specs.declared.key.Key.TheVariants.{File, Group, Me, Control, TickMs}
 use Rattle.swim_settings.specs.declared.key.Key.TheVariants as key
@@ -21,6 +22,8 @@ use Rattle.swim_member.specs.declared.settings.Settings.{Settings}
 use Rattle.swim_settings.specs.declared.refusal.Refusal.{Refusal}
 use Rattle.swim_settings.specs.declared.refusal.Refusal.TheVariants as refusals
 use Rattle.swim_settings.specs.declared.settings.RunSettings.{RunSettings}
+use Rattle.swim_settings.specs.declared.place.Place.{Place}
+use Rattle.swim_settings.specs.declared.place.Place.TheVariants as place
 use Rattle.swim_settings.specs.declared.preset.Preset.{Preset}
 use Rattle.swim_settings.specs.declared.preset.Times.{Times}
 use Rattle.swim_settings.specs.Keys.{key_text, keys_before}
@@ -54,19 +57,24 @@ AreBytes key table (Some bytes) =
     (text : List ℕ) × (text_at key table ≡ Some text) × (decode_of text ≡ Ok bytes)
 AreBytes key table None = value_at key table ≡ None
 
--- the items are the texts of these endpoints, in this order
-abbrev pub AreTexts : Items → List ℕ → Type 0
+-- the text of an endpoint, or of a port of a host
+abbrev pub place_text : Place → List ℕ
+place_text (place.Member e) = endpoint_text e
+place_text (place.Host name port) = split_by 58 name.bytes (decimal port)
+
+-- the items are the texts of these places, in this order
+abbrev pub AreTexts : Items → List Place → Type 0
 AreTexts no_items [] = Unit
-AreTexts (item d ds) (e ∷ es) = (as_str d ≡ Some (endpoint_text e)) × AreTexts ds es
+AreTexts (item d ds) (p ∷ ps) = (as_str d ≡ Some (place_text p)) × AreTexts ds ps
 AreTexts _ _ = ⊥
 
--- the endpoints there; none where the table hasn't the key
-abbrev pub AreEndpoints : Key → Members → List ℕ → Type 0
-AreEndpoints key table es =
+-- the places there; none where the table hasn't the key
+abbrev pub ArePlaces : Key → Members → List Place → Type 0
+ArePlaces key table ps =
     ((items : Items)
     × (option_and_then as_array (value_at key table) ≡ Some items)
-    × AreTexts items es)
-    ⊎ ((value_at key table ≡ None) × (es ≡ []))
+    × AreTexts items ps)
+    ⊎ ((value_at key table ≡ None) × (ps ≡ []))
 
 -- which of two texts is there, the other one or the usual one, which is also meant where the table
 -- hasn't the key
@@ -117,7 +125,7 @@ pub record Says (table : Members) (run : RunSettings) : Type 0 where
   pub block : IsNumber Block 1 table run.settings.block
   pub rules : IsNumber Rules 1 table run.settings.rules
   pub random_key : AreBytes RandomKey table run.random_key
-  pub join : AreEndpoints Join table run.join.items
+  pub join : ArePlaces Join table run.join.items
   pub rejoin : IsNumber Rejoin (times_of run.preset).rejoin table run.rejoin
   pub expelled : EndsExpelled table run.ends_expelled
   pub record_folder : IsFolder Record table (option_map string_bytes run.record_folder)

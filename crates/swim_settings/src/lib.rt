@@ -3,6 +3,7 @@
 #![tactic(auto)]
 
 mod key;
+mod place;
 mod preset;
 mod refusal;
 mod reload;
@@ -12,6 +13,7 @@ mod table;
 mod value;
 
 pub use key::{KEYS, Key};
+pub use place::{HostName, Place};
 pub use preset::{Preset, Times};
 pub use refusal::Refusal;
 pub use reload::restart_keys;

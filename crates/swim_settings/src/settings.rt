@@ -10,12 +10,13 @@ ghost use Rattle.swim_settings.specs.Says.{AreTakenBefore, AreTimes, IsFolder, I
 ghost use Rattle.swim_settings.specs.declared.key.Key.TheVariants as keys;
 
 use crate::key::Key;
+use crate::place::Place;
 use crate::preset::{Preset, Times};
 use crate::refusal::Refusal;
 use crate::table::{read_table, refuse_unknown};
 use crate::value::{
-    read_bytes, read_choice, read_endpoint_at, read_endpoints, read_folder, read_number,
-    read_preset, read_text, read_within,
+    read_bytes, read_choice, read_endpoint_at, read_folder, read_number, read_places, read_preset,
+    read_text, read_within,
 };
 use arrayvec::ArrayVec;
 use std::alloc::Global;
@@ -44,7 +45,7 @@ pub struct RunSettings {
     /// `random_key`: the key of the generator that deals and drawn members come from, if the file has one.
     pub random_key: Option<[u8; 32]>,
     /// `join`: whom to join after the opening, in this order.
-    pub join: ArrayVec<Endpoint, JOIN_MAX>,
+    pub join: ArrayVec<Place, JOIN_MAX>,
     /// `rejoin`: ticks from one join of a drawn member to the next, at most 1,000,000; 0 for never.
     pub rejoin: u64,
     /// `expelled`: whether the member ends once it is expelled.
@@ -142,7 +143,7 @@ fn read_keys(alloc: Global, table: &Table) -> Result<RunSettings, Refusal>
     let limit = read_within(table, Key::Limit, 4096, 1, 65_536)?;
     let settings = read_block_and_rules(table, member)?;
     let random_key = read_bytes(table, Key::RandomKey)?;
-    let join = read_endpoints(table, Key::Join)?;
+    let join = read_places(table, Key::Join)?;
     let rejoin = read_within(table, Key::Rejoin, times.rejoin, 0, 1_000_000)?;
     let ends_expelled = read_choice(table, Key::Expelled, "stay", "end")?;
     let (record_folder, record_eras) = read_recording(alloc, table)?;

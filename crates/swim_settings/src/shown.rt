@@ -9,6 +9,7 @@ ghost use Rattle.swim_settings.specs.Says.{AreTexts};
 ghost use Rattle.swim_settings.specs.Shown.{shown_number, shown_text, ShowsSetting};
 
 use crate::key::Key;
+use crate::place::{Place, value_of_place};
 use crate::settings::RunSettings;
 use std::alloc::{AllocError, Global};
 use std::fmt::Write;
@@ -64,13 +65,13 @@ fn value_of_endpoint(alloc: Global, endpoint: Endpoint) -> Result<Value, AllocEr
     Ok(Value::from(text))
 }
 
-/// Endpoints as a file has them.
-fn texts_of(alloc: Global, endpoints: &[Endpoint]) -> Result<Vec<Value>, AllocError>
-    ensures { IfOk result (λ texts. AreTexts (items_view texts.items) endpoints.now) }
+/// Places as a file has them.
+fn texts_of(alloc: Global, places: &[Place]) -> Result<Vec<Value>, AllocError>
+    ensures { IfOk result (λ texts. AreTexts (items_view texts.items) places.now) }
 {
     let mut texts = Vec::new(alloc);
-    for endpoint in endpoints {
-        let text = value_of_endpoint(alloc, *endpoint)?;
+    for place in places {
+        let text = value_of_place(alloc, place)?;
         texts.push(text)?;
     }
     Ok(texts)

@@ -7,11 +7,12 @@ ghost use Rattle.toml.specs.Data.{as_str};
 ghost use Rattle.toml.specs.View.{view, items_view, table_view};
 ghost use Rattle.swim_wire.specs.Numbers.{IsEndpoint};
 ghost use Rattle.swim_words.specs.Words.{endpoint_text, No};
-ghost use Rattle.swim_settings.specs.Says.{value_at, text_at, number_at, IsNumber, IsWithin, IsEndpointAt, IsChoice, IsFolder, IsPreset, AreBytes, AreTexts, AreEndpoints};
+ghost use Rattle.swim_settings.specs.Says.{value_at, text_at, number_at, IsNumber, IsWithin, IsEndpointAt, IsChoice, IsFolder, IsPreset, AreBytes, AreTexts, ArePlaces};
 ghost use Rattle.swim_settings.specs.declared.key.Key.TheVariants as keys;
 ghost use Rattle.swim_settings.specs.declared.refusal.Refusal.TheVariants as refusals;
 
 use crate::key::Key;
+use crate::place::{Place, as_place};
 use crate::preset::Preset;
 use crate::refusal::Refusal;
 use crate::table::as_number;
@@ -44,19 +45,19 @@ fn as_bytes(value: &Value) -> Option<[u8; 32]>
     }
 }
 
-/// The endpoints whose texts these are, unless there are more than `N`.
-fn endpoints_in<const N: usize>(items: &[Value]) -> Option<ArrayVec<Endpoint, N>>
-    ensures { IfSome result (λ es. AreTexts (items_view items.now) es.items) }
+/// The places whose texts these are, unless there are more than `N`.
+fn places_in<const N: usize>(items: &[Value]) -> Option<ArrayVec<Place, N>>
+    ensures { IfSome result (λ places. AreTexts (items_view items.now) places.items) }
 {
-    let mut endpoints = ArrayVec::new();
+    let mut places = ArrayVec::new();
     for item in items {
-        let endpoint = as_endpoint(item)?;
-        if endpoints.is_full() {
+        let place = as_place(item)?;
+        if places.is_full() {
             return None;
         }
-        endpoints.push(endpoint);
+        places.push(place);
     }
-    Some(endpoints)
+    Some(places)
 }
 
 /// What stands at a key.
@@ -199,19 +200,19 @@ pub(crate) fn read_bytes(table: &Table, key: Key) -> Result<Option<[u8; 32]>, Re
     }
 }
 
-/// The endpoints at a key; none where the key isn't there.
-pub(crate) fn read_endpoints<const N: usize>(
+/// The places at a key; none where the key isn't there.
+pub(crate) fn read_places<const N: usize>(
     table: &Table,
     key: Key,
-) -> Result<ArrayVec<Endpoint, N>, Refusal>
-    ensures endpoints { IfOk result (λ es. AreEndpoints key (table_view table.now) es.items) }
+) -> Result<ArrayVec<Place, N>, Refusal>
+    ensures places { IfOk result (λ ps. ArePlaces key (table_view table.now) ps.items) }
     ensures refusal { IfErr result (λ refusal. refusal ≡ refusals.Key key) }
 {
     let Some(value) = find(table, key) else {
         return Ok(ArrayVec::new());
     };
     match value.as_array() {
-        Some(items) => endpoints_in(items.as_slice()).ok_or(Refusal::Key(key)),
+        Some(items) => places_in(items.as_slice()).ok_or(Refusal::Key(key)),
         None => Err(Refusal::Key(key)),
     }
 }

@@ -3,7 +3,7 @@
 use crate::same::{holds, same, same_at};
 use std::alloc::{AllocError, Global};
 use std::test::Fail;
-use swim_settings::{Key, RunSettings, Times, read_settings, restart_keys, show_settings};
+use swim_settings::{Key, Place, RunSettings, Times, read_settings, restart_keys, show_settings};
 use swim_wire::Endpoint;
 
 /// What a file has to have at least, the first lines of each file below.
@@ -45,6 +45,7 @@ record_eras: record_eras = 1000
 expelled: expelled = 'stay'
 expelled: expelled = 'end'
 join: join = []
+join: join = ['db1.example:7000', '10.0.0.2:7000', 'localhost:1']
 join: join = ['1.1.1.1:1', '1.1.1.1:2', '1.1.1.1:3', '1.1.1.1:4', '1.1.1.1:5', '1.1.1.1:6', '1.1.1.1:7', '1.1.1.1:8']";
 
 /// Lines that are refused, each after the key that is named. With a key alone the file has no line of it.
@@ -105,6 +106,10 @@ record_eras: record_eras = 1001
 join: join = '10.0.0.2:7000'
 join: join = [7000]
 join: join = ['10.0.0.2']
+join: join = ['db1.example']
+join: join = ['db1.example:0']
+join: join = ['db1 example:7000']
+join: join = [':7000']
 join: join = ['1.1.1.1:1', '1.1.1.1:2', '1.1.1.1:3', '1.1.1.1:4', '1.1.1.1:5', '1.1.1.1:6', '1.1.1.1:7', '1.1.1.1:8', '1.1.1.1:9']";
 
 /// Lines of which several can be refused, after the first of them.
@@ -230,8 +235,8 @@ random_key = '000102030405060708090a0b0c0d0e0f101112131415161718191A1B1C1D1E1F'\
     let folder = run.record_folder.unwrap_or(String::new(rt.alloc()));
     same(&rt, folder.as_str(), "eras");
     same(&rt, run.join.len(), 2);
-    for (peer, want) in run.join.as_slice().iter().zip(peers) {
-        same(&rt, Some(*peer), want);
+    for (place, peer) in run.join.as_slice().iter().zip(peers) {
+        same(&rt, Some(*place), peer.map(Place::Member));
     }
     let bytes = run.random_key.unwrap_or([0; 32]);
     for (index, byte) in bytes.iter().enumerate() {
@@ -342,7 +347,7 @@ fn taken_anew(rt: HostRuntime) -> Result<(), Fail> {
 /// Lines of files, of which each shows the same settings again.
 const SHOWN: &str = "rules = 2
 preset = 'lan'; period = 8
-join = ['1.1.1.1:1', '255.255.255.255:65535']; expelled = 'end'
+join = ['1.1.1.1:1', 'db1.example:7000', '255.255.255.255:65535']; expelled = 'end'
 record = 'a \"folder\"'; record_eras = 1000; rejoin = 0; helpers = 0
 group = 9223372036854775807; limit = 65536; block = 1024";
 

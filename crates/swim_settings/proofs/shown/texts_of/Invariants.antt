@@ -3,5 +3,5 @@ use Rattle.toml.specs.View.{items_view}
 use Rattle.swim_settings.specs.Says.{AreTexts}
 use Rattle.swim_settings.proofs.shown.texts_of.Given as goal
 
-abbrev pub invariant-loop-endpoint : goal.invariant-loop-endpoint
-invariant-loop-endpoint l = AreTexts (items_view l.texts.items) (take l.endpoint-index l.endpoints)
+abbrev pub invariant-loop-place : goal.invariant-loop-place
+invariant-loop-place l = AreTexts (items_view l.texts.items) (take l.place-index l.places)

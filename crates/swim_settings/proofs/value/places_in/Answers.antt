@@ -2,7 +2,7 @@ use Rattle.std.proofs.Common.{◌≡◌, ◌+◌, [], ◌∷◌, ◌++◌, take,
 use Rattle.std.proofs.lemmas.List.{take_more}
 use Rattle.toml.specs.declared.value.Value.{Value}
 use Rattle.swim_settings.proofs.Texts.{AreTexts-append}
-use Rattle.swim_settings.proofs.value.endpoints_in.Goals as goal
+use Rattle.swim_settings.proofs.value.places_in.Goals as goal
 
 pub loop-item-preserved : goal.loop-item-preserved
 loop-item-preserved g c =
@@ -12,4 +12,4 @@ loop-item-preserved g c =
     let more : take (i + 1) xs ≡ take i xs ++ x ∷ [] =
     take_more xs i x c.loop-item-test.true ∙ ap (λ (y : Value). take i xs ++ y ∷ []) (sym c.item-item.is) in
     rw (more, c.push.ensures.items)
-    (AreTexts-append (take i xs) c.loop-item.endpoints.items x c.in_ok-endpoint.endpoint c.loop-item.invariant c.in_ok-endpoint.ensures.endpoint)
+    (AreTexts-append (take i xs) c.loop-item.places.items x c.in_ok-place.place c.loop-item.invariant c.in_ok-place.ensures)

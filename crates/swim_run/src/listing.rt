@@ -1,0 +1,137 @@
+//! Whom the settings file of a running member names to join.
+
+use arrayvec::ArrayVec;
+use swim_settings::{JOIN_MAX, Place};
+use swim_wire::Endpoint;
+
+/// The places that a file names.
+pub(crate) type Places = ArrayVec<Place, JOIN_MAX>;
+
+/// The address of each place, in their order; none of a host that was not found.
+pub(crate) type Addresses = ArrayVec<Option<Endpoint>, JOIN_MAX>;
+
+/// The places that a file names, with the addresses that are known of them. The member's host and its doors share it.
+#[derive(Drop)]
+pub(crate) struct Listing {
+    places: Places,
+    addresses: Addresses,
+    /// Whether the joiner does not know them yet.
+    is_new: bool,
+    /// Whether they were not asked for yet.
+    is_unasked: bool,
+}
+
+/// The address of a place without a lookup.
+fn own_address(place: &Place) -> Option<Endpoint> {
+    match place {
+        Place::Member(endpoint) => Some(*endpoint),
+        Place::Host(_, _) => None,
+    }
+}
+
+/// Whether the place is to be looked up.
+fn is_host(place: &Place) -> bool {
+    own_address(place).is_none()
+}
+
+impl Listing {
+    /// Of these places, of whose hosts no address is known.
+    pub(crate) fn new(places: &[Place]) -> Listing {
+        let mut listing = Listing {
+            places: ArrayVec::new(),
+            addresses: ArrayVec::new(),
+            is_new: false,
+            is_unasked: true,
+        };
+        listing.name(places);
+        listing.is_new = false;
+        listing
+    }
+
+    /// The address that is known of a place.
+    fn address_of(&self, place: &Place) -> Option<Endpoint> {
+        for (known, address) in self.places.as_slice().iter().zip(self.addresses.as_slice()) {
+            if known == place {
+                return *address;
+            }
+        }
+        own_address(place)
+    }
+
+    /// The file names these places from now on. What is known of them stays known.
+    pub(crate) fn name(&mut self, places: &[Place]) {
+        let mut named = ArrayVec::new();
+        let mut addresses = ArrayVec::new();
+        for place in places {
+            let _ = addresses.try_push(self.address_of(place));
+            let _ = named.try_push(*place);
+        }
+        self.places = named;
+        self.addresses = addresses;
+        self.is_new = true;
+        self.is_unasked = true;
+    }
+
+    /// Whether these places were not asked for yet. They are now.
+    pub(crate) fn take_unasked(&mut self) -> bool {
+        let is_unasked = self.is_unasked;
+        self.is_unasked = false;
+        is_unasked
+    }
+
+    /// The places, where a host is among them that is to be looked up.
+    pub(crate) fn asked(&self) -> Option<Places> {
+        if !self.places.as_slice().iter().any(is_host) {
+            return None;
+        }
+        let mut asked = ArrayVec::new();
+        for place in self.places.as_slice() {
+            let _ = asked.try_push(*place);
+        }
+        Some(asked)
+    }
+
+    /// These addresses were found of these places; a host that was not found keeps the address that it had. Says whether an address is
+    /// another one now.
+    pub(crate) fn learn(&mut self, places: &[Place], found: &[Option<Endpoint>]) -> bool {
+        let mut addresses = ArrayVec::new();
+        for place in self.places.as_slice() {
+            let known = self.address_of(place);
+            let _ = addresses.try_push(found_of(places, found, place).or(known));
+        }
+        if addresses.as_slice() == self.addresses.as_slice() {
+            return false;
+        }
+        self.addresses = addresses;
+        self.is_new = true;
+        true
+    }
+
+    /// Whether the joiner does not know the addresses yet. It is told them now.
+    pub(crate) fn take_new(&mut self) -> bool {
+        let is_new = self.is_new;
+        self.is_new = false;
+        is_new
+    }
+
+    /// The addresses that are known, in the order of the file.
+    pub(crate) fn endpoints(&self) -> ArrayVec<Endpoint, JOIN_MAX> {
+        let mut endpoints = ArrayVec::new();
+        for address in self.addresses.as_slice() {
+            if let Some(endpoint) = address {
+                let _ = endpoints.try_push(*endpoint);
+            }
+        }
+        endpoints
+    }
+}
+
+/// What was found of a place among these.
+fn found_of(places: &[Place], found: &[Option<Endpoint>], place: &Place) -> Option<Endpoint> {
+    for (asked, address) in places.iter().zip(found) {
+        if asked == place {
+            return *address;
+        }
+    }
+    None
+}
