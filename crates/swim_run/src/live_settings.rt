@@ -9,6 +9,7 @@ use log::{Log, info, warn};
 use std::fmt::{self, Display, Formatter, Write};
 use std::sync::{Mutex, Wait};
 use std::thread::Threads;
+use std::time::Clock;
 use swim_node::Room;
 use swim_recorder::{Finished, Keeper};
 use swim_scribe::Scribe;
@@ -55,6 +56,16 @@ fn reloaded(keys: &[Key]) -> Answer {
     answer
 }
 
+/// Tells that the settings were read again, and which keys need a restart.
+fn tell<W: Log>(rt: &W, keys: &[Key]) {
+    if keys.is_empty() {
+        info!(rt; "the settings were read again");
+    } else {
+        let keys = KeyList(keys);
+        warn!(rt; "the settings were read again, but for keys that need a restart:{keys}");
+    }
+}
+
 /// What a running member has from its settings file: the settings in force, and who records its eras. Where a line asks for that the
 /// file is read again, and what a running member may take is in force then.
 #[derive(Drop)]
@@ -69,7 +80,7 @@ pub(crate) struct LiveSettings<'a, T> {
     ghost range: { AreInRange told },
 }
 
-impl<'a, T: Threads + Wait + Log> LiveSettings<'a, T> {
+impl<'a, T: Threads + Wait + Log + Clock> LiveSettings<'a, T> {
     ghost use Rattle.std.specs.Prelude.{◌≡◌};
 
     /// These settings, which the file at this path said, with the list of whom it names to join.
@@ -104,22 +115,21 @@ impl<'a, T: Threads + Wait + Log> LiveSettings<'a, T> {
         }
     }
 
+    /// Has the list name the places that the settings name now.
+    fn name_places(&self) {
+        let mut listing = self.listing.lock(self.logged);
+        listing.name(self.told.join.as_slice());
+    }
+
     /// Takes from these settings what a running member may take, and tells what needs a restart.
     fn take(&mut self, then: RunSettings) -> Answer
         requires { AreInRange then }
         ensures { self.new.scribe.given ≡ self.old.scribe.given }
     {
         let keys = restart_keys(&self.told, &then);
-        if keys.is_empty() {
-            info!(self.logged; "the settings were read again");
-        } else {
-            let keys = KeyList(keys.as_slice());
-            warn!(self.logged; "the settings were read again, but for keys that need a restart:{keys}");
-        }
+        tell(self.logged, keys.as_slice());
         self.told.take_anew(then);
-        self.listing
-            .lock(self.logged)
-            .name(self.told.join.as_slice());
+        self.name_places();
         self.scribe
             .redirect(self.rt, self.told.folder(), self.told.record_eras);
         reloaded(keys.as_slice())
@@ -131,7 +141,7 @@ impl<'a, T: Threads + Wait + Log> LiveSettings<'a, T> {
     }
 }
 
-impl<'a, T: Threads + Log> Keeper for LiveSettings<'a, T> {
+impl<'a, T: Threads + Log + Clock> Keeper for LiveSettings<'a, T> {
     ghost given = { λ s. s.scribe.given };
 
     fn is_on(&self) -> bool {
@@ -143,7 +153,7 @@ impl<'a, T: Threads + Log> Keeper for LiveSettings<'a, T> {
     }
 }
 
-impl<'a, T: Threads + Wait + Log> Host for LiveSettings<'a, T> {
+impl<'a, T: Threads + Wait + Log + Clock> Host for LiveSettings<'a, T> {
     ghost relists = { Unit {0} };
 
     fn reload(&mut self) -> Answer {
