@@ -130,8 +130,8 @@ impl<'a, T: Threads + Wait + Log + Clock> LiveSettings<'a, T> {
         tell(self.logged, keys.as_slice());
         self.told.take_anew(then);
         self.name_places();
-        self.scribe
-            .redirect(self.rt, self.told.folder(), self.told.record_eras);
+        let eras = self.told.record_eras;
+        self.scribe.redirect(self.rt, self.told.folder(), eras);
         reloaded(keys.as_slice())
     }
 
