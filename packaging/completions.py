@@ -5,7 +5,7 @@ from typing import NamedTuple
 
 from manual import help_of
 
-LINES = ("status", "members", "counters", "leave", "record", "stop")  # the control lines of one word
+LINES = ("status", "members", "counters", "leave", "record", "reload", "stop")  # the control lines of one word
 FILES = ("FILE", "CONFIG", "PLAN")  # the values that are paths
 
 

@@ -258,7 +258,7 @@ fn ctl_command<'a>(alloc: Global) -> Result<Command<'a>, Error> {
         alloc,
         "line",
         "LINE",
-        "status, members, members A, counters, join A, leave, record or stop",
+        "status, members, members A, counters, join A, leave, record, reload or stop",
     );
     let as_json = json(alloc).help("Prints the answer to status or counters as a JSON object");
     let command = Command::new(alloc, "ctl")
