@@ -14,7 +14,7 @@ from lib.trials import PATIENCE, expect, expect_true, wait_for
 PORTS = range(15000, 32000)
 PAGE_ROWS = 30  # as many rows as one answer to `members` has at most
 COUNTERS = (
-    "eras peer_saves peer_saves_failed entries ticks joins datagrams_received receive_failures datagrams_sent datagrams_lost refutations"
+    "eras number_saves peer_saves peer_saves_failed entries ticks joins datagrams_received receive_failures datagrams_sent datagrams_lost refutations"
 ).split()  # the first lines of an answer to `counters`, by their names
 NOTES = (
     "BadDatagram OtherGroup NotSender FromSelf Leap NoNumberLeft TableFull Misdirected RelaysFull UnknownTarget Unasked SaveFailed"

@@ -6,7 +6,7 @@
 
 use clap::Error;
 use clap::error::ErrorKind;
-use log::{Log, Logged};
+use log::{LevelFilter, Log, Logged};
 use std::io::{self, IsTerminal, Read, Write};
 use std::process::ExitCode;
 use std::sync::Wait;
@@ -18,9 +18,10 @@ use swim_ask::{
     watch_members,
 };
 use swim_check::{Stop, check};
-use swim_cli::{LogStream, Stamped, Subcommand, hold_standard, level, make, read_words};
+use swim_cli::{Subcommand, hold_standard, make, read_words};
 use swim_ending::Ending;
 use swim_explain::{ExplainFault, explain_file, in_order};
+use swim_log::{LogLevel, LogStream, Stamped};
 use swim_play::{play, play_recorded};
 use swim_replay::{RecordingFault, RecordingReason, after_first_line};
 use swim_run::{run, shown_settings};
@@ -197,10 +198,11 @@ fn simulate_group(rt: &HostRuntime, asked: &Asked<'_>) -> Result<ExitCode, Endin
     })
 }
 
-/// Does what was asked. A member that runs has its threads and its log by the other handle.
+/// Does what was asked. A member that runs has its threads and its log by the other handle, and sets how much is logged.
 fn answer<T: Threads + Wait + Log + Clock + Send + Sync + Copy + Drop>(
     rt: &HostRuntime,
     logged: &T,
+    level: &LogLevel,
     asked: Subcommand<'_>,
 ) -> Result<ExitCode, Ending> {
     match asked {
@@ -218,7 +220,7 @@ fn answer<T: Threads + Wait + Log + Clock + Send + Sync + Copy + Drop>(
                 let text = shown_settings(rt, config)?;
                 print_bytes(rt, text.as_bytes())?;
             } else {
-                run(rt, logged, config)?;
+                run(rt, logged, level, config)?;
             }
             Ok(ExitCode::SUCCESS)
         }
@@ -323,9 +325,10 @@ fn main(rt: HostRuntime) -> ExitCode {
         Err(status) => return status,
     };
     let stream = LogStream::new(&rt);
-    let logged = Logged::new(rt, level(&rt), Stamped::new(rt, &stream));
+    let level = LogLevel::of_environment(&rt);
+    let logged = Logged::new(rt, LevelFilter::Trace, Stamped::new(rt, &stream, &level));
     match read_words(rt.alloc(), words.as_slice()) {
-        Ok(Some(asked)) => match answer(&rt, &logged, asked) {
+        Ok(Some(asked)) => match answer(&rt, &logged, &level, asked) {
             Ok(status) => status,
             Err(ending) => end(&rt, &ending),
         },

@@ -106,6 +106,7 @@ quiet_text quiet =
 -- what a counter of eras or of calls is; those of notes have one text together
 abbrev pub counter_help : Counter → List ℕ
 counter_help counter.Eras = codes "Eras that ended."
+counter_help counter.NumberSaves = codes "Own numbers that were saved in eras that ended."
 counter_help counter.PeerSaves = codes "Saves of the known peers at the end of an era."
 counter_help counter.PeerSavesFailed =
     codes "Saves of the known peers at the end of an era that failed."

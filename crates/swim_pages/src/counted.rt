@@ -15,6 +15,7 @@ fn help_of(counter: Counter) -> &'static str
 {
     match counter {
         Counter::Eras => "Eras that ended.",
+        Counter::NumberSaves => "Own numbers that were saved in eras that ended.",
         Counter::PeerSaves => "Saves of the known peers at the end of an era.",
         Counter::PeerSavesFailed => "Saves of the known peers at the end of an era that failed.",
         Counter::Entries => "Answered calls of the member, each one entry.",

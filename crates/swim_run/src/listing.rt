@@ -21,6 +21,14 @@ pub(crate) struct Listing {
     is_unasked: bool,
 }
 
+/// Places among which is a host.
+#[derive(Drop)]
+pub(crate) struct Asked {
+    pub(crate) places: Places,
+    /// Whether nobody asked for them before.
+    pub(crate) is_first: bool,
+}
+
 /// The address of a place without a lookup.
 fn own_address(place: &Place) -> Option<Endpoint> {
     match place {
@@ -50,12 +58,8 @@ impl Listing {
 
     /// The address that is known of a place.
     fn address_of(&self, place: &Place) -> Option<Endpoint> {
-        for (known, address) in self.places.as_slice().iter().zip(self.addresses.as_slice()) {
-            if known == place {
-                return *address;
-            }
-        }
-        own_address(place)
+        let known = found_of(self.places.as_slice(), self.addresses.as_slice(), place);
+        known.or(own_address(place))
     }
 
     /// The file names these places from now on. What is known of them stays known.
@@ -72,23 +76,18 @@ impl Listing {
         self.is_unasked = true;
     }
 
-    /// Whether these places were not asked for yet. They are now.
-    pub(crate) fn take_unasked(&mut self) -> bool {
-        let is_unasked = self.is_unasked;
-        self.is_unasked = false;
-        is_unasked
-    }
-
-    /// The places, where a host is among them that is to be looked up.
-    pub(crate) fn asked(&self) -> Option<Places> {
+    /// The places, where a host is among them that is to be looked up. They are asked for now.
+    pub(crate) fn take_asked(&mut self) -> Option<Asked> {
         if !self.places.as_slice().iter().any(is_host) {
             return None;
         }
-        let mut asked = ArrayVec::new();
+        let mut places = ArrayVec::new();
         for place in self.places.as_slice() {
-            let _ = asked.try_push(*place);
+            let _ = places.try_push(*place);
         }
-        Some(asked)
+        let is_first = self.is_unasked;
+        self.is_unasked = false;
+        Some(Asked { places, is_first })
     }
 
     /// These addresses were found of these places; a host that was not found keeps the address that it had. Says whether an address is

@@ -5,22 +5,20 @@ ghost use Rattle.swim_settings.specs.Ranges.{AreInRange};
 use crate::listing::Listing;
 use crate::reading::settings_at;
 use arrayvec::ArrayString;
-use log::{Log, info, warn};
+use log::{LevelFilter, Log, info, warn};
 use std::fmt::{self, Display, Formatter, Write};
 use std::sync::{Mutex, Wait};
 use std::thread::Threads;
 use std::time::Clock;
+use swim_log::LogLevel;
 use swim_node::Room;
 use swim_recorder::{Finished, Keeper};
 use swim_scribe::Scribe;
 use swim_serve::{Host, Joins};
-use swim_settings::{Key, RunSettings, restart_keys};
-use swim_shell::Answer;
+use swim_settings::{Key, Level, RunSettings, restart_keys};
+use swim_shell::{Answer, SETTINGS_REFUSED, answer_of};
 use swim_start::{paces_of, peers_of};
 use swim_state::Peers;
-
-/// The answer where the settings file was refused.
-const REFUSED: &str = "error 8 settings\n";
 
 /// The answer where it was read again, and has nothing that needs a restart.
 const RELOADED: &str = "ok reloaded\n";
@@ -36,13 +34,6 @@ impl Display for KeyList<'_> {
         }
         Ok(())
     }
-}
-
-/// The text, as an answer to a line.
-fn answer_of(text: &str) -> Answer {
-    let mut answer = ArrayString::new();
-    let _ = answer.try_push_str(text);
-    answer
 }
 
 /// The answer where the file was read again, and these keys need a restart.
@@ -66,12 +57,30 @@ fn tell<W: Log>(rt: &W, keys: &[Key]) {
     }
 }
 
+/// The least level of the log's lines, as the log has it.
+fn filter_of(level: Level) -> LevelFilter {
+    match level {
+        Level::Off => LevelFilter::Off,
+        Level::Error => LevelFilter::Error,
+        Level::Warn => LevelFilter::Warn,
+        Level::Info => LevelFilter::Info,
+        Level::Debug => LevelFilter::Debug,
+        Level::Trace => LevelFilter::Trace,
+    }
+}
+
+/// Logs from the level that a settings file names on; as the environment says where it names none.
+pub(crate) fn log_from(level: &LogLevel, told: Option<Level>) {
+    level.set(told.map(filter_of));
+}
+
 /// What a running member has from its settings file: the settings in force, and who records its eras. Where a line asks for that the
 /// file is read again, and what a running member may take is in force then.
 #[derive(Drop)]
 pub(crate) struct LiveSettings<'a, T> {
     rt: HostRuntime,
     logged: &'a T,
+    level: &'a LogLevel,
     /// The path of the settings file.
     config: &'a str,
     told: RunSettings,
@@ -87,6 +96,7 @@ impl<'a, T: Threads + Wait + Log + Clock> LiveSettings<'a, T> {
     pub(crate) fn new(
         rt: HostRuntime,
         logged: &'a T,
+        level: &'a LogLevel,
         config: &'a str,
         told: RunSettings,
         listing: &'a Mutex<Listing>,
@@ -97,6 +107,7 @@ impl<'a, T: Threads + Wait + Log + Clock> LiveSettings<'a, T> {
         LiveSettings {
             rt,
             logged,
+            level,
             config,
             told,
             scribe,
@@ -129,9 +140,10 @@ impl<'a, T: Threads + Wait + Log + Clock> LiveSettings<'a, T> {
         let keys = restart_keys(&self.told, &then);
         tell(self.logged, keys.as_slice());
         self.told.take_anew(then);
+        log_from(self.level, self.told.log);
         self.name_places();
         let eras = self.told.record_eras;
-        self.scribe.redirect(self.rt, self.told.folder(), eras);
+        self.scribe.redirect(self.told.folder(), eras);
         reloaded(keys.as_slice())
     }
 
@@ -161,7 +173,7 @@ impl<'a, T: Threads + Wait + Log + Clock> Host for LiveSettings<'a, T> {
             Ok(then) => self.take(then),
             Err(ending) => {
                 warn!(self.logged; "the settings were not read again, and stay as they are: {ending}");
-                answer_of(REFUSED)
+                answer_of(SETTINGS_REFUSED)
             }
         }
     }

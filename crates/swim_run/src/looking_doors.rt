@@ -1,7 +1,7 @@
 //! Doors whose thread looks after host names meanwhile.
 
 use crate::inside::{Answers, Lines};
-use crate::listing::{Listing, Places};
+use crate::listing::{Asked, Listing, Places};
 use crate::lookup::{Found, Lookup};
 use arrayvec::ArrayVec;
 use log::{Log, warn};
@@ -62,18 +62,17 @@ impl<'a, O, T: Threads + Wait + Log + Clock> LookingDoors<'a, O, T> {
         }
     }
 
-    /// Starts the next lookup, if it is time and a host is named.
+    /// Starts the next lookup, if a host is named and it is time.
     fn start(&mut self) {
+        let asked = self.listing.lock(self.logged).take_asked();
+        let Some(Asked { places, is_first }) = asked else {
+            return;
+        };
         let Ok(now) = Instant::now(self.logged) else {
             return;
         };
-        let is_unasked = self.listing.lock(self.logged).take_unasked();
-        if !is_unasked && !self.is_due(now) {
-            return;
-        }
-        self.began = Some(now);
-        let asked = self.listing.lock(self.logged).asked();
-        if let Some(places) = asked {
+        if is_first || self.is_due(now) {
+            self.began = Some(now);
             self.lookup = Lookup::start(self.logged, self.rt, places);
         }
     }

@@ -4,7 +4,7 @@ ghost use Rattle.swim_settings.specs.Ranges.{AreInRange};
 
 use crate::ended::ended_by;
 use crate::listing::Listing;
-use crate::live_settings::LiveSettings;
+use crate::live_settings::{LiveSettings, log_from};
 use crate::looking_doors::LookingDoors;
 use crate::reading::settings_at;
 use crate::sockets::{Sockets, waits};
@@ -18,6 +18,7 @@ use std::sync::{Mutex, Wait};
 use std::thread::Threads;
 use std::time::{Clock, Duration};
 use swim_ending::Ending;
+use swim_log::LogLevel;
 use swim_serve::{Beat, Desk, Logs, Outside, run_kept};
 use swim_settings::{RunSettings, show_settings};
 use swim_shell::{Joiner, Receiver, Ticker};
@@ -48,6 +49,7 @@ fn beat_of(told: &RunSettings) -> Beat {
 fn live<'a, T: Threads + Wait + Log + Clock + Send + Sync + Copy + Drop>(
     rt: &HostRuntime,
     logged: &'a T,
+    level: &'a LogLevel,
     config: &'a str,
     told: RunSettings,
     listing: &'a Mutex<Listing>,
@@ -64,7 +66,7 @@ fn live<'a, T: Threads + Wait + Log + Clock + Send + Sync + Copy + Drop>(
     let (rng, draws) = generators(key);
     let beat = beat_of(&told);
     let ends_expelled = told.ends_expelled;
-    let mut host = LiveSettings::new(*rt, logged, config, told, listing);
+    let mut host = LiveSettings::new(*rt, logged, level, config, told, listing);
     let joins = host.joins_with(&node.peers());
     let joiner = Joiner::new(
         settings.me,
@@ -106,14 +108,18 @@ fn live<'a, T: Threads + Wait + Log + Clock + Send + Sync + Copy + Drop>(
 pub fn run<T: Threads + Wait + Log + Clock + Send + Sync + Copy + Drop>(
     rt: &HostRuntime,
     logged: &T,
+    level: &LogLevel,
     config: &str,
 ) -> Result<(), Ending> {
     let told = settings_at(rt, config)?;
+    log_from(level, told.log);
     let held = StateFile::lock(rt, told.file.as_str())?;
     let drawn = key_of(rt, told.random_key);
     let key = drawn.map_err(|error: io::Error| Ending::of(&error, Ending::File))?;
     let (waits, connections) = waits(rt, rt.alloc())?;
     let sockets = Sockets::bind(rt, logged, &waits, connections, &told)?;
     let listing = Mutex::new(Listing::new(told.join.as_slice()));
-    live(rt, logged, config, told, &listing, key, held, sockets)
+    live(
+        rt, logged, level, config, told, &listing, key, held, sockets,
+    )
 }

@@ -192,10 +192,10 @@ impl<'a, T: Threads + Log + Clock> Scribe<'a, T> {
 
     /// Records into the folder at this path from the next era on, of which so many recordings are kept; nothing without a path. What
     /// it was given before goes into the folder of then.
-    pub fn redirect(&mut self, files: HostRuntime, path: Option<&str>, kept: u64)
+    pub fn redirect(&mut self, path: Option<&str>, kept: u64)
         ensures { self.new.given ≡ self.old.given }
     {
-        self.folder = shared_folder(self.rt, files, path, kept);
+        self.folder = shared_folder(self.rt, self.files, path, kept);
         self.has_told = false;
     }
 

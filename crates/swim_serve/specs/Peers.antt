@@ -8,8 +8,8 @@ use Rattle.swim_state.specs.Held.{HasPeers}
 use Rattle.swim_node.specs.History.{state_after}
 use Rattle.swim_node.specs.Node.{NodeView, next_base}
 use Rattle.swim_node.specs.Peers.{known_peers}
-use Rattle.swim_serve.specs.declared.logs.PeersSave.{PeersSave}
-use Rattle.swim_serve.specs.declared.logs.PeersSave.TheVariants as peers
+use Rattle.swim_serve.specs.declared.era_saves.PeersSave.{PeersSave}
+use Rattle.swim_serve.specs.declared.era_saves.PeersSave.TheVariants as peers
 
 -- where an era ends so and nothing is saved, the next one begins so
 abbrev pub next_era : {D : Type 0} → NodeView D → NodeView D

@@ -4,11 +4,11 @@ ghost use Rattle.std.specs.Prelude.{◌≡◌};
 ghost use Rattle.swim_serve.specs.Desks.{IsHosted, desk_of};
 
 use crate::desk::Desk;
-use arrayvec::{ArrayString, ArrayVec};
+use arrayvec::ArrayVec;
 use log::Log;
 use std::time::Clock;
 use swim_recorder::{Keeper, Unkept};
-use swim_shell::{Answer, ControlEnd, Doors, LIST_MAX, Paces};
+use swim_shell::{Answer, ControlEnd, Doors, LIST_MAX, Paces, SETTINGS_REFUSED, answer_of};
 use swim_state::Peers;
 use swim_wire::Endpoint;
 
@@ -38,18 +38,13 @@ pub trait Host: Keeper {
         ensures relists { IfSome result (λ _. relists) };
 }
 
-/// What a member answers that has no settings to read again.
-const NO_SETTINGS: &str = "error 8 settings\n";
-
 impl Host for Unkept {
     ghost use Rattle.std.specs.Prelude.{◌≡◌};
 
     ghost relists = { ⊥ };
 
     fn reload(&mut self) -> Answer {
-        let mut answer = ArrayString::new();
-        let _ = answer.try_push_str(NO_SETTINGS);
-        answer
+        answer_of(SETTINGS_REFUSED)
     }
 
     fn joins(&mut self, _stored: &Peers) -> Option<Joins> {

@@ -11,6 +11,7 @@ mod crew;
 mod desk;
 mod ending;
 mod era;
+mod era_saves;
 mod gates;
 mod handle;
 mod host;

@@ -1,29 +1,21 @@
 //! What the workers of a member have logged and counted.
 
 ghost use Rattle.std.specs.Prelude.{◌≡◌, ◌∷◌, []};
-ghost use Rattle.swim_serve.specs.EraCounts.{with_era};
+ghost use Rattle.swim_serve.specs.EraCounts.{with_era, with_peers};
 
 use crate::call_log::CallLog;
+use crate::era_saves::{EraSaves, PeersSave};
 use crate::number_log::NumberLog;
 use swim_shell::ERA_COUNTS;
 use swim_wire::Endpoint;
-
-/// What became of the peers that a member knows where an era ended.
-#[derive(Clone, Copy, Debug, PartialEq, Eq)]
-pub(crate) enum PeersSave {
-    /// They stood in the state file.
-    Spared,
-    /// They were saved.
-    Done,
-    /// They could not be saved.
-    Failed,
-}
 
 /// What became of the eras of a member. A count stays at the greatest number.
 #[derive(Clone, Copy, Debug, PartialEq, Eq)]
 pub(crate) struct EraCounts {
     /// How many ended.
     ended: u64,
+    /// How many of their entries saved a number.
+    numbers: u64,
     /// How often peers were saved.
     saved: u64,
     /// How often they could not be.
@@ -35,14 +27,15 @@ impl EraCounts {
     fn new() -> EraCounts {
         EraCounts {
             ended: 0,
+            numbers: 0,
             saved: 0,
             unsaved: 0,
         }
     }
 
     /// Adds an era that ended, with what became of the peers.
-    fn add(&mut self, peers: PeersSave)
-        ensures { self.new ≡ with_era peers self.old }
+    fn add_peers(&mut self, peers: PeersSave)
+        ensures { self.new ≡ with_peers peers self.old }
     {
         self.ended = self.ended.saturating_add(1);
         match peers {
@@ -52,11 +45,20 @@ impl EraCounts {
         }
     }
 
+    /// Adds an era that ended, with what was saved.
+    fn add(&mut self, saves: EraSaves)
+        ensures { self.new ≡ with_era saves self.old }
+    {
+        self.add_peers(saves.peers);
+        self.numbers = self.numbers.saturating_add(saves.numbers);
+    }
+
     /// They, in the order in which they are shown.
     pub(crate) fn counts(&self) -> [u64; ERA_COUNTS]
-        ensures { result ≡ self.now.ended ∷ self.now.saved ∷ self.now.unsaved ∷ [] }
+        ensures { result ≡ self.now.ended ∷ self.now.numbers ∷ self.now.saved ∷ self.now.unsaved
+            ∷ [] }
     {
-        [self.ended, self.saved, self.unsaved]
+        [self.ended, self.numbers, self.saved, self.unsaved]
     }
 }
 
@@ -85,10 +87,10 @@ impl Logs {
         }
     }
 
-    /// Counts an era that ended, with what became of the peers.
-    pub(crate) fn end_era(&mut self, peers: PeersSave)
-        ensures { self.new ≡ record self.old { eras = with_era peers self.old.eras } }
+    /// Counts an era that ended, with what was saved.
+    pub(crate) fn end_era(&mut self, saves: EraSaves)
+        ensures { self.new ≡ record self.old { eras = with_era saves self.old.eras } }
     {
-        self.eras.add(peers);
+        self.eras.add(saves);
     }
 }

@@ -6,14 +6,15 @@ ghost use Rattle.swim_node.specs.Node.{next_base};
 ghost use Rattle.swim_recorder.specs.Handing.{begun_at, recorded};
 ghost use Rattle.swim_shell.specs.Ticks.{answers};
 ghost use Rattle.swim_serve.specs.Desks.{desk_of};
+ghost use Rattle.swim_serve.specs.EraCounts.{number_saves};
 ghost use Rattle.swim_serve.specs.Faults.{by_desk, by_receiver, by_refusal, fault_by, fault_of};
 ghost use Rattle.swim_serve.specs.Members.{Era, Lived, LivedBy, end_by_phase, member_end, member_of};
 ghost use Rattle.swim_serve.specs.Peers.{BecameOf, BeginsKept, HasKnown, KeepsPeers, next_era};
 ghost use Rattle.swim_serve.specs.Works.{receiver_of};
 
 use crate::era::{CALLERS, EraEnd, EraEnds, Outside, WATCHES, run_era};
+use crate::era_saves::{EraSaves, PeersSave, number_saves};
 use crate::host::{Host, ask_host};
-use crate::logs::PeersSave;
 use log::{Log, warn};
 use std::alloc::Global;
 use std::marker::Brand;
@@ -107,14 +108,14 @@ fn fault_of(ends: &EraEnds) -> Option<Fault>
 
 /// Ends an era of a node, and keeps the peers that the member knows then, if they are others than those that stand in the
 /// state file. A fault there is logged only: the member goes on, and its next save keeps the peers that it knows by then. The
-/// era is handed to its keeper, if that asked for its beginning. It tells what became of the peers.
+/// era is handed to its keeper, if that asked for its beginning. It tells what was saved, and what became of the peers.
 #[tactic(auto, using(crate::proofs::Keeping::keeps_peers, crate::proofs::Keeping::begins_kept))]
 fn end_era<D: Disk, T: Log, K: Keeper>(
     rt: &T,
     node: &mut Node<D>,
     beginning: Option<Beginning>,
     keeper: &mut K,
-) -> PeersSave
+) -> EraSaves
     requires { IfSome beginning (λ beginning. beginning ≡ begun_at node.old.base) }
     ensures given { IfSome beginning (λ _. K.given keeper.new
         ≡ K.given keeper.old ++ recorded node.old.base node.old.entries ∷ []) }
@@ -127,19 +128,23 @@ fn end_era<D: Disk, T: Log, K: Keeper>(
         → KeepsPeers D.keeps_model D.state (next_era node.old) node.new }
     ensures spared { HasKnown (next_era node.old) → node.new ≡ next_era node.old }
     ensures begins { BeginsKept node.new }
-    ensures told { BecameOf D.keeps_model D.state (next_era node.old) node.new result }
+    ensures numbers { result.numbers ≡ number_saves node.old.entries }
+    ensures told { BecameOf D.keeps_model D.state (next_era node.old) node.new result.peers }
 {
+    let numbers = number_saves(node.journal());
     hand_over(node, beginning, keeper);
-    if !node.has_other_peers() {
-        return PeersSave::Spared;
-    }
-    match node.keep_peers() {
-        Ok(()) => PeersSave::Done,
-        Err(fault) => {
-            warn!(rt; "keep refused {fault}");
-            PeersSave::Failed
+    let peers = if node.has_other_peers() {
+        match node.keep_peers() {
+            Ok(()) => PeersSave::Done,
+            Err(fault) => {
+                warn!(rt; "keep refused {fault}");
+                PeersSave::Failed
+            }
         }
-    }
+    } else {
+        PeersSave::Spared
+    };
+    EraSaves { numbers, peers }
 }
 
 /// An outbox with its ring, in which nothing waits.
@@ -193,8 +198,8 @@ fn one_era<
     if let Some(fault) = fault_of(&end.ends) {
         return Err(fault);
     }
-    let peers = end_era(rt, &mut end.node, beginning, keeper);
-    end.outside.logs.end_era(peers);
+    let saves = end_era(rt, &mut end.node, beginning, keeper);
+    end.outside.logs.end_era(saves);
     let was_full = end.ends.ticker == Some(Refusal::EraFull);
     end.outside.beat.repeat_if(was_full);
     Ok(end)

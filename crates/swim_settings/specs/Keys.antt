@@ -6,7 +6,7 @@ use Rattle.swim_settings.specs.declared.key.Key.TheVariants.{Preset, TickMs}
 use Rattle.swim_settings.specs.declared.key.Key.TheVariants.{Lambda, Period, Direct, Suspect}
 use Rattle.swim_settings.specs.declared.key.Key.TheVariants.{Forget, Helpers, Limit, Block, Rules}
 use Rattle.swim_settings.specs.declared.key.Key.TheVariants.{RandomKey, Join, Rejoin, Expelled}
-use Rattle.swim_settings.specs.declared.key.Key.TheVariants.{Record, RecordEras}
+use Rattle.swim_settings.specs.declared.key.Key.TheVariants.{Record, RecordEras, Log}
 
 -- the key as a file has it
 abbrev pub key_text : Key → List ℕ
@@ -31,12 +31,13 @@ key_text Rejoin = codes "rejoin"
 key_text Expelled = codes "expelled"
 key_text Record = codes "record"
 key_text RecordEras = codes "record_eras"
+key_text Log = codes "log"
 
 -- all keys, in the order in which a refused one is looked for
 abbrev pub keys : List Key
 keys = File ∷ Group ∷ Me ∷ Control ∷ Preset ∷ TickMs ∷ Lambda ∷ Period ∷ Direct ∷ Suspect ∷ Forget
     ∷ Helpers ∷ Limit ∷ Block ∷ Rules ∷ RandomKey ∷ Join ∷ Rejoin ∷ Expelled ∷ Record ∷ RecordEras
-    ∷ []
+    ∷ Log ∷ []
 
 -- how many keys come before it
 abbrev pub key_place : Key → ℕ
@@ -61,6 +62,7 @@ key_place Rejoin = 17
 key_place Expelled = 18
 key_place Record = 19
 key_place RecordEras = 20
+key_place Log = 21
 
 -- the keys before it
 abbrev pub keys_before : Key → List Key

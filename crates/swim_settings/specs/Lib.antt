@@ -1,4 +1,5 @@
 pub mod Keys
+pub mod Levels
 pub mod Presets
 pub mod Ranges
 pub mod Reloads

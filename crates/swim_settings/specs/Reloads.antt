@@ -14,6 +14,7 @@ is_taken_anew key.Join = true
 is_taken_anew key.Rejoin = true
 is_taken_anew key.Record = true
 is_taken_anew key.RecordEras = true
+is_taken_anew key.Log = true
 is_taken_anew _ = false
 
 -- what is in force after these settings were read again: theirs at the keys that are taken, and at
@@ -24,6 +25,7 @@ taken_anew now then = record now {
   rejoin = then.rejoin;
   record_folder = then.record_folder;
   record_eras = then.record_eras;
+  log = then.log;
 }
 
 -- the same number, or none twice

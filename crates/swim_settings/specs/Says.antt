@@ -19,6 +19,7 @@ use Rattle.swim_settings.specs.declared.key.Key.TheVariants.{RandomKey, Join, Re
 use Rattle.swim_settings.specs.declared.key.Key.TheVariants.{Record, RecordEras}
 use Rattle.swim_member.specs.declared.settings.TheConstants.{HELPERS_MAX, BLOCK_MAX}
 use Rattle.swim_member.specs.declared.settings.Settings.{Settings}
+use Rattle.swim_settings.specs.declared.level.Level.{Level}
 use Rattle.swim_settings.specs.declared.refusal.Refusal.{Refusal}
 use Rattle.swim_settings.specs.declared.refusal.Refusal.TheVariants as refusals
 use Rattle.swim_settings.specs.declared.settings.RunSettings.{RunSettings}
@@ -27,6 +28,7 @@ use Rattle.swim_settings.specs.declared.place.Place.TheVariants as place
 use Rattle.swim_settings.specs.declared.preset.Preset.{Preset}
 use Rattle.swim_settings.specs.declared.preset.Times.{Times}
 use Rattle.swim_settings.specs.Keys.{key_text, keys_before}
+use Rattle.swim_settings.specs.Levels.{level_text}
 use Rattle.swim_settings.specs.Presets.{preset_text, times_of}
 
 -- what stands at the key
@@ -97,6 +99,11 @@ abbrev pub IsPreset : Members → Option Preset → Type 0
 IsPreset table (Some preset) = text_at key.Preset table ≡ Some (preset_text preset)
 IsPreset table None = value_at key.Preset table ≡ None
 
+-- the level there; none where the table hasn't the key
+abbrev pub IsLevel : Members → Option Level → Type 0
+IsLevel table (Some level) = text_at key.Log table ≡ Some (level_text level)
+IsLevel table None = value_at key.Log table ≡ None
+
 -- the times of the preset there, or the usual ones
 abbrev pub AreTimes : Members → Times → Type 0
 AreTimes table times =
@@ -130,6 +137,7 @@ pub record Says (table : Members) (run : RunSettings) : Type 0 where
   pub expelled : EndsExpelled table run.ends_expelled
   pub record_folder : IsFolder Record table (option_map string_bytes run.record_folder)
   pub record_eras : IsNumber RecordEras 8 table run.record_eras
+  pub log : IsLevel table run.log
 
 -- the endpoint whose text is there
 abbrev pub IsEndpointAt : Key → Members → ℕ → Type 0
@@ -173,6 +181,7 @@ IsRefused Rejoin table = IsNoTime Rejoin (λ times. times.rejoin) 0 1000000 tabl
 IsRefused Expelled table = No (EndsExpelled table)
 IsRefused Record table = No (IsFolder Record table)
 IsRefused RecordEras table = No (IsWithin RecordEras 8 1 1000 table)
+IsRefused key.Log table = No (IsLevel table)
 IsRefused _ table = Unit
 
 -- the refusal is of the text, which is no TOML, or memory ran out
@@ -205,6 +214,7 @@ IsTaken Rejoin table = IsTime Rejoin (λ times. times.rejoin) 0 1000000 table
 IsTaken Expelled table = (is_end : Bool) × EndsExpelled table is_end
 IsTaken Record table = (folder : Option (List ℕ)) × IsFolder Record table folder
 IsTaken RecordEras table = (n : ℕ) × IsWithin RecordEras 8 1 1000 table n
+IsTaken key.Log table = (level : Option Level) × IsLevel table level
 IsTaken _ table = Unit
 
 -- all keys before the key have what they take

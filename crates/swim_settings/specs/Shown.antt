@@ -6,6 +6,7 @@ use Rattle.swim_words.specs.Words.{endpoint_text}
 use Rattle.swim_settings.specs.declared.key.Key.{Key}
 use Rattle.swim_settings.specs.declared.key.Key.TheVariants as key
 use Rattle.swim_settings.specs.declared.settings.RunSettings.{RunSettings}
+use Rattle.swim_settings.specs.Levels.{level_text}
 use Rattle.swim_settings.specs.Presets.{preset_text}
 use Rattle.swim_settings.specs.Says.{AreTexts}
 
@@ -32,6 +33,7 @@ shown_text key.File run = Some (string_bytes run.file)
 shown_text key.Preset run = option_map preset_text run.preset
 shown_text key.Expelled run = Some (if run.ends_expelled then codes "end" else codes "stay")
 shown_text key.Record run = option_map string_bytes run.record_folder
+shown_text key.Log run = option_map level_text run.log
 shown_text _ run = None
 
 -- what stands at the key says the setting. The generator's key does not stand there
@@ -45,4 +47,5 @@ ShowsSetting key.File run value = value ≡ option_map string (shown_text key.Fi
 ShowsSetting key.Preset run value = value ≡ option_map string (shown_text key.Preset run)
 ShowsSetting key.Expelled run value = value ≡ option_map string (shown_text key.Expelled run)
 ShowsSetting key.Record run value = value ≡ option_map string (shown_text key.Record run)
+ShowsSetting key.Log run value = value ≡ option_map string (shown_text key.Log run)
 ShowsSetting key run value = value ≡ option_map (λ n. integer (pos n)) (shown_number key run)

@@ -7,7 +7,7 @@ use crate::table::Keys;
 use std::fmt;
 
 /// How many keys there are.
-pub const KEYS: usize = 21;
+pub const KEYS: usize = 22;
 
 /// A key of a settings file.
 #[derive(Clone, Copy, Debug, PartialEq, Eq)]
@@ -54,6 +54,8 @@ pub enum Key {
     Record,
     /// How many recordings are kept there.
     RecordEras,
+    /// The least level of the lines of the log.
+    Log,
 }
 
 impl Key {
@@ -80,6 +82,7 @@ impl Key {
         Key::Expelled,
         Key::Record,
         Key::RecordEras,
+        Key::Log,
     ];
 
     /// The key as a file has it.
@@ -108,6 +111,7 @@ impl Key {
             Key::Expelled => "expelled",
             Key::Record => "record",
             Key::RecordEras => "record_eras",
+            Key::Log => "log",
         }
     }
 }

@@ -3,6 +3,7 @@
 #![tactic(auto)]
 
 mod key;
+mod level;
 mod place;
 mod preset;
 mod refusal;
@@ -13,6 +14,7 @@ mod table;
 mod value;
 
 pub use key::{KEYS, Key};
+pub use level::Level;
 pub use place::{HostName, Place};
 pub use preset::{Preset, Times};
 pub use refusal::Refusal;

@@ -14,7 +14,10 @@ use arrayvec::ArrayVec;
 fn is_taken_anew(key: Key) -> bool
     ensures { result ≡ is_taken_anew key }
 {
-    matches!(key, Key::Join | Key::Rejoin | Key::Record | Key::RecordEras)
+    matches!(
+        key,
+        Key::Join | Key::Rejoin | Key::Record | Key::RecordEras | Key::Log
+    )
 }
 
 /// Whether these are the same numbers.
@@ -127,5 +130,6 @@ impl RunSettings {
         self.rejoin = then.rejoin;
         self.record_folder = then.record_folder;
         self.record_eras = then.record_eras;
+        self.log = then.log;
     }
 }

@@ -10,13 +10,14 @@ ghost use Rattle.swim_settings.specs.Says.{AreTakenBefore, AreTimes, IsFolder, I
 ghost use Rattle.swim_settings.specs.declared.key.Key.TheVariants as keys;
 
 use crate::key::Key;
+use crate::level::Level;
 use crate::place::Place;
 use crate::preset::{Preset, Times};
 use crate::refusal::Refusal;
 use crate::table::{read_table, refuse_unknown};
 use crate::value::{
-    read_bytes, read_choice, read_endpoint_at, read_folder, read_number, read_places, read_preset,
-    read_text, read_within,
+    read_bytes, read_choice, read_endpoint_at, read_folder, read_level, read_number, read_places,
+    read_preset, read_text, read_within,
 };
 use arrayvec::ArrayVec;
 use std::alloc::Global;
@@ -54,6 +55,8 @@ pub struct RunSettings {
     pub record_folder: Option<String>,
     /// `record_eras`: how many recordings are kept there, 1 to 1,000.
     pub record_eras: u64,
+    /// `log`: the least level of the lines of the log, if the file names one.
+    pub log: Option<Level>,
 }
 
 /// What the member is told, with this group and endpoint, these times where the table has no others, and a block of 1 and
@@ -115,6 +118,7 @@ fn read_recording(alloc: Global, table: &Table) -> Result<(Option<String>, u64),
         IsFolder keys.Record (table_view table.now) (option_map string_bytes told.0)) }
     ensures eras { IfOk result (λ told. IsNumber keys.RecordEras 8 (table_view table.now) told.1) }
     ensures range { IfOk result (λ told. (1 ≤ told.1) × (told.1 ≤ 1000)) }
+    ensures taken { IfOk result (λ _. AreTakenBefore keys.Log (table_view table.now)) }
     ensures refused { IfErr result (IsOfKey (table_view table.now)) }
 {
     let named = read_folder(table, Key::Record)?;
@@ -147,6 +151,7 @@ fn read_keys(alloc: Global, table: &Table) -> Result<RunSettings, Refusal>
     let rejoin = read_within(table, Key::Rejoin, times.rejoin, 0, 1_000_000)?;
     let ends_expelled = read_choice(table, Key::Expelled, "stay", "end")?;
     let (record_folder, record_eras) = read_recording(alloc, table)?;
+    let log = read_level(table)?;
     Ok(RunSettings {
         file: String::from_str(alloc, file)?,
         settings,
@@ -160,6 +165,7 @@ fn read_keys(alloc: Global, table: &Table) -> Result<RunSettings, Refusal>
         ends_expelled,
         record_folder,
         record_eras,
+        log,
     })
 }
 

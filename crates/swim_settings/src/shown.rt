@@ -53,6 +53,10 @@ pub(crate) fn text_of<'a>(key: Key, run: &'a RunSettings) -> Option<&'a str>
         },
         Key::Expelled => Some(if run.ends_expelled { "end" } else { "stay" }),
         Key::Record => run.folder(),
+        Key::Log => match run.log {
+            Some(level) => Some(level.text()),
+            None => None,
+        },
         _ => None,
     }
 }

@@ -7,11 +7,12 @@ ghost use Rattle.toml.specs.Data.{as_str};
 ghost use Rattle.toml.specs.View.{view, items_view, table_view};
 ghost use Rattle.swim_wire.specs.Numbers.{IsEndpoint};
 ghost use Rattle.swim_words.specs.Words.{endpoint_text, No};
-ghost use Rattle.swim_settings.specs.Says.{value_at, text_at, number_at, IsNumber, IsWithin, IsEndpointAt, IsChoice, IsFolder, IsPreset, AreBytes, AreTexts, ArePlaces};
+ghost use Rattle.swim_settings.specs.Says.{value_at, text_at, number_at, IsNumber, IsWithin, IsEndpointAt, IsChoice, IsFolder, IsLevel, IsPreset, AreBytes, AreTexts, ArePlaces};
 ghost use Rattle.swim_settings.specs.declared.key.Key.TheVariants as keys;
 ghost use Rattle.swim_settings.specs.declared.refusal.Refusal.TheVariants as refusals;
 
 use crate::key::Key;
+use crate::level::Level;
 use crate::place::{Place, as_place};
 use crate::preset::Preset;
 use crate::refusal::Refusal;
@@ -134,6 +135,22 @@ pub(crate) fn read_preset(table: &Table) -> Result<Option<Preset>, Refusal>
     match Preset::of(text.as_bytes()) {
         Some(preset) => Ok(Some(preset)),
         None => Err(Refusal::Key(Key::Preset)),
+    }
+}
+
+/// The level of a table; none where the key isn't there.
+pub(crate) fn read_level(table: &Table) -> Result<Option<Level>, Refusal>
+    ensures level { IfOk result (IsLevel (table_view table.now)) }
+    ensures none { IfErr result (λ refusal. (refusal ≡ refusals.Key keys.Log)
+        × No (IsLevel (table_view table.now))) }
+{
+    if find(table, Key::Log).is_none() {
+        return Ok(None);
+    }
+    let text = read_text(table, Key::Log)?;
+    match Level::of(text.as_bytes()) {
+        Some(level) => Ok(Some(level)),
+        None => Err(Refusal::Key(Key::Log)),
     }
 }
 

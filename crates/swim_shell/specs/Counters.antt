@@ -14,6 +14,7 @@ counter_at place = get_or ALL place (counter.Noted OtherVersion)
 -- the name of a counter, which is that of the note where it counts notes
 abbrev pub counter_name : Counter → List ℕ
 counter_name counter.Eras = codes "eras"
+counter_name counter.NumberSaves = codes "number_saves"
 counter_name counter.PeerSaves = codes "peer_saves"
 counter_name counter.PeerSavesFailed = codes "peer_saves_failed"
 counter_name counter.Entries = codes "entries"

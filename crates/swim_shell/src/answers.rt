@@ -19,6 +19,9 @@ pub const ANSWER_MAX: usize = 2048;
 /// The text of an answer.
 pub type Answer = ArrayString<ANSWER_MAX>;
 
+/// The answer to the line `reload` where the settings cannot be read again.
+pub const SETTINGS_REFUSED: &str = "error 8 settings\n";
+
 /// Adds a text, where it fits.
 pub(crate) fn add_text(answer: &mut Answer, text: &str)
     ensures { length answer.old.bytes + length text.now ≤ ANSWER_MAX
@@ -26,6 +29,15 @@ pub(crate) fn add_text(answer: &mut Answer, text: &str)
         ++ text.now }
 {
     let _ = answer.try_push_str(text);
+}
+
+/// A text as an answer, where it fits.
+pub fn answer_of(text: &str) -> Answer
+    ensures { length text.now ≤ ANSWER_MAX → result.bytes ≡ text.now }
+{
+    let mut answer = ArrayString::new();
+    add_text(&mut answer, text);
+    answer
 }
 
 /// Adds the line of a status up to the members that are held for alive, where it fits.

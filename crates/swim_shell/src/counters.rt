@@ -10,7 +10,7 @@ use swim_member::Note;
 use swim_wire::WireFault;
 
 /// How many counters there are of eras.
-pub const ERA_COUNTS: usize = 3;
+pub const ERA_COUNTS: usize = 4;
 
 /// The place of the first counter of notes.
 pub const NOTES_FROM: usize = ERA_COUNTS + CALL_COUNTS;
@@ -23,6 +23,8 @@ pub const COUNTERS: usize = NOTES_FROM + NOTE_KINDS;
 pub enum Counter {
     /// The eras that ended.
     Eras,
+    /// The numbers that were saved in eras that ended.
+    NumberSaves,
     /// The saves of the known peers at the end of an era.
     PeerSaves,
     /// Those that failed.
@@ -50,6 +52,7 @@ pub enum Counter {
 /// Those of eras, of calls, and of notes by their numbers, each at its place.
 const ALL: [Counter; COUNTERS] = [
     Counter::Eras,
+    Counter::NumberSaves,
     Counter::PeerSaves,
     Counter::PeerSavesFailed,
     Counter::Entries,
@@ -98,6 +101,7 @@ impl Counter {
     {
         match self {
             Counter::Eras => "eras",
+            Counter::NumberSaves => "number_saves",
             Counter::PeerSaves => "peer_saves",
             Counter::PeerSavesFailed => "peer_saves_failed",
             Counter::Entries => "entries",

@@ -27,7 +27,7 @@ mod ticker;
 mod worker;
 
 pub use alarm::{Alarm, Alarmed};
-pub use answers::{ANSWER_MAX, Answer};
+pub use answers::{ANSWER_MAX, Answer, SETTINGS_REFUSED, answer_of};
 pub use arrival::Arrival;
 pub use caller::{Caller, Observer, Refusal};
 pub use conversation::{ControlEnd, Conversation};

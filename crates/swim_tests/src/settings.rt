@@ -3,7 +3,9 @@
 use crate::same::{holds, same, same_at};
 use std::alloc::{AllocError, Global};
 use std::test::Fail;
-use swim_settings::{Key, Place, RunSettings, Times, read_settings, restart_keys, show_settings};
+use swim_settings::{
+    Key, Level, Place, RunSettings, Times, read_settings, restart_keys, show_settings,
+};
 use swim_wire::Endpoint;
 
 /// What a file has to have at least, the first lines of each file below.
@@ -181,6 +183,7 @@ fn defaults(rt: HostRuntime) -> Result<(), Fail> {
         ends_expelled,
         record_folder,
         record_eras,
+        log,
     } = read_settings(rt.alloc(), text.as_bytes())?;
     same(&rt, file.as_str(), "s");
     same(&rt, settings.group, 7);
@@ -203,6 +206,7 @@ fn defaults(rt: HostRuntime) -> Result<(), Fail> {
     holds(&rt, !ends_expelled);
     holds(&rt, record_folder.is_none());
     same(&rt, record_eras, 8);
+    holds(&rt, log.is_none());
     Ok(())
 }
 
@@ -210,7 +214,7 @@ fn defaults(rt: HostRuntime) -> Result<(), Fail> {
 fn every_key(rt: HostRuntime) -> Result<(), Fail> {
     let lines = "tick_ms = 20\nlambda = 5\nperiod = 8\ndirect = 7\nsuspect = 90\nforget = 400
 helpers = 0\nlimit = 20\nblock = 64\nrules = 2\nrejoin = 90\nexpelled = 'end'
-record = 'eras'\nrecord_eras = 3
+record = 'eras'\nrecord_eras = 3\nlog = 'debug'
 join = ['10.0.0.2:7000', '10.0.0.3:7001']
 random_key = '000102030405060708090a0b0c0d0e0f101112131415161718191A1B1C1D1E1F'\n";
     let text = file_with(rt.alloc(), "join", lines)?;
@@ -232,6 +236,7 @@ random_key = '000102030405060708090a0b0c0d0e0f101112131415161718191A1B1C1D1E1F'\
     same(&rt, run.rejoin, 90);
     holds(&rt, run.ends_expelled);
     same(&rt, run.record_eras, 3);
+    holds(&rt, run.log == Some(Level::Debug));
     let folder = run.record_folder.unwrap_or(String::new(rt.alloc()));
     same(&rt, folder.as_str(), "eras");
     same(&rt, run.join.len(), 2);

@@ -17,8 +17,9 @@ struct Talk {
 }
 
 /// The longest answer to `counters`, and that to `status`.
-const COUNTED: &[u8] = b"ok 29
+const COUNTED: &[u8] = b"ok 30
 eras 18446744073709551615
+number_saves 18446744073709551615
 peer_saves 18446744073709551615
 peer_saves_failed 18446744073709551615
 entries 18446744073709551615

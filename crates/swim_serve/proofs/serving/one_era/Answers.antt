@@ -10,8 +10,8 @@ use Rattle.swim_serve.specs.Works.{receiver_of}
 use Rattle.swim_serve.proofs.serving.one_era.Goals as goal
 
 -- the era that ends is the one whose beginning was read
-pub end_era-peers-requires : goal.end_era-peers-requires
-end_era-peers-requires g c =
+pub end_era-saves-requires : goal.end_era-saves-requires
+end_era-saves-requires g c =
     let began = c.begin-beginning in
     subst (λ b. IfSome began.result (λ beginning. beginning ≡ begun_at b)) (sym c.in-Ok.ensures.base) (subst (λ n. IfSome began.result (λ beginning. beginning ≡ begun_at n.base)) (sym c.new-parts.ensures.node) began.ensures)
 
@@ -20,8 +20,8 @@ returns-clause-era g c =
     let end = c.in-Ok.end in
     let outside = c.args.outside in
     let came = receiver_of g.I.Inbound.came g.I.Inbound.failures in
-    let goes_on = subst (λ b. IsRaised (next_base b end.node.entries) c.end_era-peers.new.node.base) c.in-Ok.ensures.base c.end_era-peers.ensures.base in
-    subst (λ n. Era g.I.Inbound.tells g.M.Link.tells g.M.Link.took g.M.Link.failures g.O.Reader.Read.remaining g.O.Writer.Write.contents (member_of n.base (came outside.receiver) (answers outside.ticker.rng) outside.link outside.owed (desk_of outside.desk.joiner outside.desk.conversation outside.desk.others)) (member_of c.end_era-peers.new.node.base (came end.outside.receiver) (answers end.outside.ticker.rng) end.outside.link end.outside.owed (desk_of end.outside.desk.joiner end.outside.desk.conversation end.outside.desk.others)) end.ends) c.new-parts.ensures.node (record {
+    let goes_on = subst (λ b. IsRaised (next_base b end.node.entries) c.end_era-saves.new.node.base) c.in-Ok.ensures.base c.end_era-saves.ensures.base in
+    subst (λ n. Era g.I.Inbound.tells g.M.Link.tells g.M.Link.took g.M.Link.failures g.O.Reader.Read.remaining g.O.Writer.Write.contents (member_of n.base (came outside.receiver) (answers outside.ticker.rng) outside.link outside.owed (desk_of outside.desk.joiner outside.desk.conversation outside.desk.others)) (member_of c.end_era-saves.new.node.base (came end.outside.receiver) (answers end.outside.ticker.rng) end.outside.link end.outside.owed (desk_of end.outside.desk.joiner end.outside.desk.conversation end.outside.desk.others)) end.ends) c.new-parts.ensures.node (record {
       odd = end.odd;
       journal = end.node.entries;
       legal = c.in-Ok.ensures.legal;

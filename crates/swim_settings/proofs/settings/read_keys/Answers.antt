@@ -48,6 +48,11 @@ read_recording-requires c =
     let to_rejoin = AreTaken-push t (keys_before keys.Rejoin) keys.Rejoin to_join (c.of-times.result, rejoin.rejoin, (c.in_ok-preset.preset, c.in_ok-preset.ensures.preset, c.of-times.ensures), (rejoin.ensures.number, rejoin.ensures.range.0, rejoin.ensures.range.1)) in
     AreTaken-push t (keys_before keys.Expelled) keys.Expelled to_rejoin (ends.ends_expelled, ends.ensures.choice)
 
+pub returns-in_err-log-clause-refused : goal.returns-in_err-log-clause-refused
+returns-in_err-log-clause-refused c =
+    let fault = err_from_is_err_and c.from_residual-in_err-log.result c.from_residual-in_err-log.ensures.1 in
+    rw (fault.1, fault.2, c.in_err-log.ensures.none.0) (c.in_ok-record_folder.ensures.taken, c.in_err-log.ensures.none.1)
+
 pub returns-clause-said : goal.returns-clause-said
 returns-clause-said c =
     let member = c.in_ok-member.ensures.said in
@@ -75,4 +80,5 @@ returns-clause-said c =
       expelled = c.in_ok-ends_expelled.ensures.choice;
       record_folder = c.in_ok-record_folder.ensures.folder;
       record_eras = c.in_ok-record_folder.ensures.eras;
+      log = c.in_ok-log.ensures.level;
     }

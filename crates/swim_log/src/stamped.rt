@@ -1,17 +1,14 @@
 //! The log on standard error.
 
-use crate::log_stream::LogStream;
+use crate::level::LogLevel;
+use crate::stream::LogStream;
 use jiff::Timestamp;
 use log::kv::Source;
 use log::span::Spans;
-use log::{LevelFilter, Line, Log, Metadata, Record};
-use std::env;
+use log::{Line, Log, Metadata, Record};
 use std::fmt::{self, Display, Formatter};
-use std::rt::{Clock, Env};
+use std::rt::Clock;
 use std::sync::Wait;
-
-/// The environment variable that names the least level that is logged.
-const LEVEL_VARIABLE: &str = "SWIM_LOG";
 
 /// Writes each record to standard error in one write, with the time before it. A record that standard error does not take at
 /// once is left out, and the next one says how many were.
@@ -19,12 +16,13 @@ const LEVEL_VARIABLE: &str = "SWIM_LOG";
 pub struct Stamped<'a, R> {
     rt: R,
     stream: &'a LogStream,
+    level: &'a LogLevel,
 }
 
 impl<'a, R> Stamped<'a, R> {
-    /// A log on this stream.
-    pub fn new(rt: R, stream: &'a LogStream) -> Stamped<'a, R> {
-        Stamped { rt, stream }
+    /// A log on this stream, of the lines of this level and above.
+    pub fn new(rt: R, stream: &'a LogStream, level: &'a LogLevel) -> Stamped<'a, R> {
+        Stamped { rt, stream, level }
     }
 }
 
@@ -45,11 +43,14 @@ impl Display for LeftOut {
 }
 
 impl<'a, R: Eprint + Clock + Wait> Log for Stamped<'a, R> {
-    fn enabled(&self, _metadata: &Metadata<'_>) -> bool {
-        true
+    fn enabled(&self, metadata: &Metadata<'_>) -> bool {
+        self.level.allows(metadata.level())
     }
 
     fn log<D: Display, K: Source, S: Spans>(&self, record: &Record<'_, D, K, S>) {
+        if !self.level.allows(record.level()) {
+            return;
+        }
         let mut stream = self.stream.lock(&self.rt);
         if !stream.takes_line() {
             return;
@@ -67,16 +68,5 @@ impl<'a, R: Eprint + Clock + Wait> Log for Stamped<'a, R> {
 
     fn target(&self) -> &str {
         ""
-    }
-}
-
-/// The level that the environment variable `SWIM_LOG` names; warn where it names none.
-pub fn level<R: Env + Alloc>(rt: &R) -> LevelFilter {
-    match env::var(rt, LEVEL_VARIABLE) {
-        Ok(text) => text
-            .as_str()
-            .parse::<LevelFilter>()
-            .unwrap_or(LevelFilter::Warn),
-        Err(_) => LevelFilter::Warn,
     }
 }
