@@ -9,10 +9,10 @@ use Rattle.swim_shell.proofs.Counting.{lines_from-taken}
 
 -- an answer of these lines, and what is left of it
 abbrev pub read_so_far : List ℕ → List ℕ → List ℕ
-read_so_far lines left = codes "ok " ++ (decimal 29 ++ (codes "\n" ++ (lines ++ left)))
+read_so_far lines left = codes "ok " ++ (decimal 30 ++ (codes "\n" ++ (lines ++ left)))
 
 -- no line was read yet
-pub none_read : (answer left : List ℕ) (values : List ℕ) (lines : ℕ) → lines ≡ 29 → answer ≡ (codes "ok" ++ 32 ∷ decimal lines) ++ 10 ∷ left → answer ≡ read_so_far (lines_from counter_line 0 (take 0 values)) left
+pub none_read : (answer left : List ℕ) (values : List ℕ) (lines : ℕ) → lines ≡ 30 → answer ≡ (codes "ok" ++ 32 ∷ decimal lines) ++ 10 ∷ left → answer ≡ read_so_far (lines_from counter_line 0 (take 0 values)) left
 none_read answer left values lines is read = read ∙ ap (λ n. codes "ok " ++ (decimal n ++ 10 ∷ left)) is
 
 -- the words of a line are its text
@@ -34,7 +34,7 @@ one_read answer left rest name values place count less so_far read is =
     ∙ lines_from-taken counter_line 0 place values count less
     ∙ ap (λ k. lines ++ counter_line (counter_at k) count) here in
     so_far
-    ∙ ap (λ w. codes "ok " ++ (decimal 29 ++ (codes "\n" ++ w))) (ap (λ w. lines ++ w) now ∙ sym (append_assoc lines line rest) ∙ ap (λ w. w ++ rest) (sym more))
+    ∙ ap (λ w. codes "ok " ++ (decimal 30 ++ (codes "\n" ++ w))) (ap (λ w. lines ++ w) now ∙ sym (append_assoc lines line rest) ∙ ap (λ w. w ++ rest) (sym more))
 
 -- all lines were read, and nothing is left
 pub all_read : (answer left : List ℕ) (values : List ℕ) (place : ℕ) → place ≡ length values → left ≡ [] → answer ≡ read_so_far (lines_from counter_line 0 (take place values)) left → answer ≡ counters_text values
@@ -42,4 +42,4 @@ all_read answer left values place whole end so_far =
     let lines : lines_from counter_line 0 (take place values) ≡ lines_from counter_line 0 values =
     ap (λ w. lines_from counter_line 0 w) (ap (λ n. take n values) whole ∙ take-length values) in
     so_far
-    ∙ ap (λ w. codes "ok " ++ (decimal 29 ++ (codes "\n" ++ w))) (ap (λ w. lines_from counter_line 0 (take place values) ++ w) end ∙ append-nil (lines_from counter_line 0 (take place values)) ∙ lines)
+    ∙ ap (λ w. codes "ok " ++ (decimal 30 ++ (codes "\n" ++ w))) (ap (λ w. lines_from counter_line 0 (take place values) ++ w) end ∙ append-nil (lines_from counter_line 0 (take place values)) ∙ lines)

@@ -39,6 +39,20 @@ fn file_owner() -> Owner {
     }
 }
 
+/// What is timed over a new state file on this disk, or none where that can't be made.
+fn begin(alloc: Global, disk: FileDisk, block: Option<u64>) -> Option<Timed> {
+    match block {
+        None => match recover(disk, file_owner()) {
+            Ok(store) => Some(Timed::Saves(store)),
+            Err(_) => None,
+        },
+        Some(block) => match open(alloc, disk, file_owner(), block) {
+            Some(node) => Some(Timed::Refutations(node)),
+            None => None,
+        },
+    }
+}
+
 /// What is timed over a new file at this path, or none where that can't be made.
 fn make<R: Files<File = File>>(
     rt: &R,
@@ -47,10 +61,9 @@ fn make<R: Files<File = File>>(
     block: Option<u64>,
 ) -> Option<Timed> {
     let mut disk = FileDisk::create(alloc, rt, path).ok()?;
-    init(&mut disk, file_owner(), 0).ok()?;
-    match block {
-        None => Some(Timed::Saves(recover(disk, file_owner()).ok()?)),
-        Some(block) => Some(Timed::Refutations(open(alloc, disk, file_owner(), block)?)),
+    match init(&mut disk, file_owner(), 0) {
+        Ok(()) => begin(alloc, disk, block),
+        Err(_) => None,
     }
 }
 
@@ -73,28 +86,57 @@ fn time<R: Clock>(rt: &R, timed: &mut Timed, count: u32) -> io::Result<Option<u1
     Ok(is_done.then_some(nanos))
 }
 
-fn main(rt: HostRuntime) -> io::Result<ExitCode> {
-    let mut words = env::args(&rt)?;
+/// Times the turns that a line asks for, and prints their nanoseconds. False where it is refused, or a turn wasn't done.
+fn time_line<R: Clock + Print>(rt: &R, timed: &mut Timed, line: &str) -> io::Result<bool> {
+    let Ok(count) = line.parse::<u32>() else {
+        return Ok(false);
+    };
+    let Some(nanos) = time(rt, timed, count)? else {
+        return Ok(false);
+    };
+    println!(rt; "{nanos}")?;
+    Ok(true)
+}
+
+/// Times what each line of standard input asks for, until one is refused.
+fn time_lines(rt: &HostRuntime, timed: &mut Timed) -> io::Result<bool> {
+    for line in rt.stdin().lines(rt.alloc()) {
+        if !time_line(rt, timed, line?.as_str())? {
+            return Ok(false);
+        }
+    }
+    Ok(true)
+}
+
+/// The file and the block that the words name; none where they name no file.
+fn read_words(rt: &HostRuntime) -> io::Result<Option<(String, Option<u64>)>> {
+    let mut words = env::args(rt)?;
     let _ = words.next();
     let Some(path) = words.next() else {
-        eprintln!(rt; "usage: swim_bench_save FILE [BLOCK] < COUNTS")?;
-        return Ok(ExitCode::from(REFUSED));
+        return Ok(None);
     };
     let block = words
         .next()
         .and_then(|word| word.as_str().parse::<u64>().ok());
-    let Some(mut timed) = make(&rt, rt.alloc(), path.as_str(), block) else {
-        eprintln!(rt; "swim_bench_save: the file can't be made")?;
-        return Ok(ExitCode::from(REFUSED));
-    };
-    for line in rt.stdin().lines(rt.alloc()) {
-        let Ok(count) = line?.as_str().parse::<u32>() else {
-            return Ok(ExitCode::from(REFUSED));
-        };
-        match time(&rt, &mut timed, count)? {
-            Some(nanos) => println!(rt; "{nanos}")?,
-            None => return Ok(ExitCode::from(REFUSED)),
+    Ok(Some((path, block)))
+}
+
+/// Times over a new file what the lines ask for. False where the file can't be made, or a line is refused.
+fn run(rt: &HostRuntime, path: &str, block: Option<u64>) -> io::Result<bool> {
+    match make(rt, rt.alloc(), path, block) {
+        Some(mut timed) => time_lines(rt, &mut timed),
+        None => {
+            eprintln!(rt; "swim_bench_save: the file can't be made")?;
+            Ok(false)
         }
     }
-    Ok(ExitCode::from(0))
+}
+
+fn main(rt: HostRuntime) -> io::Result<ExitCode> {
+    let Some((path, block)) = read_words(&rt)? else {
+        eprintln!(rt; "usage: swim_bench_save FILE [BLOCK] < COUNTS")?;
+        return Ok(ExitCode::from(REFUSED));
+    };
+    let is_done = run(&rt, path.as_str(), block)?;
+    Ok(ExitCode::from(if is_done { 0 } else { REFUSED }))
 }

@@ -1,6 +1,6 @@
 //! Ranks, spreads, and small pictures.
 
-use crate::same::{holds_at, same, same_at};
+use crate::same::{given, holds_at, same, same_at};
 use std::test::Fail;
 use swim_charts::{
     Curve, Drawing, Spread, Tally, Thousandths, Tiles, Views, of_hundred, spread_of,
@@ -27,7 +27,7 @@ fn ranks_are_the_nearest(rt: HostRuntime) {
 
 #[test]
 fn a_spread_has_its_ends_and_its_middle(rt: HostRuntime) -> Result<(), Fail> {
-    let values = vec![in rt.alloc(); 9, 2, 7, 4]?;
+    let values = given(&rt, vec![in rt.alloc(); 9, 2, 7, 4]);
     let found = Spread {
         least: 2,
         median: 4,
@@ -40,7 +40,10 @@ fn a_spread_has_its_ends_and_its_middle(rt: HostRuntime) -> Result<(), Fail> {
 
 #[test]
 fn thousandths_have_three_decimals(rt: HostRuntime) -> Result<(), Fail> {
-    let text = format!(in rt.alloc(); "{} {}", Thousandths(7), Thousandths(12_340))?;
+    let text = given(
+        &rt,
+        format!(in rt.alloc(); "{} {}", Thousandths(7), Thousandths(12_340)),
+    );
     same(&rt, text.as_str(), "0.007 12.340");
     Ok(())
 }
@@ -58,14 +61,17 @@ fn tally(alive: u64, failed: u64) -> Tally {
 
 #[test]
 fn views_are_rectangles_as_long_as_they_last(rt: HostRuntime) -> Result<(), Fail> {
-    let tallies = vec![in rt.alloc(); tally(2, 0), tally(2, 0), tally(1, 1)]?;
+    let tallies = given(
+        &rt,
+        vec![in rt.alloc(); tally(2, 0), tally(2, 0), tally(1, 1)],
+    );
     let views = Views {
         members: 1,
         tallies,
     };
     let mut drawing = Drawing::new(rt.alloc());
-    drawing.views(rt.alloc(), &views, 3000)?;
-    let text = drawing.end(rt.alloc())?;
+    given(&rt, drawing.views(rt.alloc(), &views, 3000));
+    let text = given(&rt, drawing.end(rt.alloc()));
     let rows = [
         // two moments of three, all of a row of 14; then each half of it
         "<rect class=\"alive\" x=\"80\" y=\"30\" width=\"600\" height=\"14\"/>\n",
@@ -86,8 +92,8 @@ fn curves_go_up_at_their_values(rt: HostRuntime) -> Result<(), Fail> {
         sorted: vec![in rt.alloc(); 1000, 2000]?,
     };
     let mut drawing = Drawing::new(rt.alloc());
-    drawing.curves(rt.alloc(), &[curve])?;
-    let text = drawing.end(rt.alloc())?;
+    given(&rt, drawing.curves(rt.alloc(), &[curve]));
+    let text = given(&rt, drawing.end(rt.alloc()));
     // half of them at half of the way
     holds_at(&rt, &text, text.as_str().contains("H530V130H980V128"));
     Ok(())
@@ -105,8 +111,8 @@ fn the_greatest_tile_is_the_deepest(rt: HostRuntime) -> Result<(), Fail> {
         cells: vec![in alloc; Some(500), Some(1000)]?,
     };
     let mut drawing = Drawing::new(alloc);
-    drawing.tiles(alloc, &tiles)?;
-    let text = drawing.end(alloc)?;
+    given(&rt, drawing.tiles(alloc, &tiles));
+    let text = given(&rt, drawing.end(alloc));
     for row in ["\"0.35\"", "\"0.70\"", ">0.500<", ">1.000<"] {
         holds_at(&rt, &text, text.as_str().contains(row));
     }

@@ -1,7 +1,7 @@
 //! How the tests compare. A comparison in a function of its own costs its caller a call, and no more: written out as
 //! `assert_eq!` it takes the prover a second or two at each place. A library may end no process, so each crate of tests has its own.
 
-ghost use Rattle.std.specs.Prelude.{◌≡◌, true};
+ghost use Rattle.std.specs.Prelude.{◌≡◌, true, Ok};
 
 use std::fmt::Debug;
 use std::process::Abort;
@@ -33,4 +33,12 @@ pub(crate) fn holds_at<R: Debug>(rt: &impl Abort, row: &R, is: bool)
     ensures { is ≡ true }
 {
     assert!(rt; is, "{row:?}");
+}
+
+/// What a call gave. It stops the test where the call refused: an early end of the test would cost the prover far more, since the test
+/// holds what it has made so far.
+pub(crate) fn given<T, E: Drop>(rt: &impl Abort, answer: Result<T, E>) -> T
+    ensures { answer ≡ Ok result }
+{
+    answer.ok().expect(rt, "an answer")
 }

@@ -2,7 +2,7 @@
 
 ghost use Rattle.std.specs.Prelude.{◌<◌};
 
-use crate::same::{holds, holds_at, same, same_at};
+use crate::same::{given, holds, holds_at, same, same_at};
 use arrayvec::ArrayVec;
 use std::alloc::{AllocError, Global};
 use std::test::Fail;
@@ -36,7 +36,7 @@ fn plans_are_refused_by_key(rt: HostRuntime) -> Result<(), Fail> {
         ("members", "toml"),
     ];
     for (text, refusal) in rows {
-        let found = refusal_of(rt.alloc(), text)?;
+        let found = given(&rt, refusal_of(rt.alloc(), text));
         same_at(&rt, &text, found.as_str(), refusal);
     }
     Ok(())
@@ -69,7 +69,7 @@ fn a_plan_takes_another_number_in_its_range(rt: HostRuntime) {
 #[test]
 fn who_is_killed_is_confirmed(rt: HostRuntime) -> Result<(), Fail> {
     let text = b"members = 5\nminutes = 1\nloss = 0\nkills = 1\n";
-    let plan = Plan::read(rt.alloc(), text)?;
+    let plan = given(&rt, Plan::read(rt.alloc(), text));
     let measures = simulate(rt.alloc(), &plan, 1, 0)?.measures;
     same(&rt, measures.kills.len(), 1);
     same(&rt, measures.counts.lost, 0);
@@ -88,8 +88,8 @@ fn who_is_killed_is_confirmed(rt: HostRuntime) -> Result<(), Fail> {
 #[test]
 fn who_is_opened_again_is_agreed_on(rt: HostRuntime) -> Result<(), Fail> {
     let text = b"members = 5\nminutes = 1\nloss = 0\nkills = 1\nrules = 2\nrestart_after = 100\n";
-    let plan = Plan::read(rt.alloc(), text)?;
-    let done = simulate(rt.alloc(), &plan, 1, 60)?;
+    let plan = given(&rt, Plan::read(rt.alloc(), text));
+    let done = given(&rt, simulate(rt.alloc(), &plan, 1, 60));
     same(&rt, done.stop, None);
     // sixty moments of five members
     same(&rt, done.history.len(), 300);
@@ -104,7 +104,7 @@ fn who_is_opened_again_is_agreed_on(rt: HostRuntime) -> Result<(), Fail> {
 #[test]
 fn who_is_paused_is_suspected_and_comes_back(rt: HostRuntime) -> Result<(), Fail> {
     let text = b"members = 5\nminutes = 1\nloss = 0\nkills = 0\npauses = 1\npause_for = 20\n";
-    let plan = Plan::read(rt.alloc(), text)?;
+    let plan = given(&rt, Plan::read(rt.alloc(), text));
     let counts = simulate(rt.alloc(), &plan, 1, 0)?.measures.counts;
     same(&rt, counts.pauses, 1);
     holds_at(&rt, &counts, counts.suspicions > 0 && counts.confirms == 0);
@@ -137,10 +137,10 @@ fn ping_that_says(who: usize, number: u64) -> Datagram
 #[test]
 fn a_number_that_nobody_told_breaks_the_law(rt: HostRuntime) -> Result<(), Fail> {
     let mut law = Law::new(rt.alloc());
-    law.look(6, &ping_that_says(0, 5))?;
+    given(&rt, law.look(6, &ping_that_says(0, 5)));
     same(&rt, law.stop(), None);
-    law.look(7, &ping_that_says(1, 5))?;
-    law.look(8, &ping_that_says(2, 5))?;
+    given(&rt, law.look(7, &ping_that_says(1, 5)));
+    given(&rt, law.look(8, &ping_that_says(2, 5)));
     // the first one counts
     let found = law
         .stop()

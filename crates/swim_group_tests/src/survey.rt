@@ -1,6 +1,6 @@
 //! What is printed of small runs, sweeps, and plans that are made smaller.
 
-use crate::same::{holds, holds_at, same, same_at};
+use crate::same::{given, holds, holds_at, same, same_at};
 use std::alloc::{AllocError, Global};
 use std::test::Fail;
 use swim_group::Breach;
@@ -86,7 +86,7 @@ fn a_row_has_six_numbers_or_its_step(rt: HostRuntime) -> Result<(), Fail> {
         (span(20, 99, Some(40)), &[20, 60]),
     ];
     for (span, numbers) in rows {
-        let found = numbers_of(rt.alloc(), span)?;
+        let found = given(&rt, numbers_of(rt.alloc(), span));
         same(&rt, found.as_slice(), numbers);
     }
     Ok(())
@@ -118,7 +118,7 @@ fn sweeps_are_refused_by_name(rt: HostRuntime) -> Result<(), Fail> {
         ("suspect=1..200/1,loss=0..100/1", "loss"),
     ];
     for (text, refusal) in rows {
-        let found = refusal_of(rt.alloc(), text)?;
+        let found = given(&rt, refusal_of(rt.alloc(), text));
         same_at(&rt, &text, found.as_str(), refusal);
     }
     Ok(())
@@ -144,7 +144,7 @@ fn plans_are_refused_with_their_line(rt: HostRuntime) -> Result<(), Fail> {
         ("loss", "toml"),
     ];
     for (text, refusal) in rows {
-        let found = placed_refusal_of(rt.alloc(), text)?;
+        let found = given(&rt, placed_refusal_of(rt.alloc(), text));
         same_at(&rt, &text, found.as_str(), refusal);
     }
     Ok(())
@@ -153,8 +153,11 @@ fn plans_are_refused_with_their_line(rt: HostRuntime) -> Result<(), Fail> {
 #[test]
 fn a_sweep_has_a_line_for_each_choice(rt: HostRuntime) -> Result<(), Fail> {
     let alloc = rt.alloc();
-    let plan = Plan::read(alloc, b"members = 3\nminutes = 1\nkills = 1\n")?;
-    let sweep = Sweep::read(alloc, "suspect=20..40/20,loss=0..10/10")?;
+    let plan = given(
+        &rt,
+        Plan::read(alloc, b"members = 3\nminutes = 1\nkills = 1\n"),
+    );
+    let sweep = given(&rt, Sweep::read(alloc, "suspect=20..40/20,loss=0..10/10"));
     let table = run_sweep(
         alloc,
         &plan,
@@ -196,11 +199,11 @@ impl Trial for Planted {
 fn a_planted_breach_is_made_as_small_as_it_is(rt: HostRuntime) -> Result<(), Fail> {
     let text =
         b"members = 200\nminutes = 900\nkills = 90\nloss = 55\npauses = 9\ncut_members = 9\njitter = 3\n";
-    let plan = Plan::read(rt.alloc(), text)?;
+    let plan = given(&rt, Plan::read(rt.alloc(), text));
     let mut planted = Planted { tried: 0 };
-    let smaller = shrunk(&mut planted, &plan)?;
+    let smaller = given(&rt, shrunk(&mut planted, &plan));
     let mut found = String::new(rt.alloc());
-    write_plan(&mut found, &smaller)?;
+    given(&rt, write_plan(&mut found, &smaller));
     let least = "members = 5\nminutes = 2\nloss = 7\ncut_for = 0\npause_for = 0\n";
     same(&rt, found.as_str(), least);
     holds_at(&rt, &planted.tried, planted.tried < 400);
@@ -211,9 +214,9 @@ fn a_planted_breach_is_made_as_small_as_it_is(rt: HostRuntime) -> Result<(), Fai
 fn a_run_is_told_as_a_plan(rt: HostRuntime) -> Result<(), Fail> {
     let alloc = rt.alloc();
     let text = "members = 3\nminutes = 1\nrules = 2\nkills = 1\nrestart_after = 100\n";
-    let plan = Plan::read(alloc, text.as_bytes())?;
-    let done = simulate(alloc, &plan, 1, 0)?;
-    let found = told(alloc, &plan, 1, &done)?;
+    let plan = given(&rt, Plan::read(alloc, text.as_bytes()));
+    let done = given(&rt, simulate(alloc, &plan, 1, 0));
+    let found = given(&rt, told(alloc, &plan, 1, &done));
     holds_at(
         &rt,
         &found,
@@ -221,7 +224,7 @@ fn a_run_is_told_as_a_plan(rt: HostRuntime) -> Result<(), Fail> {
     );
     holds_at(&rt, &found, found.as_str().contains("# tick 400: member "));
     // it is a plan, and the same one
-    let again = Plan::read(alloc, found.as_str().as_bytes())?;
+    let again = given(&rt, Plan::read(alloc, found.as_str().as_bytes()));
     for key in Key::ALL {
         same_at(&rt, &key, again.get(key), plan.get(key));
     }
@@ -231,15 +234,21 @@ fn a_run_is_told_as_a_plan(rt: HostRuntime) -> Result<(), Fail> {
 #[test]
 fn pictures_end_as_they_begin(rt: HostRuntime) -> Result<(), Fail> {
     let alloc = rt.alloc();
-    let plan = Plan::read(alloc, b"members = 3\nminutes = 1\nkills = 1\n")?;
-    let runs = run_all(alloc, &plan, &mut Series::new(1, 1), &mut Made::none())?;
-    let picture = draw_runs(alloc, &plan, 1, runs)?;
+    let plan = given(
+        &rt,
+        Plan::read(alloc, b"members = 3\nminutes = 1\nkills = 1\n"),
+    );
+    let runs = given(
+        &rt,
+        run_all(alloc, &plan, &mut Series::new(1, 1), &mut Made::none()),
+    );
+    let picture = given(&rt, draw_runs(alloc, &plan, 1, runs));
     holds(
         &rt,
         picture.as_str().starts_with("<svg ") && picture.as_str().ends_with("</svg>\n"),
     );
-    let sweep = Sweep::read(alloc, "loss=0..1")?;
-    let picture = draw_sweep(alloc, &sweep, &[Some(1); 18])?;
+    let sweep = given(&rt, Sweep::read(alloc, "loss=0..1"));
+    let picture = given(&rt, draw_sweep(alloc, &sweep, &[Some(1); 18]));
     holds_at(&rt, &picture, picture.as_str().contains(">loss 1</text>"));
     Ok(())
 }
@@ -247,10 +256,13 @@ fn pictures_end_as_they_begin(rt: HostRuntime) -> Result<(), Fail> {
 #[test]
 fn what_is_gathered_adds_up(rt: HostRuntime) -> Result<(), Fail> {
     let alloc = rt.alloc();
-    let plan = Plan::read(alloc, b"members = 4\nminutes = 1\nkills = 2\n")?;
+    let plan = given(
+        &rt,
+        Plan::read(alloc, b"members = 4\nminutes = 1\nkills = 2\n"),
+    );
     let mut all = Gathered::none(alloc);
     for seed in 0..2 {
-        let done = simulate(alloc, &plan, seed, 0)?;
+        let done = given(&rt, simulate(alloc, &plan, seed, 0));
         all.add(&Gathered::of(alloc, &done.measures, 100)?)?;
     }
     same(&rt, all.kills, 4);
@@ -280,10 +292,10 @@ fn a_broken_run_is_told_as_a_script(rt: HostRuntime) -> Result<(), Fail> {
     // of three members one is killed and opened again, saves fail, and eras are short
     let text =
         "members = 3\nminutes = 1\nrules = 2\nloss = 30\nrepeats = 20\njitter = 3\nkills = 4\nrestart_after = 20\ndropped = 50\nfilled = 25\nfailing_syncs = 50\nlimit = 7\n";
-    let plan = Plan::read(alloc, text.as_bytes())?;
-    let mut done = simulate(alloc, &plan, 1, 0)?;
+    let plan = given(&rt, Plan::read(alloc, text.as_bytes()));
+    let mut done = given(&rt, simulate(alloc, &plan, 1, 0));
     done.stop = Some(planted_stop(590));
-    let found = told(alloc, &plan, 1, &done)?;
+    let found = given(&rt, told(alloc, &plan, 1, &done));
     let line =
         "# tick 590: 10.0.0.2:7000 told number 9 of 10.0.0.2:7000: it told a greater number of itself before\n# in swim play this member does it alone\ngroup 1\nme 10.0.0.2:7000\n";
     holds_at(&rt, &found, found.as_str().contains(line));
@@ -308,10 +320,10 @@ fn a_run_that_no_script_plays_is_told_as_a_plan(rt: HostRuntime) -> Result<(), F
     let alloc = rt.alloc();
     // a script does not know each order of so many
     let text = "members = 9\nminutes = 1\nkills = 0\n";
-    let plan = Plan::read(alloc, text.as_bytes())?;
-    let mut done = simulate(alloc, &plan, 1, 0)?;
+    let plan = given(&rt, Plan::read(alloc, text.as_bytes()));
+    let mut done = given(&rt, simulate(alloc, &plan, 1, 0));
     done.stop = Some(planted_stop(590));
-    let found = told(alloc, &plan, 1, &done)?;
+    let found = given(&rt, told(alloc, &plan, 1, &done));
     holds_at(
         &rt,
         &found,

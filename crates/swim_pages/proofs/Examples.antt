@@ -92,11 +92,11 @@ unfolding gauge gauge_head
 silent = refl
 
 -- a counter under its name, and one of notes
-entries : counter_metric (counter_at 3) 9 ≡ codes "# HELP swim_entries_total Answered calls of the member, each one entry.\n# TYPE swim_entries_total counter\nswim_entries_total " ++ (decimal 9 ++ codes "\n")
+entries : counter_metric (counter_at 4) 9 ≡ codes "# HELP swim_entries_total Answered calls of the member, each one entry.\n# TYPE swim_entries_total counter\nswim_entries_total " ++ (decimal 9 ++ codes "\n")
 unfolding total
 entries = refl
 
-leaps : note_sample (counter_at 15) 2 ≡ codes "swim_notes_total{note=\"Leap\"} " ++ (decimal 2 ++ codes "\n")
+leaps : note_sample (counter_at 16) 2 ≡ codes "swim_notes_total{note=\"Leap\"} " ++ (decimal 2 ++ codes "\n")
 unfolding sample_of
 leaps = refl
 

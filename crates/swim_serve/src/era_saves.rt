@@ -1,7 +1,6 @@
 //! What was saved in an era, and at its end.
 
-ghost use Rattle.std.specs.Prelude.{◌≡◌, length};
-ghost use Rattle.std.specs.List.{filter};
+ghost use Rattle.std.specs.Prelude.{◌≡◌};
 ghost use Rattle.swim_serve.specs.EraCounts.{has_saved, number_saves};
 
 use swim_node::{Entry, Save};
@@ -34,8 +33,14 @@ fn has_saved(entry: &Entry) -> bool
 }
 
 /// For how many of these entries a number was saved.
-pub(crate) fn number_saves(entries: &[Entry]) -> u64
+pub(crate) fn number_saves(entries: &[Entry]) -> usize
     ensures { result ≡ number_saves entries.now }
 {
-    entries.iter().filter(|entry| has_saved(entry)).count() as u64
+    let mut count = 0;
+    for entry in entries {
+        if has_saved(entry) {
+            count += 1;
+        }
+    }
+    count
 }

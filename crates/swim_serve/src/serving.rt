@@ -131,7 +131,7 @@ fn end_era<D: Disk, T: Log, K: Keeper>(
     ensures numbers { result.numbers ≡ number_saves node.old.entries }
     ensures told { BecameOf D.keeps_model D.state (next_era node.old) node.new result.peers }
 {
-    let numbers = number_saves(node.journal());
+    let numbers = number_saves(node.journal()) as u64;
     hand_over(node, beginning, keeper);
     let peers = if node.has_other_peers() {
         match node.keep_peers() {

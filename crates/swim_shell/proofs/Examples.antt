@@ -55,10 +55,10 @@ asks_in_turn = refl
 
 -- ---- counters
 
-names : counter_name (counter_at 0) ∷ counter_name (counter_at 10) ∷ counter_name (counter_at 22) ∷ [] ≡ codes "eras" ∷ codes "refutations" ∷ codes "SaveFailed" ∷ []
+names : counter_name (counter_at 0) ∷ counter_name (counter_at 11) ∷ counter_name (counter_at 23) ∷ [] ≡ codes "eras" ∷ codes "refutations" ∷ codes "SaveFailed" ∷ []
 names = refl
 
-line_of_sent : counter_line (counter_at 8) 12 ≡ codes "datagrams_sent " ++ (decimal 12 ++ codes "\n")
+line_of_sent : counter_line (counter_at 9) 12 ≡ codes "datagrams_sent " ++ (decimal 12 ++ codes "\n")
 line_of_sent = refl
 
 abbrev zeros : List ℕ

@@ -1,6 +1,6 @@
 //! What crashes leave, what failing disks answer, and how a sync is held.
 
-use crate::same::{holds, same, same_at};
+use crate::same::{given, holds, same, same_at};
 use std::alloc::Global;
 use std::process::Abort;
 use std::test::Fail;
@@ -54,13 +54,13 @@ fn memory_ends(rt: HostRuntime) -> Result<(), Fail> {
 fn later_writes_hide_earlier_ones(rt: HostRuntime) -> Result<(), Fail> {
     let mut disk = written(rt.alloc())?;
     for at in 0..5_u8 {
-        disk.write_at(u64::from(at), &[at])?;
-        disk.sync()?;
+        given(&rt, disk.write_at(u64::from(at), &[at]));
+        given(&rt, disk.sync());
     }
     same(&rt, disk.bytes()?.as_slice(), [0, 1, 2, 3, 4].as_slice());
-    disk.write_at(1, &[7, 7, 7])?;
-    disk.sync()?;
-    disk.write_at(8, &[9])?;
+    given(&rt, disk.write_at(1, &[7, 7, 7]));
+    given(&rt, disk.sync());
+    given(&rt, disk.write_at(8, &[9]));
     same(
         &rt,
         disk.bytes()?.as_slice(),
@@ -150,7 +150,7 @@ fn tears_in_the_middle(rt: HostRuntime) -> Result<(), Fail> {
 fn holds_a_sync_for_its_turns(rt: HostRuntime) -> Result<(), Fail> {
     let (mut disk, plan) = planned(&rt, rt.alloc());
     plan.hold_sync();
-    disk.sync()?;
+    given(&rt, disk.sync());
     holds(&rt, !plan.is_held());
     Ok(())
 }
@@ -174,7 +174,7 @@ fn another_thread_lets_a_sync_go_on(rt: HostRuntime) -> Result<(), Fail> {
     let other = thread::spawn(&rt, move || lets_go_on(&plan))
         .ok()
         .expect(&rt, "a thread");
-    disk.sync()?;
+    given(&rt, disk.sync());
     holds(&rt, other.join(&rt));
     Ok(())
 }
@@ -182,15 +182,15 @@ fn another_thread_lets_a_sync_go_on(rt: HostRuntime) -> Result<(), Fail> {
 #[test]
 fn file_reads_back(rt: HostRuntime) -> Result<(), Fail> {
     let _ = fs::remove_file(&rt, "disk");
-    let mut disk = FileDisk::create(rt.alloc(), &rt, "disk")?;
-    disk.write_at(3, &[8, 9])?;
-    disk.sync()?;
-    let mut again = FileDisk::open(rt.alloc(), &rt, "disk")?;
+    let mut disk = given(&rt, FileDisk::create(rt.alloc(), &rt, "disk"));
+    given(&rt, disk.write_at(3, &[8, 9]));
+    given(&rt, disk.sync());
+    let mut again = given(&rt, FileDisk::open(rt.alloc(), &rt, "disk"));
     let mut bytes = [1; 5];
-    again.read_at(0, &mut bytes)?;
+    given(&rt, again.read_at(0, &mut bytes));
     same(&rt, bytes, [0, 0, 0, 8, 9]);
     same(&rt, again.len()?, 5);
     same(&rt, again.read_at(4, &mut bytes), Err(DiskFault::PastEnd));
-    fs::remove_file(&rt, "disk")?;
+    given(&rt, fs::remove_file(&rt, "disk"));
     Ok(())
 }

@@ -1,6 +1,6 @@
 //! The faults of scripts, and the deals of their ticks.
 
-use crate::same::{same, same_at};
+use crate::same::{given, same, same_at};
 use std::alloc::Global;
 use std::test::Fail;
 use swim_member::Event;
@@ -103,7 +103,10 @@ fn deals_of_ticks(rt: HostRuntime) -> Result<(), Fail> {
         ("tick 4294967295", 255, 254),
     ];
     for (script, first, last) in table {
-        let commands = read_script(rt.alloc(), script.as_bytes()).map_err(|_| "a fault")?;
+        let commands = given(
+            &rt,
+            read_script(rt.alloc(), script.as_bytes()).map_err(|_| "a fault"),
+        );
         let Some(Command::Happen(Event::Tick { deal })) = commands.first() else {
             return Err("a tick".into());
         };

@@ -1,6 +1,6 @@
 //! Files, and what they are refused for.
 
-use crate::same::{holds, same, same_at};
+use crate::same::{given, holds, same, same_at};
 use std::alloc::{AllocError, Global};
 use std::test::Fail;
 use swim_settings::{
@@ -169,7 +169,7 @@ fn refusal_in(alloc: Global, row: &str) -> Result<String, AllocError> {
 
 #[test]
 fn defaults(rt: HostRuntime) -> Result<(), Fail> {
-    let text = file_with(rt.alloc(), "join", "")?;
+    let text = given(&rt, file_with(rt.alloc(), "join", ""));
     let RunSettings {
         file,
         settings,
@@ -217,8 +217,8 @@ helpers = 0\nlimit = 20\nblock = 64\nrules = 2\nrejoin = 90\nexpelled = 'end'
 record = 'eras'\nrecord_eras = 3\nlog = 'debug'
 join = ['10.0.0.2:7000', '10.0.0.3:7001']
 random_key = '000102030405060708090a0b0c0d0e0f101112131415161718191A1B1C1D1E1F'\n";
-    let text = file_with(rt.alloc(), "join", lines)?;
-    let run = read_settings(rt.alloc(), text.as_bytes())?;
+    let text = given(&rt, file_with(rt.alloc(), "join", lines));
+    let run = given(&rt, read_settings(rt.alloc(), text.as_bytes()));
     same(&rt, run.tick_ms, 20);
     same(&rt, run.settings.lambda, 5);
     same(&rt, run.settings.period, 8);
@@ -281,17 +281,17 @@ fn times_in(alloc: Global, run: &RunSettings) -> Result<String, AllocError> {
 fn presets(rt: HostRuntime) -> Result<(), Fail> {
     for row in PRESETS.lines() {
         let (name, times) = row.split_once(" ").unwrap_or((row, ""));
-        let lines = format!(in rt.alloc(); "preset = '{name}'")?;
-        let text = file_with(rt.alloc(), "preset", lines.as_str())?;
-        let run = read_settings(rt.alloc(), text.as_bytes())?;
-        let found = times_in(rt.alloc(), &run)?;
+        let lines = given(&rt, format!(in rt.alloc(); "preset = '{name}'"));
+        let text = given(&rt, file_with(rt.alloc(), "preset", lines.as_str()));
+        let run = given(&rt, read_settings(rt.alloc(), text.as_bytes()));
+        let found = given(&rt, times_in(rt.alloc(), &run));
         same_at(&rt, &row, found.as_str(), times);
     }
     let lines =
         "preset = 'wan'; rejoin = 7; tick_ms = 1000; lambda = 9; period = 9; direct = 8; suspect = 6; forget = 5";
-    let text = file_with(rt.alloc(), "preset", lines)?;
-    let run = read_settings(rt.alloc(), text.as_bytes())?;
-    let found = times_in(rt.alloc(), &run)?;
+    let text = given(&rt, file_with(rt.alloc(), "preset", lines));
+    let run = given(&rt, read_settings(rt.alloc(), text.as_bytes()));
+    let found = given(&rt, times_in(rt.alloc(), &run));
     same(&rt, found.as_str(), "1000 9 9 8 6 5 7");
     Ok(())
 }
@@ -327,7 +327,7 @@ fn restarts(rt: HostRuntime) -> Result<(), Fail> {
         let (lines, keys) = row.rsplit_once(":").unwrap_or((row, ""));
         let now = read_settings(alloc, file_with(alloc, "join", "")?.as_bytes())?;
         let then = read_settings(alloc, file_with(alloc, "join", lines)?.as_bytes())?;
-        let told = texts_of(alloc, restart_keys(&now, &then).as_slice())?;
+        let told = given(&rt, texts_of(alloc, restart_keys(&now, &then).as_slice()));
         same_at(&rt, &row, told.as_str(), keys.trim());
     }
     Ok(())
@@ -360,11 +360,11 @@ group = 9223372036854775807; limit = 65536; block = 1024";
 fn shown_settings(rt: HostRuntime) -> Result<(), Fail> {
     for row in SHOWN.lines() {
         let (key, _) = row.split_once(" ").unwrap_or((row, ""));
-        let text = file_with(rt.alloc(), key, row)?;
-        let run = read_settings(rt.alloc(), text.as_bytes())?;
-        let shown = show_settings(rt.alloc(), &run)?;
-        let again = read_settings(rt.alloc(), shown.as_bytes())?;
-        let shown_again = show_settings(rt.alloc(), &again)?;
+        let text = given(&rt, file_with(rt.alloc(), key, row));
+        let run = given(&rt, read_settings(rt.alloc(), text.as_bytes()));
+        let shown = given(&rt, show_settings(rt.alloc(), &run));
+        let again = given(&rt, read_settings(rt.alloc(), shown.as_bytes()));
+        let shown_again = given(&rt, show_settings(rt.alloc(), &again));
         same_at(&rt, &row, shown_again.as_str(), shown.as_str());
     }
     let text = file_with(
@@ -372,8 +372,8 @@ fn shown_settings(rt: HostRuntime) -> Result<(), Fail> {
         "join",
         "join = ['10.0.0.2:7000']; preset = 'lan'",
     )?;
-    let run = read_settings(rt.alloc(), text.as_bytes())?;
-    let shown = show_settings(rt.alloc(), &run)?;
+    let run = given(&rt, read_settings(rt.alloc(), text.as_bytes()));
+    let shown = given(&rt, show_settings(rt.alloc(), &run));
     same(&rt, shown.as_str(), WHOLE);
     Ok(())
 }
@@ -403,7 +403,7 @@ record_eras = 8
 #[test]
 fn taken_values(rt: HostRuntime) -> Result<(), Fail> {
     for row in TAKEN.lines() {
-        let refusal = refusal_in(rt.alloc(), row)?;
+        let refusal = given(&rt, refusal_in(rt.alloc(), row));
         same_at(&rt, &row, refusal.as_str(), "");
     }
     Ok(())
@@ -418,7 +418,7 @@ fn key_of(row: &str) -> &str {
 fn refused_values(rt: HostRuntime) -> Result<(), Fail> {
     for rows in [REFUSED, FIRST_REFUSED] {
         for row in rows.lines() {
-            let refusal = refusal_in(rt.alloc(), row)?;
+            let refusal = given(&rt, refusal_in(rt.alloc(), row));
             same_at(&rt, &row, refusal.as_str(), key_of(row));
         }
     }
@@ -427,9 +427,9 @@ fn refused_values(rt: HostRuntime) -> Result<(), Fail> {
 
 #[test]
 fn files_without_a_line_that_is_read(rt: HostRuntime) -> Result<(), Fail> {
-    let empty = refusal_of(rt.alloc(), b"")?;
+    let empty = given(&rt, refusal_of(rt.alloc(), b""));
     same(&rt, empty.as_str(), "file");
-    let no_text = refusal_of(rt.alloc(), b"\xff\xfe")?;
+    let no_text = given(&rt, refusal_of(rt.alloc(), b"\xff\xfe"));
     same(&rt, no_text.as_str(), "toml");
     Ok(())
 }

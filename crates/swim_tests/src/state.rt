@@ -2,7 +2,7 @@
 
 ghost use Rattle.std.specs.Prelude.{◌≡◌};
 
-use crate::same::{holds, holds_at, prints, same, same_at};
+use crate::same::{given, holds, holds_at, prints, same, same_at};
 use std::alloc::Global;
 use std::fs;
 use std::process::Abort;
@@ -98,7 +98,7 @@ fn refused_opens(rt: HostRuntime) -> Result<(), Fail> {
         (16_384, 0, 1, Ok(1)),
     ] {
         let (mut disk, _) = made(&rt, rt.alloc());
-        disk.write_at(at, &[byte])?;
+        given(&rt, disk.write_at(at, &[byte]));
         let (got, _) = open(disk, member(&rt, last));
         same_at(&rt, &at, got, want);
     }
@@ -210,7 +210,7 @@ const INIT: [Call; 7] = [
 #[test]
 fn init_calls_the_device(rt: HostRuntime) -> Result<(), Fail> {
     let mut disk = Recorded::new(rt.alloc());
-    init(&mut disk, member(&rt, 1), 0)?;
+    given(&rt, init(&mut disk, member(&rt, 1), 0));
     holds(&rt, are_calls(&disk, 0, &INIT));
     Ok(())
 }
@@ -270,7 +270,7 @@ fn lives_call_the_device(rt: HostRuntime) -> Result<(), Fail> {
     let mut store = recover(disk, member(&rt, 1)).ok().expect(&rt, "an opening");
     holds(&rt, are_calls(store.disk(), 0, &OPENING));
     holds(&rt, store.ceiling() == 2);
-    store.raise(3, 0, &[])?;
+    given(&rt, store.raise(3, 0, &[]));
     holds(&rt, are_calls(store.disk(), 13, &RAISE));
     Ok(())
 }
@@ -283,7 +283,7 @@ fn peers_come_back(rt: HostRuntime) -> Result<(), Fail> {
     holds(&rt, store.peers().as_slice().is_empty());
     holds(&rt, store.ceiling() == 1);
     let known = [member(&rt, 2).me];
-    store.raise(2, 0, &known)?;
+    given(&rt, store.raise(2, 0, &known));
     let mut disk = store.into_disk();
     for next in 3..6 {
         disk = crashed(&rt, rt.alloc(), disk, Choice::Drop);
@@ -312,7 +312,7 @@ fn refused_opens_of_version_2(rt: HostRuntime) -> Result<(), Fail> {
     ] {
         let (disk, _) = made(&rt, rt.alloc());
         let (_, mut disk) = open(disk, member(&rt, 1));
-        disk.write_at(at, &[byte])?;
+        given(&rt, disk.write_at(at, &[byte]));
         let (got, _) = open(disk, member(&rt, 1));
         same_at(&rt, &at, got, want);
     }
@@ -587,16 +587,16 @@ fn init_fails_at_each_call(rt: HostRuntime) {
 #[test]
 fn real_file(rt: HostRuntime) -> Result<(), Fail> {
     let _ = fs::remove_file(&rt, "state");
-    let mut disk = FileDisk::create(rt.alloc(), &rt, "state")?;
-    init(&mut disk, member(&rt, 1), 0)?;
+    let mut disk = given(&rt, FileDisk::create(rt.alloc(), &rt, "state"));
+    given(&rt, init(&mut disk, member(&rt, 1), 0));
     for want in [1, 3] {
-        let disk = FileDisk::open(rt.alloc(), &rt, "state")?;
+        let disk = given(&rt, FileDisk::open(rt.alloc(), &rt, "state"));
         let mut store = recover(disk, member(&rt, 1)).ok().expect(&rt, "an opening");
         holds(&rt, store.ceiling() == want);
         holds(&rt, want < NUMBER_MAX);
-        store.raise(want + 1, 0, &[])?;
+        given(&rt, store.raise(want + 1, 0, &[]));
     }
-    fs::remove_file(&rt, "state")?;
+    given(&rt, fs::remove_file(&rt, "state"));
     Ok(())
 }
 

@@ -151,7 +151,7 @@ fn one_byte_ff(rt: HostRuntime) {
 
 #[test]
 fn a_ping(rt: HostRuntime) -> Result<(), Fail> {
-    let ping = decode(&PING).ok().ok_or("the ping is read")?;
+    let ping = decode(&PING).ok().expect(&rt, "the ping is read");
     same(&rt, ping.version, Rules::One);
     same(&rt, ping.kind, Kind::Ping);
     same(&rt, ping.group, 7);
@@ -166,7 +166,7 @@ fn a_ping(rt: HostRuntime) -> Result<(), Fail> {
 fn a_ping_of_version_two(rt: HostRuntime) -> Result<(), Fail> {
     let mut bytes = PING;
     bytes[4] = 2;
-    let ping = decode(&bytes).ok().ok_or("the ping is read")?;
+    let ping = decode(&bytes).ok().expect(&rt, "the ping is read");
     same(&rt, ping.version, Rules::Two);
     same(&rt, ping.kind, Kind::Ping);
     holds(&rt, is_written_again(&bytes));
@@ -175,7 +175,7 @@ fn a_ping_of_version_two(rt: HostRuntime) -> Result<(), Fail> {
 
 #[test]
 fn an_ack(rt: HostRuntime) -> Result<(), Fail> {
-    let ack = decode(&ACK).ok().ok_or("the ack is read")?;
+    let ack = decode(&ACK).ok().expect(&rt, "the ack is read");
     same(&rt, ack.kind, Kind::Ack);
     same(&rt, ack.updates.len(), 1);
     for update in ack.updates.as_slice() {
@@ -194,7 +194,7 @@ fn written_again(rt: HostRuntime) {
 
 #[test]
 fn names(rt: HostRuntime) -> Result<(), Fail> {
-    let us = Endpoint::new(0x0a00_0001, 7000).ok_or("a port")?;
+    let us = Endpoint::new(0x0a00_0001, 7000).expect(&rt, "a port");
     same(&rt, us.to_string(rt.alloc())?.as_str(), "10.0.0.1:7000");
     same(&rt, us.address(), 0x0a00_0001);
     same(&rt, us.port(), 7000);

@@ -171,15 +171,19 @@ fn each_cut(rt: HostRuntime) -> Result<(), Fail> {
     for (fails, end) in [(false, ControlEnd::Closed), (true, ControlEnd::ReadFault)] {
         for count in 0..=39 {
             let mut whole = STANDING.iter().filter(|(read, ..)| *read <= count);
-            let (_, written, calls) = whole.next_back().ok_or("a line")?;
-            let mut reader = Pieces::new(CALLS.get(..count).ok_or("a cut")?, MOST, &[]);
+            let (_, written, calls) = whole.next_back().expect(&rt, "a line");
+            let mut reader = Pieces::new(CALLS.get(..count).expect(&rt, "a cut"), MOST, &[]);
             reader.fail_at_end(fails);
             let mut writer = Slow::new(MOST, MOST, &[]);
             let mut caller = Scripted::<8>::new(&[]);
             let mut conversation = Conversation::new(&mut reader, &mut writer);
             let ended = run(&rt, &mut conversation, &mut caller, &mut Goes { left: 9 });
             same(&rt, ended, Some(end));
-            same(&rt, writer.out(), REPLIES.get(..*written).ok_or("replies")?);
+            same(
+                &rt,
+                writer.out(),
+                REPLIES.get(..*written).expect(&rt, "replies"),
+            );
             same(&rt, caller.calls(), *calls);
         }
     }
@@ -191,14 +195,18 @@ fn each_cut(rt: HostRuntime) -> Result<(), Fail> {
 fn each_write_fails(rt: HostRuntime) -> Result<(), Fail> {
     for room in 0..37 {
         let mut cut = STANDING.iter().filter(|(_, written, _)| room < *written);
-        let (_, _, calls) = cut.next().ok_or("a line")?;
+        let (_, _, calls) = cut.next().expect(&rt, "a line");
         let mut reader = Pieces::new(CALLS, MOST, &[]);
         let mut writer = Slow::new(room, MOST, &[]);
         let mut caller = Scripted::<8>::new(&[]);
         let mut conversation = Conversation::new(&mut reader, &mut writer);
         let ended = run(&rt, &mut conversation, &mut caller, &mut Goes { left: 9 });
         same(&rt, ended, Some(ControlEnd::WriteFault));
-        same(&rt, writer.taken(), REPLIES.get(..room).ok_or("replies")?);
+        same(
+            &rt,
+            writer.taken(),
+            REPLIES.get(..room).expect(&rt, "replies"),
+        );
         same(&rt, caller.calls(), *calls);
     }
     Ok(())

@@ -133,7 +133,7 @@ fn joiner_of(peers: ArrayVec<Endpoint, LIST_MAX>) -> Result<Joiner, Fail> {
 fn turns_by_the_clock(rt: HostRuntime) -> Result<(), Fail> {
     let mut peers = ArrayVec::new();
     for last in [2, 5] {
-        let _ = peers.try_push(endpoint(last).ok_or("an endpoint")?);
+        let _ = peers.try_push(endpoint(last).expect(&rt, "an endpoint"));
     }
     let mut joiner = joiner_of(peers)?;
     let mut caller = Direct::<64>::new(rt.alloc())?;

@@ -99,18 +99,18 @@ fn pings_over_three_eras(rt: HostRuntime) -> Result<(), Fail> {
 /// the generator's first word is an odd one.
 #[test]
 fn joins_listed_and_drawn(rt: HostRuntime) -> Result<(), Fail> {
-    let me = endpoint(1).ok_or("an endpoint")?;
+    let me = endpoint(1).expect(&rt, "an endpoint");
     for (rules, rejoin, list, calls, joined) in [
         (Rules::One, None, [2, 2], 3, None),
         (Rules::One, Some(Duration::ZERO), [2, 1], 4, endpoint(3)),
         (Rules::One, Some(Duration::ZERO), [2, 4], 4, endpoint(4)),
         (Rules::Two, Some(Duration::ZERO), [2, 1], 4, endpoint(1)),
     ] {
-        let peer = endpoint(2).ok_or("an endpoint")?;
+        let peer = endpoint(2).expect(&rt, "an endpoint");
         let mut caller = Direct::<8>::new(rt.alloc())?;
         let mut peers = ArrayVec::new();
         for last in list {
-            let _ = peers.try_push(endpoint(last).ok_or("an endpoint")?);
+            let _ = peers.try_push(endpoint(last).expect(&rt, "an endpoint"));
         }
         let paces = Paces {
             answer: Duration::from_millis(300),
@@ -124,12 +124,12 @@ fn joins_listed_and_drawn(rt: HostRuntime) -> Result<(), Fail> {
         same(&rt, joiner.turn(&rt, &mut caller), Ok(()));
         let journal = caller.node().journal();
         same(&rt, journal.len(), calls);
-        let first = journal.first().ok_or("an entry")?;
+        let first = journal.first().expect(&rt, "an entry");
         holds(
             &rt,
             matches!(first.event, Event::Join { peer: asked } if asked == peer),
         );
-        let last = journal.last().ok_or("an entry")?;
+        let last = journal.last().expect(&rt, "an entry");
         let last_joined = match last.event {
             Event::Join { peer: asked } => Some(asked),
             _ => None,

@@ -1,7 +1,7 @@
 //! Control connections.
 
 use super::scene::{ENDED_MILLIS, Host, address, long, ring_later, sleep};
-use crate::same::{holds, same};
+use crate::same::{given, holds, same};
 use std::io::{ErrorKind, Read, Write};
 use std::net::{TcpListener, TcpStream, UdpSocket};
 use std::os::fd::{AsRawFd, RawFd};
@@ -25,13 +25,13 @@ fn short() -> Duration {
 /// An alarm from another thread ends a wait.
 #[test]
 fn alarm_ends_wait(rt: HostRuntime) -> Result<(), Fail> {
-    let listener = TcpListener::bind(&rt, address(0))?;
-    let (waits, alarm) = Waits::new(&rt, rt.alloc())?;
-    let mut doors = TcpDoors::new(listener, &waits, &rt, long())?;
-    let start = Instant::now(&rt)?;
+    let listener = given(&rt, TcpListener::bind(&rt, address(0)));
+    let (waits, alarm) = given(&rt, Waits::new(&rt, rt.alloc()));
+    let mut doors = given(&rt, TcpDoors::new(listener, &waits, &rt, long()));
+    let start = given(&rt, Instant::now(&rt));
     holds(&rt, doors.next().is_none());
     let _ = join(&rt, || doors.wait(), || ring_later(&rt, &alarm));
-    let took = start.elapsed(&rt)?.as_millis();
+    let took = given(&rt, start.elapsed(&rt)).as_millis();
     holds(&rt, 15 < took && took < ENDED_MILLIS);
     Ok(())
 }
@@ -39,11 +39,11 @@ fn alarm_ends_wait(rt: HostRuntime) -> Result<(), Fail> {
 /// A connection that comes in the wait ends it.
 #[test]
 fn connection_ends_wait(rt: HostRuntime) -> Result<(), Fail> {
-    let listener = TcpListener::bind(&rt, address(0))?;
-    let port = listener.local_addr()?.port();
-    let (waits, _) = Waits::new(&rt, rt.alloc())?;
-    let mut doors = TcpDoors::new(listener, &waits, &rt, long())?;
-    let start = Instant::now(&rt)?;
+    let listener = given(&rt, TcpListener::bind(&rt, address(0)));
+    let port = given(&rt, listener.local_addr()).port();
+    let (waits, _) = given(&rt, Waits::new(&rt, rt.alloc()));
+    let mut doors = given(&rt, TcpDoors::new(listener, &waits, &rt, long()));
+    let start = given(&rt, Instant::now(&rt));
     let (made, _) = join(
         &rt,
         || {
@@ -53,7 +53,10 @@ fn connection_ends_wait(rt: HostRuntime) -> Result<(), Fail> {
         || doors.wait(),
     );
     holds(&rt, made && doors.next().is_some());
-    holds(&rt, start.elapsed(&rt)?.as_millis() < ENDED_MILLIS);
+    holds(
+        &rt,
+        given(&rt, start.elapsed(&rt)).as_millis() < ENDED_MILLIS,
+    );
     Ok(())
 }
 
@@ -66,12 +69,15 @@ fn failed<R: Read>(reader: &mut R) -> Option<ErrorKind> {
 /// A read of a connection that says nothing does not wait; what it says later ends a wait.
 #[test]
 fn read_of_nothing(rt: HostRuntime) -> Result<(), Fail> {
-    let listener = TcpListener::bind(&rt, address(0))?;
-    let mut silent = TcpStream::connect(&rt, listener.local_addr()?)?;
-    let (waits, _) = Waits::new(&rt, rt.alloc())?;
-    let mut doors = TcpDoors::new(listener, &waits, &rt, long())?;
-    let (mut reader, _) = doors.next().ok_or("a connection")?;
-    let start = Instant::now(&rt)?;
+    let listener = given(&rt, TcpListener::bind(&rt, address(0)));
+    let mut silent = given(
+        &rt,
+        TcpStream::connect(&rt, given(&rt, listener.local_addr())),
+    );
+    let (waits, _) = given(&rt, Waits::new(&rt, rt.alloc()));
+    let mut doors = given(&rt, TcpDoors::new(listener, &waits, &rt, long()));
+    let (mut reader, _) = doors.next().expect(&rt, "a connection");
+    let start = given(&rt, Instant::now(&rt));
     same(&rt, failed(&mut reader), Some(ErrorKind::WouldBlock));
     let (said, _) = join(
         &rt,
@@ -81,7 +87,10 @@ fn read_of_nothing(rt: HostRuntime) -> Result<(), Fail> {
         },
         || read_whole(&mut doors, &mut reader, &mut [0u8; 1]),
     );
-    holds(&rt, said && start.elapsed(&rt)?.as_millis() < ENDED_MILLIS);
+    holds(
+        &rt,
+        said && given(&rt, start.elapsed(&rt)).as_millis() < ENDED_MILLIS,
+    );
     Ok(())
 }
 
@@ -110,12 +119,15 @@ fn drip<R: Host>(rt: &R, mut stream: TcpStream) {
 /// A connection whose line does not end ends after a second.
 #[test]
 fn endless_line(rt: HostRuntime) -> Result<(), Fail> {
-    let listener = TcpListener::bind(&rt, address(0))?;
-    let dripping = TcpStream::connect(&rt, listener.local_addr()?)?;
-    let (waits, _) = Waits::new(&rt, rt.alloc())?;
-    let mut doors = TcpDoors::new(listener, &waits, &rt, short())?;
-    let (mut reader, writer) = doors.next().ok_or("a connection")?;
-    let start = Instant::now(&rt)?;
+    let listener = given(&rt, TcpListener::bind(&rt, address(0)));
+    let dripping = given(
+        &rt,
+        TcpStream::connect(&rt, given(&rt, listener.local_addr())),
+    );
+    let (waits, _) = given(&rt, Waits::new(&rt, rt.alloc()));
+    let mut doors = given(&rt, TcpDoors::new(listener, &waits, &rt, short()));
+    let (mut reader, writer) = doors.next().expect(&rt, "a connection");
+    let start = given(&rt, Instant::now(&rt));
     let (_, took) = join(
         &rt,
         || drip(&rt, dripping),
@@ -134,28 +146,28 @@ fn endless_line(rt: HostRuntime) -> Result<(), Fail> {
 /// A connection that says nothing holds up no other, and ends after a second.
 #[test]
 fn stalled_connection(rt: HostRuntime) -> Result<(), Fail> {
-    let listener = TcpListener::bind(&rt, address(0))?;
-    let at = listener.local_addr()?;
-    let silent = TcpStream::connect(&rt, at)?;
-    let (waits, _) = Waits::new(&rt, rt.alloc())?;
-    let mut doors = TcpDoors::new(listener, &waits, &rt, short())?;
-    let (mut reader, _) = doors.next().ok_or("a connection")?;
-    let start = Instant::now(&rt)?;
-    let mut second = TcpStream::connect(&rt, at)?;
-    second.write_all(b"2")?;
-    let (mut other, _) = doors.next().ok_or("the second connection")?;
+    let listener = given(&rt, TcpListener::bind(&rt, address(0)));
+    let at = given(&rt, listener.local_addr());
+    let silent = given(&rt, TcpStream::connect(&rt, at));
+    let (waits, _) = given(&rt, Waits::new(&rt, rt.alloc()));
+    let mut doors = given(&rt, TcpDoors::new(listener, &waits, &rt, short()));
+    let (mut reader, _) = doors.next().expect(&rt, "a connection");
+    let start = given(&rt, Instant::now(&rt));
+    let mut second = given(&rt, TcpStream::connect(&rt, at));
+    given(&rt, second.write_all(b"2"));
+    let (mut other, _) = doors.next().expect(&rt, "the second connection");
     let mut said = [0u8; 1];
     holds(&rt, read_whole(&mut doors, &mut other, &mut said).is_some());
     holds(
         &rt,
-        said == *b"2" && start.elapsed(&rt)?.as_millis() < ENDED_MILLIS,
+        said == *b"2" && given(&rt, start.elapsed(&rt)).as_millis() < ENDED_MILLIS,
     );
     same(
         &rt,
         last_failure(&mut doors, &mut reader),
         Some(ErrorKind::TimedOut),
     );
-    let took = start.elapsed(&rt)?.as_millis();
+    let took = given(&rt, start.elapsed(&rt)).as_millis();
     holds(&rt, 900 < took && took < 5000);
     let _ = silent;
     Ok(())
@@ -189,11 +201,14 @@ fn say_slowly<R: Host>(rt: &R, stream: &mut TcpStream, alarm: &SocketAlarm) -> b
 /// A line that comes in two parts comes whole, also when an alarm is rung between them; and its answer goes out.
 #[test]
 fn slow_line(rt: HostRuntime) -> Result<(), Fail> {
-    let listener = TcpListener::bind(&rt, address(0))?;
-    let mut stream = TcpStream::connect(&rt, listener.local_addr()?)?;
-    let (waits, alarm) = Waits::new(&rt, rt.alloc())?;
-    let mut doors = TcpDoors::new(listener, &waits, &rt, long())?;
-    let (mut reader, mut writer) = doors.next().ok_or("a connection")?;
+    let listener = given(&rt, TcpListener::bind(&rt, address(0)));
+    let mut stream = given(
+        &rt,
+        TcpStream::connect(&rt, given(&rt, listener.local_addr())),
+    );
+    let (waits, alarm) = given(&rt, Waits::new(&rt, rt.alloc()));
+    let mut doors = given(&rt, TcpDoors::new(listener, &waits, &rt, long()));
+    let (mut reader, mut writer) = doors.next().expect(&rt, "a connection");
     let mut line = [0u8; 7];
     let (said, turns) = join(
         &rt,
@@ -202,9 +217,9 @@ fn slow_line(rt: HostRuntime) -> Result<(), Fail> {
     );
     holds(&rt, said && turns.is_some_and(|turns| turns > 7));
     holds(&rt, line == *b"status\n");
-    writer.write_all(b"ok\n")?;
+    given(&rt, writer.write_all(b"ok\n"));
     let mut answer = [0u8; 3];
-    stream.read_exact(&mut answer)?;
+    given(&rt, stream.read_exact(&mut answer));
     holds(&rt, answer == *b"ok\n");
     Ok(())
 }
@@ -222,17 +237,23 @@ fn fill<W: Write>(writer: &mut W) -> Option<ErrorKind> {
 /// A write to a peer that reads nothing ends by an alarm, and after it with the second.
 #[test]
 fn full_writer(rt: HostRuntime) -> Result<(), Fail> {
-    let listener = TcpListener::bind(&rt, address(0))?;
-    let stream = TcpStream::connect(&rt, listener.local_addr()?)?;
-    let (waits, alarm) = Waits::new(&rt, rt.alloc())?;
-    let mut doors = TcpDoors::new(listener, &waits, &rt, long())?;
-    let (_, mut writer) = doors.next().ok_or("a connection")?;
-    let start = Instant::now(&rt)?;
+    let listener = given(&rt, TcpListener::bind(&rt, address(0)));
+    let stream = given(
+        &rt,
+        TcpStream::connect(&rt, given(&rt, listener.local_addr())),
+    );
+    let (waits, alarm) = given(&rt, Waits::new(&rt, rt.alloc()));
+    let mut doors = given(&rt, TcpDoors::new(listener, &waits, &rt, long()));
+    let (_, mut writer) = doors.next().expect(&rt, "a connection");
+    let start = given(&rt, Instant::now(&rt));
     let (kind, _) = join(&rt, || fill(&mut writer), || ring_later(&rt, &alarm));
     same(&rt, kind, Some(ErrorKind::WouldBlock));
-    holds(&rt, start.elapsed(&rt)?.as_millis() < ENDED_MILLIS);
+    holds(
+        &rt,
+        given(&rt, start.elapsed(&rt)).as_millis() < ENDED_MILLIS,
+    );
     same(&rt, fill(&mut writer), Some(ErrorKind::TimedOut));
-    let took = start.elapsed(&rt)?.as_millis();
+    let took = given(&rt, start.elapsed(&rt)).as_millis();
     holds(&rt, 900 < took && took < 5000);
     let _ = stream;
     Ok(())
@@ -266,11 +287,14 @@ fn count_bytes<R: Host>(rt: &R, stream: &mut TcpStream) -> usize {
 /// A write waits for a peer that reads late.
 #[test]
 fn late_peer(rt: HostRuntime) -> Result<(), Fail> {
-    let listener = TcpListener::bind(&rt, address(0))?;
-    let mut stream = TcpStream::connect(&rt, listener.local_addr()?)?;
-    let (waits, _) = Waits::new(&rt, rt.alloc())?;
-    let mut doors = TcpDoors::new(listener, &waits, &rt, long())?;
-    let (reader, mut writer) = doors.next().ok_or("a connection")?;
+    let listener = given(&rt, TcpListener::bind(&rt, address(0)));
+    let mut stream = given(
+        &rt,
+        TcpStream::connect(&rt, given(&rt, listener.local_addr())),
+    );
+    let (waits, _) = given(&rt, Waits::new(&rt, rt.alloc()));
+    let mut doors = given(&rt, TcpDoors::new(listener, &waits, &rt, long()));
+    let (reader, mut writer) = doors.next().expect(&rt, "a connection");
     let (count, whole) = join(
         &rt,
         || count_bytes(&rt, &mut stream),
@@ -295,23 +319,23 @@ fn next_descriptor<R: Host>(rt: &R) -> RawFd {
 /// Connections that come one after the other leave no descriptor behind.
 #[test]
 fn descriptors(rt: HostRuntime) -> Result<(), Fail> {
-    let listener = TcpListener::bind(&rt, address(0))?;
-    let at = listener.local_addr()?;
-    let (waits, _) = Waits::new(&rt, rt.alloc())?;
-    let mut doors = TcpDoors::new(listener, &waits, &rt, long())?;
+    let listener = given(&rt, TcpListener::bind(&rt, address(0)));
+    let at = given(&rt, listener.local_addr());
+    let (waits, _) = given(&rt, Waits::new(&rt, rt.alloc()));
+    let mut doors = given(&rt, TcpDoors::new(listener, &waits, &rt, long()));
     let before = next_descriptor(&rt);
     for number in 0..CONNECTIONS {
-        let mut stream = TcpStream::connect(&rt, at)?;
-        stream.write_all(&number.to_be_bytes())?;
-        let (mut reader, mut writer) = doors.next().ok_or("a connection")?;
+        let mut stream = given(&rt, TcpStream::connect(&rt, at));
+        given(&rt, stream.write_all(&number.to_be_bytes()));
+        let (mut reader, mut writer) = doors.next().expect(&rt, "a connection");
         let mut said = [0u8; 4];
         holds(
             &rt,
             read_whole(&mut doors, &mut reader, &mut said).is_some(),
         );
         holds(&rt, said == number.to_be_bytes());
-        writer.write_all(&said)?;
-        stream.read_exact(&mut said)?;
+        given(&rt, writer.write_all(&said));
+        given(&rt, stream.read_exact(&mut said));
     }
     same(&rt, next_descriptor(&rt), before);
     Ok(())

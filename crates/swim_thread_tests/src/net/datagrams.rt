@@ -1,7 +1,7 @@
 //! Datagrams between two sockets.
 
 use super::scene::{ENDED_MILLIS, Host, address, long, ring_later, sleep};
-use crate::same::{holds, same};
+use crate::same::{given, holds, same};
 use arrayvec::ArrayVec;
 use std::alloc::Global;
 use std::io;
@@ -36,11 +36,11 @@ fn endpoint<R: Host>(rt: &R, port: u16) -> Endpoint {
 /// A receive that nothing comes for ends by its waiting time.
 #[test]
 fn waiting_time(rt: HostRuntime) -> Result<(), Fail> {
-    let (mut inbound, _, _) = bound(&rt, rt.alloc(), 0, Duration::from_millis(20))?;
+    let (mut inbound, _, _) = given(&rt, bound(&rt, rt.alloc(), 0, Duration::from_millis(20)));
     let mut into = ArrayVec::new();
-    let start = Instant::now(&rt)?;
+    let start = given(&rt, Instant::now(&rt));
     same(&rt, inbound.receive(&mut into), Ok(None));
-    let took = start.elapsed(&rt)?.as_millis();
+    let took = given(&rt, start.elapsed(&rt)).as_millis();
     holds(&rt, 15 < took && took < ENDED_MILLIS);
     Ok(())
 }
@@ -48,16 +48,16 @@ fn waiting_time(rt: HostRuntime) -> Result<(), Fail> {
 /// An alarm from another thread ends a receive.
 #[test]
 fn alarm_ends_receive(rt: HostRuntime) -> Result<(), Fail> {
-    let (mut inbound, _, alarm) = bound(&rt, rt.alloc(), 0, long())?;
+    let (mut inbound, _, alarm) = given(&rt, bound(&rt, rt.alloc(), 0, long()));
     let mut into = ArrayVec::new();
-    let start = Instant::now(&rt)?;
+    let start = given(&rt, Instant::now(&rt));
     let (_, received) = join(
         &rt,
         || ring_later(&rt, &alarm),
         || inbound.receive(&mut into),
     );
     same(&rt, received, Ok(None));
-    let took = start.elapsed(&rt)?.as_millis();
+    let took = given(&rt, start.elapsed(&rt)).as_millis();
     holds(&rt, 15 < took && took < ENDED_MILLIS);
     Ok(())
 }
@@ -65,26 +65,32 @@ fn alarm_ends_receive(rt: HostRuntime) -> Result<(), Fail> {
 /// Rings before a receive end it at once, and the one after it waits.
 #[test]
 fn ring_before_wait(rt: HostRuntime) -> Result<(), Fail> {
-    let (mut inbound, _, alarm) = bound(&rt, rt.alloc(), 0, Duration::from_millis(950))?;
+    let (mut inbound, _, alarm) = given(&rt, bound(&rt, rt.alloc(), 0, Duration::from_millis(950)));
     let mut into = ArrayVec::new();
     alarm.ring();
     alarm.ring();
-    let start = Instant::now(&rt)?;
+    let start = given(&rt, Instant::now(&rt));
     same(&rt, inbound.receive(&mut into), Ok(None));
-    holds(&rt, start.elapsed(&rt)?.as_millis() < ENDED_MILLIS);
+    holds(
+        &rt,
+        given(&rt, start.elapsed(&rt)).as_millis() < ENDED_MILLIS,
+    );
     same(&rt, inbound.receive(&mut into), Ok(None));
-    holds(&rt, start.elapsed(&rt)?.as_millis() >= ENDED_MILLIS);
+    holds(
+        &rt,
+        given(&rt, start.elapsed(&rt)).as_millis() >= ENDED_MILLIS,
+    );
     Ok(())
 }
 
 /// A datagram that comes in the wait ends it, and is what the receive gives.
 #[test]
 fn datagram_ends_receive(rt: HostRuntime) -> Result<(), Fail> {
-    let (mut inbound, _, _) = bound(&rt, rt.alloc(), 7111, long())?;
-    let (_, mut link, _) = bound(&rt, rt.alloc(), 7112, long())?;
+    let (mut inbound, _, _) = given(&rt, bound(&rt, rt.alloc(), 7111, long()));
+    let (_, mut link, _) = given(&rt, bound(&rt, rt.alloc(), 7112, long()));
     let to = endpoint(&rt, 7111);
     let mut into = ArrayVec::new();
-    let start = Instant::now(&rt)?;
+    let start = given(&rt, Instant::now(&rt));
     let (sent, received) = join(
         &rt,
         || {
@@ -96,7 +102,10 @@ fn datagram_ends_receive(rt: HostRuntime) -> Result<(), Fail> {
     holds(&rt, sent.is_ok());
     same(&rt, received, Ok(Some(endpoint(&rt, 7112))));
     same(&rt, into.as_slice(), b"late".as_slice());
-    holds(&rt, start.elapsed(&rt)?.as_millis() < ENDED_MILLIS);
+    holds(
+        &rt,
+        given(&rt, start.elapsed(&rt)).as_millis() < ENDED_MILLIS,
+    );
     Ok(())
 }
 
@@ -144,8 +153,8 @@ fn receive_numbers<R: Host>(inbound: &mut UdpInbound<'_, R>, from: Endpoint, rec
 /// Each datagram is given once and in order, whether it comes before a wait or in one.
 #[test]
 fn in_order(rt: HostRuntime) -> Result<(), Fail> {
-    let (mut inbound, _, _) = bound(&rt, rt.alloc(), 7113, long())?;
-    let (_, mut link, _) = bound(&rt, rt.alloc(), 7114, long())?;
+    let (mut inbound, _, _) = given(&rt, bound(&rt, rt.alloc(), 7113, long()));
+    let (_, mut link, _) = given(&rt, bound(&rt, rt.alloc(), 7114, long()));
     let (to, from) = (endpoint(&rt, 7113), endpoint(&rt, 7114));
     let received = AtomicU32::new(0);
     let (_, sent) = join(
@@ -161,11 +170,11 @@ fn in_order(rt: HostRuntime) -> Result<(), Fail> {
 /// Datagrams that came before the first receive are all given without a wait, the same change or not.
 #[test]
 fn before_wait(rt: HostRuntime) -> Result<(), Fail> {
-    let (mut inbound, _, _) = bound(&rt, rt.alloc(), 7115, long())?;
-    let (_, mut link, _) = bound(&rt, rt.alloc(), 7116, long())?;
+    let (mut inbound, _, _) = given(&rt, bound(&rt, rt.alloc(), 7115, long()));
+    let (_, mut link, _) = given(&rt, bound(&rt, rt.alloc(), 7116, long()));
     let to = endpoint(&rt, 7115);
     let mut into = ArrayVec::new();
-    let start = Instant::now(&rt)?;
+    let start = given(&rt, Instant::now(&rt));
     for round in 0..20u8 {
         for number in 0..10u8 {
             holds(&rt, link.send(to, &[round, number]).is_ok());
@@ -179,16 +188,19 @@ fn before_wait(rt: HostRuntime) -> Result<(), Fail> {
             same(&rt, into.as_slice(), [round, number].as_slice());
         }
     }
-    holds(&rt, start.elapsed(&rt)?.as_millis() < ENDED_MILLIS);
+    holds(
+        &rt,
+        given(&rt, start.elapsed(&rt)).as_millis() < ENDED_MILLIS,
+    );
     Ok(())
 }
 
 /// What a member keeps of a datagram that is too long, and what a stranger sends.
 #[test]
 fn long_and_strange(rt: HostRuntime) -> Result<(), Fail> {
-    let (mut inbound, _, _) = bound(&rt, rt.alloc(), 7117, long())?;
-    let sender = UdpSocket::bind(&rt, address(7118))?;
-    sender.send_to(&[9u8; 600], address(7117))?;
+    let (mut inbound, _, _) = given(&rt, bound(&rt, rt.alloc(), 7117, long()));
+    let sender = given(&rt, UdpSocket::bind(&rt, address(7118)));
+    given(&rt, sender.send_to(&[9u8; 600], address(7117)));
     let mut into = ArrayVec::new();
     same(
         &rt,

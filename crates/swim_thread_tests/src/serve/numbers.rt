@@ -105,7 +105,7 @@ fn number_lines(rt: HostRuntime) -> Result<(), Fail> {
     let lines = desk.lines.into_lines();
     let mut lines = lines.as_slice().iter();
     for want in all.iter().filter_map(|call| call.logged) {
-        let line = lines.next().ok_or("a line")?;
+        let line = lines.next().expect(&rt, "a line");
         holds(&rt, line.as_str().ends_with(want));
     }
     holds(&rt, lines.next().is_none());
@@ -140,10 +140,10 @@ fn numbers_said(rt: HostRuntime) -> Result<(), Fail> {
         (UpdateKind::Suspect, 1, 8, 9),
         (UpdateKind::Suspect, 3, 30, 9),
     ] {
-        let said = update(kind, last, number).ok_or("an update")?;
+        let said = update(kind, last, number).expect(&rt, "an update");
         holds(&rt, updates.try_push(said).is_ok());
         let page = text(Kind::Page, 1, Cursor::zero(), updates.as_slice());
-        let mut bytes = page.ok_or("a text")?;
+        let mut bytes = page.expect(&rt, "a text");
         same(&rt, numbers.said_by(bytes.as_slice()), want);
         bytes.truncate(9);
         same(&rt, numbers.said_by(bytes.as_slice()), 0);

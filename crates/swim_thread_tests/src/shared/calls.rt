@@ -20,7 +20,7 @@ use swim_shared::{CallFault, Closed, Name, Parts, Pass, Shared};
 /// After the first answered call a watch is shown it, and reads a status of length 1.
 #[test]
 fn first_call(rt: HostRuntime) -> Result<(), Fail> {
-    let (node, _) = opened_by_plan(rt.alloc(), 4).ok_or("a node")?;
+    let (node, _) = opened_by_plan(rt.alloc(), 4).expect(&rt, "a node");
     let parts = Parts::new(node, every_third(), 1, 1);
     first::<Brand, _, _>(&rt, rt.alloc(), parts)
 }
@@ -38,15 +38,15 @@ fn first<N: Name, D: Disk + Drop, R: Wait + Abort>(
     requires link { link_number 0 ≡ N.link }
 {
     let made = Shared::<N, D, Thirds, &R>::new(alloc, rt, parts);
-    let (shared, mut passes, mut watches) = made.ok().ok_or("memory")?;
-    let mut pass = passes.pop().ok_or("a pass")?;
-    let mut watch = watches.pop().ok_or("a watch")?;
-    same(rt, watch.read().ok_or("a status")?.length, 0);
-    let event = ping(1, &[]).ok_or("a ping")?;
+    let (shared, mut passes, mut watches) = made.ok().expect(rt, "memory");
+    let mut pass = passes.pop().expect(rt, "a pass");
+    let mut watch = watches.pop().expect(rt, "a watch");
+    same(rt, watch.read().expect(rt, "a status").length, 0);
+    let event = ping(1, &[]).expect(rt, "a ping");
     let reply = shared.call(rt, &mut pass, event);
-    let status = reply.ok().ok_or("a reply")?.status;
+    let status = reply.ok().expect(rt, "a reply").status;
     holds(rt, shared.show(rt, &mut pass, &mut watch));
-    let read = watch.read().ok_or("a status")?;
+    let read = watch.read().expect(rt, "a status");
     same(rt, (read, read.length), (status, 1));
     Ok(())
 }
@@ -56,7 +56,7 @@ fn first<N: Name, D: Disk + Drop, R: Wait + Abort>(
 #[test]
 fn three_eras(rt: HostRuntime) -> Result<(), Fail> {
     let alloc = rt.alloc();
-    let (node, _) = opened_by_plan(alloc, 2).ok_or("a node")?;
+    let (node, _) = opened_by_plan(alloc, 2).expect(&rt, "a node");
     let parts = Parts::new(node, every_third(), 1, 0);
     let closed = one_era::<Brand, _, _>(&rt, alloc, parts, 1)?;
     let mut node = closed.node;
@@ -86,11 +86,11 @@ fn one_era<N: Name, D: Disk + Drop, R: Wait + Abort>(
     requires link { link_number 0 ≡ N.link }
 {
     let made = Shared::<N, D, Thirds, &R>::new(alloc, rt, parts);
-    let (shared, mut passes, watches) = made.ok().ok_or("memory")?;
-    let mut pass = passes.pop().ok_or("a pass")?;
-    let event = suspicion(number).ok_or("a ping")?;
+    let (shared, mut passes, watches) = made.ok().expect(rt, "memory");
+    let mut pass = passes.pop().expect(rt, "a pass");
+    let event = suspicion(number).expect(rt, "a ping");
     let reply = shared.call(rt, &mut pass, event);
-    let status = reply.ok().ok_or("a reply")?.status;
+    let status = reply.ok().expect(rt, "a reply").status;
     same(
         rt,
         (status.length, status.number),
@@ -104,7 +104,7 @@ fn one_era<N: Name, D: Disk + Drop, R: Wait + Abort>(
         (pass.calls(), pass.len(), pass.is_spent()),
         (2, 2, false),
     );
-    passes.push(pass)?;
+    passes.push(pass).ok().expect(rt, "memory");
     holds(rt, passes.len() < 17 && watches.len() < 17);
     let closed = shared.close(passes, watches);
     same(rt, (closed.odd, closed.node.len()), (0, 2));
@@ -116,7 +116,7 @@ fn one_era<N: Name, D: Disk + Drop, R: Wait + Abort>(
 /// node on one thread.
 #[test]
 fn two_callers(rt: HostRuntime) -> Result<(), Fail> {
-    let (node, _) = opened_by_plan(rt.alloc(), 100).ok_or("a node")?;
+    let (node, _) = opened_by_plan(rt.alloc(), 100).expect(&rt, "a node");
     let parts = Parts::new(node, every_third(), 2, 1);
     let closed = fill::<Brand, _, _>(&rt, rt.alloc(), parts)?;
     replays(&rt, rt.alloc(), &closed.node);
@@ -136,19 +136,19 @@ fn fill<N: Name + Send + Sync, D: Disk + Drop + Send, R: Threads + Wait + Abort 
     requires link { link_number 0 ≡ N.link }
 {
     let made = Shared::<N, D, Thirds, &R>::new(alloc, rt, parts);
-    let (shared, mut passes, mut watches) = made.ok().ok_or("memory")?;
-    let second = passes.pop().ok_or("two passes")?;
-    let first = passes.pop().ok_or("a pass")?;
-    let mut watch = watches.pop().ok_or("a watch")?;
+    let (shared, mut passes, mut watches) = made.ok().expect(rt, "memory");
+    let second = passes.pop().expect(rt, "two passes");
+    let first = passes.pop().expect(rt, "a pass");
+    let mut watch = watches.pop().expect(rt, "a watch");
     let ((mut first, ones), (second, twos)) = both(rt, &shared, first, second);
     same(rt, (ones, twos), (50, 50));
     let full = shared.call(rt, &mut first, Event::ReceiveFailed);
     holds(rt, matches!(full, Err(CallFault::EraFull)));
     holds(rt, shared.show(rt, &mut first, &mut watch));
-    same(rt, watch.read().ok_or("a status")?.length, 100);
-    passes.push(first)?;
-    passes.push(second)?;
-    watches.push(watch)?;
+    same(rt, watch.read().expect(rt, "a status").length, 100);
+    passes.push(first).ok().expect(rt, "memory");
+    passes.push(second).ok().expect(rt, "memory");
+    watches.push(watch).ok().expect(rt, "memory");
     holds(rt, passes.len() < 17 && watches.len() < 17);
     let closed = shared.close(passes, watches);
     same(rt, (closed.odd, closed.node.len()), (0, 100));

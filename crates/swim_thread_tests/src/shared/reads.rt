@@ -21,7 +21,7 @@ use swim_shared::{Name, Parts, Pass, Shared, Watch};
 /// the call. Under one lock for both the reader would run out of turns.
 #[test]
 fn held_save(rt: HostRuntime) -> Result<(), Fail> {
-    let (node, plan) = opened_by_plan(rt.alloc(), 4).ok_or("a node")?;
+    let (node, plan) = opened_by_plan(rt.alloc(), 4).expect(&rt, "a node");
     let parts = Parts::new(node, every_third(), 1, 1);
     read_beside::<Brand, _, _>(&rt, rt.alloc(), parts, plan)
 }
@@ -40,19 +40,19 @@ fn read_beside<N: Name + Send + Sync, D: Disk + Drop + Send, R: Threads + Wait +
     requires link { link_number 0 ≡ N.link }
 {
     let made = Shared::<N, D, Thirds, &R>::new(alloc, rt, parts);
-    let (shared, mut passes, mut watches) = made.ok().ok_or("memory")?;
-    let pass = passes.pop().ok_or("a pass")?;
-    let mut watch = watches.pop().ok_or("a watch")?;
-    let before = watch.read().ok_or("a status")?;
+    let (shared, mut passes, mut watches) = made.ok().expect(rt, "memory");
+    let pass = passes.pop().expect(rt, "a pass");
+    let mut watch = watches.pop().expect(rt, "a watch");
+    let before = watch.read().expect(rt, "a status");
     same(rt, (before.length, before.number), (0, 1));
     plan.hold_sync();
-    let event = suspicion(1).ok_or("a ping")?;
+    let event = suspicion(1).expect(rt, "a ping");
     let ((mut pass, answered), (mut watch, read, held)) = beside(
         rt, &shared, pass, event, watch, plan,
     );
     same(rt, (answered, read, held), (true, Some(before), true));
     holds(rt, shared.show(rt, &mut pass, &mut watch));
-    let after = watch.read().ok_or("a status")?;
+    let after = watch.read().expect(rt, "a status");
     same(rt, (after.length, after.number), (1, 2));
     Ok(())
 }

@@ -20,8 +20,8 @@ use swim_wire::{Endpoint, Kind, UpdateKind, decode};
 /// A ring with one place takes the ack of a ping, and then none of the two datagrams of a leave.
 #[test]
 fn one_place(rt: HostRuntime) -> Result<(), Fail> {
-    let (node, _) = opened_by_plan(rt.alloc(), 4).ok_or("a node")?;
-    let (outbox, sender) = Outbox::new(rt.alloc(), 1)?;
+    let (node, _) = opened_by_plan(rt.alloc(), 4).expect(&rt, "a node");
+    let (outbox, sender) = Outbox::new(rt.alloc(), 1).ok().expect(&rt, "memory");
     let parts = Parts::new(node, outbox, 1, 0);
     narrow::<Brand, _, _>(&rt, rt.alloc(), parts, sender)
 }
@@ -42,21 +42,21 @@ fn narrow<N: Name, D: Disk + Drop, R: Wait + Abort>(
     requires sender { N.link ≡ sender.ring }
 {
     let made = Shared::<N, D, Outbox, &R>::new(alloc, rt, parts);
-    let (shared, mut passes, watches) = made.ok().ok_or("memory")?;
-    let mut pass = passes.pop().ok_or("a pass")?;
+    let (shared, mut passes, watches) = made.ok().expect(rt, "memory");
+    let mut pass = passes.pop().expect(rt, "a pass");
     let two = [
-        update(UpdateKind::Alive, 2, 1).ok_or("an update")?,
-        update(UpdateKind::Alive, 3, 1).ok_or("an update")?,
+        update(UpdateKind::Alive, 2, 1).expect(rt, "an update"),
+        update(UpdateKind::Alive, 3, 1).expect(rt, "an update"),
     ];
-    let event = ping(1, &two).ok_or("a ping")?;
+    let event = ping(1, &two).expect(rt, "a ping");
     for (event, want) in [(event, (1, 0)), (Event::Leave, (0, 2))] {
-        let reply = shared.call(rt, &mut pass, event).ok().ok_or("a reply")?;
+        let reply = shared.call(rt, &mut pass, event).ok().expect(rt, "a reply");
         same(rt, (reply.sent, reply.lost), want);
     }
     let mut link = MemoryLink::new(alloc, 1);
     let sent = sender.turn(&mut link);
     same(rt, (sent.taken, sent.lost), (1, 0));
-    passes.push(pass)?;
+    passes.push(pass).ok().expect(rt, "memory");
     holds(rt, passes.len() < 17 && watches.len() < 17);
     let closed = shared.close_sent(passes, watches, sender, &mut link);
     same(rt, (closed.odd, closed.owed, closed.node.len()), (0, 0, 2));
@@ -66,9 +66,9 @@ fn narrow<N: Name, D: Disk + Drop, R: Wait + Abort>(
 
 /// The first datagram that the link took is the ack of this ping.
 fn is_ack<R: Abort>(rt: &R, link: &MemoryLink, seq: u32) -> Result<(), Fail> {
-    let taken = link.taken().first().ok_or("a datagram")?;
+    let taken = link.taken().first().expect(rt, "a datagram");
     same(rt, Some(taken.to), endpoint(2));
-    let ack = decode(&taken.bytes).ok().ok_or("a text")?;
+    let ack = decode(&taken.bytes).ok().expect(rt, "a text");
     same(
         rt,
         (ack.kind, ack.seq, Some(ack.sender)),
@@ -81,8 +81,8 @@ fn is_ack<R: Abort>(rt: &R, link: &MemoryLink, seq: u32) -> Result<(), Fail> {
 /// settled; what is left in the ring at the end is handed on.
 #[test]
 fn second_send_fails(rt: HostRuntime) -> Result<(), Fail> {
-    let (node, _) = opened_by_plan(rt.alloc(), 8).ok_or("a node")?;
-    let (outbox, sender) = Outbox::new(rt.alloc(), 256)?;
+    let (node, _) = opened_by_plan(rt.alloc(), 8).expect(&rt, "a node");
+    let (outbox, sender) = Outbox::new(rt.alloc(), 256).ok().expect(&rt, "memory");
     let parts = Parts::new(node, outbox, 1, 0);
     told::<Brand, _, _>(&rt, rt.alloc(), parts, sender)
 }
@@ -103,10 +103,10 @@ fn told<N: Name, D: Disk + Drop, R: Wait + Abort>(
     requires sender { N.link ≡ sender.ring }
 {
     let made = Shared::<N, D, Outbox, &R>::new(alloc, rt, parts);
-    let (shared, mut passes, watches) = made.ok().ok_or("memory")?;
-    let mut pass = passes.pop().ok_or("a pass")?;
+    let (shared, mut passes, watches) = made.ok().expect(rt, "memory");
+    let mut pass = passes.pop().expect(rt, "a pass");
     for seq in 1..3 {
-        let event = ping(seq, &[]).ok_or("a ping")?;
+        let event = ping(seq, &[]).expect(rt, "a ping");
         holds(rt, shared.call(rt, &mut pass, event).is_ok());
     }
     let mut link = MemoryLink::new(alloc, 1);
@@ -115,13 +115,13 @@ fn told<N: Name, D: Disk + Drop, R: Wait + Abort>(
     same(rt, (sent.taken, sent.lost, sender.owed()), (1, 1, 1));
     let count = sender.owed();
     let told = shared.call(rt, &mut pass, Event::SendFailed { count });
-    let notes = told.ok().ok_or("a reply")?.notes;
+    let notes = told.ok().expect(rt, "a reply").notes;
     same(rt, notes.as_slice(), [Note::SendFailed(1)].as_slice());
     sender.settle();
     same(rt, sender.owed(), 0);
-    let event = ping(3, &[]).ok_or("a ping")?;
+    let event = ping(3, &[]).expect(rt, "a ping");
     holds(rt, shared.call(rt, &mut pass, event).is_ok());
-    passes.push(pass)?;
+    passes.push(pass).ok().expect(rt, "memory");
     holds(rt, passes.len() < 17 && watches.len() < 17);
     let closed = shared.close_sent(passes, watches, sender, &mut link);
     same(rt, (closed.odd, closed.owed, closed.node.len()), (0, 0, 4));
@@ -173,8 +173,8 @@ fn is_up_in_time(flag: &AtomicBool) -> bool {
 /// lock the send would run out of turns.
 #[test]
 fn held_send(rt: HostRuntime) -> Result<(), Fail> {
-    let (node, _) = opened_by_plan(rt.alloc(), 4).ok_or("a node")?;
-    let (outbox, sender) = Outbox::new(rt.alloc(), 4)?;
+    let (node, _) = opened_by_plan(rt.alloc(), 4).expect(&rt, "a node");
+    let (outbox, sender) = Outbox::new(rt.alloc(), 4).ok().expect(&rt, "memory");
     let parts = Parts::new(node, outbox, 1, 0);
     call_beside::<Brand, _, _>(&rt, rt.alloc(), parts, sender)
 }
@@ -194,9 +194,9 @@ fn call_beside<N: Name + Send + Sync, D: Disk + Drop + Send, R: Threads + Wait +
     requires start { parts.link.put ≡ N.start }
 {
     let made = Shared::<N, D, Outbox, &R>::new(alloc, rt, parts);
-    let (shared, mut passes, watches) = made.ok().ok_or("memory")?;
-    let mut pass = passes.pop().ok_or("a pass")?;
-    let event = ping(1, &[]).ok_or("a ping")?;
+    let (shared, mut passes, watches) = made.ok().expect(rt, "memory");
+    let mut pass = passes.pop().expect(rt, "a pass");
+    let event = ping(1, &[]).expect(rt, "a ping");
     holds(rt, shared.call(rt, &mut pass, event).is_ok());
     let inside = AtomicBool::new(false);
     let answered = AtomicBool::new(false);
@@ -205,11 +205,11 @@ fn call_beside<N: Name + Send + Sync, D: Disk + Drop + Send, R: Threads + Wait +
         answered: &answered,
         ran_out: false,
     };
-    let event = ping(2, &[]).ok_or("a ping")?;
+    let event = ping(2, &[]).expect(rt, "a ping");
     let (sent, (pass, is_answered)) = sending(rt, &shared, pass, event, sender, link);
     same(rt, sent, (1, 0, false));
     holds(rt, is_answered);
-    passes.push(pass)?;
+    passes.push(pass).ok().expect(rt, "memory");
     holds(rt, passes.len() < 17 && watches.len() < 17);
     let closed = shared.close(passes, watches);
     same(rt, (closed.odd, closed.node.len()), (0, 2));

@@ -6,7 +6,7 @@ use Rattle.swim_ask.proofs.counters.read_counters.Goals as goal
 
 pub loop-place-init : goal.loop-place-init
 loop-place-init c =
-    let same : c.in_ok-lines.lines ≡ 29 = search rules in
+    let same : c.in_ok-lines.lines ≡ 30 = search rules in
     record {
       read = none_read c.args.answer.now c.in_ok-lines.left.now [] c.in_ok-lines.lines same c.in_ok-lines.ensures;
       long = search rules;

@@ -7,5 +7,5 @@ use Rattle.swim_ask.proofs.counters.read_counters.Given as goal
 abbrev pub invariant-loop-place : goal.invariant-loop-place
 invariant-loop-place l = record {
   read : l.answer ≡ read_so_far (lines_from counter_line 0 (take l.place l.values)) l.left;
-  long : length l.values ≡ 29;
+  long : length l.values ≡ 30;
 }
