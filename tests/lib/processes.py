@@ -80,7 +80,7 @@ HINTS = (
     (r"settings refused .+", "SETTINGS.md says what each key takes; `swim run --show-settings FILE` tries a file and starts nothing"),
     (
         r"file refused",
-        "look whether the file is there, whether this user may use it, and whether another `swim run` has it",
+        'look whether the file is there, whether this user may use it, and whether another `swim run` has it; if a state file is lost, see "A lost state file" in OPERATIONS.md before any `swim init`',
     ),
     (
         r"socket refused",

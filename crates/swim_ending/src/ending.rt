@@ -73,7 +73,7 @@ const SETTINGS: &str =
 
 /// What else to say where a file was refused.
 const FILE: &str =
-    "look whether the file is there, whether this user may use it, and whether another `swim run` has it";
+    "look whether the file is there, whether this user may use it, and whether another `swim run` has it; if a state file is lost, see \"A lost state file\" in OPERATIONS.md before any `swim init`";
 
 /// What else to say where a socket was refused.
 const SOCKET: &str =
