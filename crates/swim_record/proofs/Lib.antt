@@ -1,6 +1,8 @@
 pub mod Backs
 pub mod Blocks
+mod EventWords
 pub mod Events
+mod Heads
 pub mod Others
 pub mod Texts
 pub mod Writing

@@ -74,7 +74,7 @@ same_argument (Who d) (Who e) is other same = ap (λ (k : ℕ). Who k) (same_end
 
 -- One argument more
 
-text-snoc : (args : List Argument) (a : Argument) → arguments_text (args ++ a ∷ []) ≡ arguments_text args ++ 32 ∷ argument_text a
+pub text-snoc : (args : List Argument) (a : Argument) → arguments_text (args ++ a ∷ []) ≡ arguments_text args ++ 32 ∷ argument_text a
 text-snoc [] a = ap (λ (l : List ℕ). 32 ∷ l) (append-nil (argument_text a))
 text-snoc (b ∷ args) a =
     ap (λ (l : List ℕ). 32 ∷ argument_text b ++ l) (text-snoc args a)

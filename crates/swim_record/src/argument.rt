@@ -7,6 +7,7 @@ ghost use Rattle.swim_record.specs.declared.argument.Argument.{Argument as Argum
 ghost use Rattle.swim_record.specs.declared.argument.TheConstants.{ARGUMENTS_MAX};
 
 use arrayvec::ArrayVec;
+use std::fmt;
 use swim_wire::Endpoint;
 use swim_words::{read_endpoint, read_number};
 
@@ -42,6 +43,19 @@ impl Argument {
         match self {
             Argument::Number(_) => None,
             Argument::Who(who) => Some(who),
+        }
+    }
+}
+
+impl fmt::Display for Argument {
+    ghost use Rattle.std.specs.Prelude.{Some};
+
+    ghost output = { λ argument. Some (argument_text argument) };
+
+    fn fmt<W: fmt::Write>(&self, f: &mut fmt::Formatter<W>) -> fmt::Result {
+        match self {
+            Argument::Number(number) => number.fmt(f),
+            Argument::Who(who) => who.fmt(f),
         }
     }
 }

@@ -19,7 +19,7 @@ use std::alloc::Global;
 use swim_member::{Deal, Event, RECEIVED_MAX};
 use swim_rules::ROWS_MAX;
 use swim_wire::{Cursor, Endpoint};
-use swim_words::{read_endpoint, read_within, split_at_byte};
+use swim_words::{Word, named, read_endpoint, read_within, split_at_byte};
 
 /// Why no event was read.
 #[derive(Clone, Copy, Debug, PartialEq, Eq)]
@@ -43,20 +43,38 @@ pub enum EventWord {
 }
 
 impl EventWord {
+    /// All of them.
+    const ALL: [EventWord; 7] = [
+        EventWord::Deal,
+        EventWord::Received,
+        EventWord::ReceiveFailed,
+        EventWord::SendFailed,
+        EventWord::Join,
+        EventWord::Leave,
+        EventWord::Members,
+    ];
+
     /// The first word of an event's line that the word is.
     fn of(word: &[u8]) -> Option<EventWord>
         ensures word { IfSome result (λ k. word.now ≡ event_word k) }
         ensures none { IfNone result (No (λ k. word.now ≡ event_word k)) }
     {
-        match word {
-            b"deal" => Some(EventWord::Deal),
-            b"recv" => Some(EventWord::Received),
-            b"recvfail" => Some(EventWord::ReceiveFailed),
-            b"sendfail" => Some(EventWord::SendFailed),
-            b"join" => Some(EventWord::Join),
-            b"leave" => Some(EventWord::Leave),
-            b"members" => Some(EventWord::Members),
-            _ => None,
+        named(&EventWord::ALL, word)
+    }
+}
+
+impl Word for EventWord {
+    ghost text_of = { event_word };
+
+    fn text(self) -> &'static str {
+        match self {
+            EventWord::Deal => "deal",
+            EventWord::Received => "recv",
+            EventWord::ReceiveFailed => "recvfail",
+            EventWord::SendFailed => "sendfail",
+            EventWord::Join => "join",
+            EventWord::Leave => "leave",
+            EventWord::Members => "members",
         }
     }
 }

@@ -6,6 +6,7 @@ mod block;
 mod event;
 mod head;
 mod line;
+mod text;
 mod writer;
 
 pub use argument::Argument;

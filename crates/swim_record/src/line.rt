@@ -8,12 +8,11 @@ ghost use Rattle.swim_record.specs.declared.line.Line.{Line as Lines};
 
 use crate::argument::{Argument, first_word, read_arguments};
 use crate::head::Head;
-use std::fmt;
 use swim_member::Phase;
 use swim_wire::{Endpoint, UpdateKind};
 
 /// With what an era begins, beside the lines before it.
-#[derive(Clone, Copy, Debug, PartialEq, Eq)]
+#[derive(Clone, Copy)]
 pub struct Start {
     /// Whether the member takes part.
     pub phase: Phase,
@@ -32,7 +31,7 @@ pub struct Start {
 }
 
 /// The settings that a line of numbers has, and the limit of an era.
-#[derive(Clone, Copy, Debug, PartialEq, Eq)]
+#[derive(Clone, Copy)]
 pub struct Times {
     /// Ticks from one probe to the next.
     pub period: u64,
@@ -51,7 +50,7 @@ pub struct Times {
 }
 
 /// A line of a recording.
-#[derive(Clone, Copy, Debug, PartialEq, Eq)]
+#[derive(Clone, Copy)]
 pub enum Line {
     /// Who the member is: its group, its endpoint, its lambda, and by which rules it lives.
     Member(u64, Endpoint, u64, u64),
@@ -387,88 +386,4 @@ pub fn read_line(text: &[u8]) -> Option<Line>
     let head = Head::of(word)?;
     let arguments = read_arguments(rest)?;
     of(head, &arguments)
-}
-
-impl fmt::Display for Line {
-    ghost use Rattle.std.specs.Prelude.{Some};
-    ghost use Rattle.swim_record.specs.Lines.{line_text};
-
-    ghost output = { λ l. Some (line_text l) };
-
-    fn fmt<W: fmt::Write>(&self, f: &mut fmt::Formatter<W>) -> fmt::Result {
-        match self {
-            Line::Member(group, me, lambda, rules) => {
-                write!(f, "member {group} {me} {lambda} {rules}")
-            }
-            Line::Times(times) => times.fmt(f),
-            Line::Listed(who) => write!(f, "listed {who}"),
-            Line::Caller(caller) => write!(f, "caller {caller}"),
-            Line::Granted(ceiling) => write!(f, "granted {ceiling}"),
-            Line::Lost(place) => write!(f, "lost {place}"),
-            Line::Probe(target, seq) => write!(f, "probe {target} {seq}"),
-            Line::Answered(target, seq) => write!(f, "answered {target} {seq}"),
-            Line::Joining(peer, seq) => write!(f, "joining {peer} {seq}"),
-            Line::JoiningAfter(peer, seq, after) => write!(f, "joining {peer} {seq} {after}"),
-            Line::Relay(target, seq, asker, asked, made) => {
-                write!(f, "relay {target} {seq} {asker} {asked} {made}")
-            }
-            Line::Row(kind, who, number, since) => {
-                let kind = kind.name();
-                write!(f, "{kind} {who} {number} {since}")
-            }
-            Line::Say(kind, who, number, count) => {
-                let kind = kind.name();
-                write!(f, "+{kind} {who} {number} {count}")
-            }
-            Line::Begin(start) => start.fmt(f),
-        }
-    }
-}
-
-impl fmt::Display for Start {
-    ghost use Rattle.std.specs.Prelude.{Some};
-    ghost use Rattle.swim_record.specs.Lines.{line_text};
-    ghost use Rattle.swim_record.specs.declared.line.Line.TheVariants.{Begin};
-
-    ghost output = { λ s. Some (line_text (Begin s)) };
-
-    fn fmt<W: fmt::Write>(&self, f: &mut fmt::Formatter<W>) -> fmt::Result {
-        let phase = self.phase.name();
-        let Start {
-            number,
-            time,
-            seq,
-            place,
-            granted,
-            ..
-        } = self;
-        match self.past {
-            None => write!(f, "{phase} {number} {time} {seq} {place} {granted}"),
-            Some(past) => write!(f, "{phase} {number} {time} {seq} {place} {granted} {past}"),
-        }
-    }
-}
-
-impl fmt::Display for Times {
-    ghost use Rattle.std.specs.Prelude.{Some};
-    ghost use Rattle.swim_record.specs.Lines.{line_text};
-    ghost use Rattle.swim_record.specs.declared.line.Line.TheVariants as line;
-
-    ghost output = { λ t. Some (line_text (line.Times t)) };
-
-    fn fmt<W: fmt::Write>(&self, f: &mut fmt::Formatter<W>) -> fmt::Result {
-        let Times {
-            period,
-            direct,
-            suspect,
-            forget,
-            helpers,
-            block,
-            limit,
-        } = self;
-        write!(
-            f,
-            "times {period} {direct} {suspect} {forget} {helpers} {block} {limit}"
-        )
-    }
 }

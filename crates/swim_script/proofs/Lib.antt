@@ -4,3 +4,4 @@ mod Keywords
 mod Lines
 mod Options
 mod Scripts
+mod Tables

@@ -17,7 +17,7 @@ use std::alloc::Global;
 use swim_disk::Choice;
 use swim_member::{Deal, Event};
 use swim_wire::Cursor;
-use swim_words::{read_endpoint, read_number, read_within, split_at_byte};
+use swim_words::{Word, named, read_endpoint, read_number, read_within, split_at_byte};
 
 /// The greatest value that a line sets, and the most calls until one that fails.
 const COUNT_MAX: u32 = 1_000_000;
@@ -34,22 +34,42 @@ fn read_count(text: &[u8], least: u32, most: u32) -> Option<u32>
 }
 
 impl Setting {
+    /// All of them.
+    const ALL: [Setting; 9] = [
+        Setting::Lambda,
+        Setting::Period,
+        Setting::Direct,
+        Setting::Suspect,
+        Setting::Forget,
+        Setting::Helpers,
+        Setting::Limit,
+        Setting::Block,
+        Setting::Rules,
+    ];
+
     /// The setting that the word names.
     fn of(word: &[u8]) -> Option<Setting>
         ensures setting { IfSome result (λ setting. word.now ≡ setting_text setting) }
         ensures none { IfNone result (No (IsSetting word.now)) }
     {
-        match word {
-            b"lambda" => Some(Setting::Lambda),
-            b"period" => Some(Setting::Period),
-            b"direct" => Some(Setting::Direct),
-            b"suspect" => Some(Setting::Suspect),
-            b"forget" => Some(Setting::Forget),
-            b"helpers" => Some(Setting::Helpers),
-            b"limit" => Some(Setting::Limit),
-            b"block" => Some(Setting::Block),
-            b"rules" => Some(Setting::Rules),
-            _ => None,
+        named(&Setting::ALL, word)
+    }
+}
+
+impl Word for Setting {
+    ghost text_of = { setting_text };
+
+    fn text(self) -> &'static str {
+        match self {
+            Setting::Lambda => "lambda",
+            Setting::Period => "period",
+            Setting::Direct => "direct",
+            Setting::Suspect => "suspect",
+            Setting::Forget => "forget",
+            Setting::Helpers => "helpers",
+            Setting::Limit => "limit",
+            Setting::Block => "block",
+            Setting::Rules => "rules",
         }
     }
 }

@@ -2,3 +2,4 @@ pub mod Digits
 pub mod Endpoints
 pub mod Naming
 pub mod Splits
+pub mod Tables

@@ -3,7 +3,9 @@
 #![tactic(auto)]
 
 mod hosts;
+mod table;
 mod words;
 
 pub use hosts::{HOST_MAX, read_host};
+pub use table::{Word, named};
 pub use words::{read_endpoint, read_number, read_within, split_at_byte};
