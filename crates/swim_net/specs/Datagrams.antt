@@ -1,7 +1,10 @@
 -- Where datagrams come from and go to, and what a socket for them has answered.
 use Rattle.std.specs.Prelude.{◌≢◌, ℕ, ◌+◌, ◌*◌, List, [], ◌∷◌, Option, Result, IsNone, SomeIff}
+use Rattle.std.specs.Prelude.{Bool, true, false}
 use Rattle.std.specs.Net.Addr.{ipv4_bits}
 use Rattle.std.specs.Net.Socket.{v4_ip, v4_port}
+use Rattle.std.specs.declared.io.ErrorKind.{ErrorKind}
+use Rattle.std.specs.declared.io.ErrorKind.TheVariants as kinds
 use Rattle.std.specs.declared.net.socket_addr.SocketAddr.{SocketAddr}
 use Rattle.std.specs.declared.net.socket_addr.SocketAddr.TheVariants.{V4, V6}
 use Rattle.arrayvec.specs.ArrayVec.{ArrayVec}
@@ -23,3 +26,13 @@ came_by _ _ = Nothing
 abbrev pub came_in : List Answer → List Came
 came_in [] = []
 came_in (a ∷ answers) = came_by a.from a.bytes ∷ came_in answers
+
+-- a receive that ended so brought nothing, and did not fail
+abbrev pub brings_nothing : ErrorKind → Bool
+brings_nothing kinds.WouldBlock = true
+brings_nothing kinds.TimedOut = true
+brings_nothing kinds.Interrupted = true
+brings_nothing kinds.ConnectionRefused = true
+brings_nothing kinds.HostUnreachable = true
+brings_nothing kinds.NetworkUnreachable = true
+brings_nothing _ = false

@@ -1,10 +1,10 @@
 //! Datagrams over UDP.
 
-ghost use Rattle.std.specs.Prelude.{◌≡◌, ◌≢◌, ◌≤◌, ◌++◌, ◌∷◌, [], length, take as first, IfErr, IfNone, IfOk, IfSome, IsOk, IsTrue, OnErr, OnOk, Some};
+ghost use Rattle.std.specs.Prelude.{◌≡◌, ◌≢◌, ◌≤◌, ◌↔◌, ◌++◌, ◌∷◌, [], length, take as first, false, IfErr, IfNone, IfOk, IfSome, IsErr, IsOk, OnErr, OnOk, Some};
 ghost use Rattle.std.specs.IoError.{error_kind};
 ghost use Rattle.std.specs.declared.io.ErrorKind.TheVariants.{Interrupted};
 ghost use Rattle.swim_shell.specs.Inbounds.{came_of};
-ghost use Rattle.swim_net.specs.Datagrams.{IsEndpointAt, came_in};
+ghost use Rattle.swim_net.specs.Datagrams.{IsEndpointAt, brings_nothing, came_in};
 
 use crate::waits::{SocketAlarm, Waits, pause};
 use arrayvec::ArrayVec;
@@ -127,7 +127,7 @@ pub struct UdpInbound<'a, C: Clock> {
 /// Whether a receive that ended so brought nothing, and did not fail: nothing had come in the waiting time, a signal cut it
 /// short, or the system told of an earlier send that it did not arrive.
 pub(crate) fn brings_nothing(kind: ErrorKind) -> bool
-    ensures { kind ≡ Interrupted → IsTrue result }
+    ensures { result ≡ brings_nothing kind }
 {
     matches!(
         kind,
@@ -150,6 +150,7 @@ pub fn take(
     requires { IfOk received (λ r. r.0 ≤ length bytes.now) }
     ensures came { OnOk received (IsOk result) }
     ensures failed { OnErr result (IfErr received (λ e. error_kind e ≢ Interrupted)) }
+    ensures fault { IfErr received (λ e. IsErr result ↔ (brings_nothing (error_kind e) ≡ false)) }
     ensures nothing { IfOk result (λ from. IfNone from (into.new.items ≡ [])) }
     ensures whence { IfOk received (λ r. IfOk result (λ from. IsEndpointAt r.1 from)) }
     ensures whole { IfOk received (λ r. r.0 ≤ RECEIVED_MAX → IfOk result
