@@ -1,8 +1,10 @@
 -- Where datagrams come from and go to, and what a socket for them has answered.
 use Rattle.std.specs.Prelude.{◌≢◌, ℕ, ◌+◌, ◌*◌, List, [], ◌∷◌, Option, Result, IsNone, SomeIff}
-use Rattle.std.specs.Prelude.{Bool, true, false}
+use Rattle.std.specs.Prelude.{◌==◌, Bool, true, false, Some, None, Ok, Err, if◌then◌else◌}
 use Rattle.std.specs.Net.Addr.{ipv4_bits}
 use Rattle.std.specs.Net.Socket.{v4_ip, v4_port}
+use Rattle.std.specs.IoError.{error_kind}
+use Rattle.std.specs.declared.io.Error.{Error}
 use Rattle.std.specs.declared.io.ErrorKind.{ErrorKind}
 use Rattle.std.specs.declared.io.ErrorKind.TheVariants as kinds
 use Rattle.std.specs.declared.net.socket_addr.SocketAddr.{SocketAddr}
@@ -36,3 +38,15 @@ brings_nothing kinds.ConnectionRefused = true
 brings_nothing kinds.HostUnreachable = true
 brings_nothing kinds.NetworkUnreachable = true
 brings_nothing _ = false
+
+-- a send that failed so may be tried again
+abbrev pub may_retry : ErrorKind → Bool
+may_retry kinds.Interrupted = true
+may_retry kinds.WouldBlock = true
+may_retry _ = false
+
+-- whether the whole datagram of so many bytes went out, by what the socket answered; none if it may
+-- be tried again
+abbrev pub sent_by : Result ℕ Error → ℕ → Option Bool
+sent_by (Ok sent) length = Some (sent == length)
+sent_by (Err e) length = if may_retry (error_kind e) then None else Some false

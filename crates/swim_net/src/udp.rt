@@ -4,7 +4,7 @@ ghost use Rattle.std.specs.Prelude.{◌≡◌, ◌≢◌, ◌≤◌, ◌↔◌, 
 ghost use Rattle.std.specs.IoError.{error_kind};
 ghost use Rattle.std.specs.declared.io.ErrorKind.TheVariants.{Interrupted};
 ghost use Rattle.swim_shell.specs.Inbounds.{came_of};
-ghost use Rattle.swim_net.specs.Datagrams.{IsEndpointAt, brings_nothing, came_in};
+ghost use Rattle.swim_net.specs.Datagrams.{IsEndpointAt, brings_nothing, came_in, sent_by};
 
 use crate::waits::{SocketAlarm, Waits, pause};
 use arrayvec::ArrayVec;
@@ -49,6 +49,20 @@ pub struct UdpLink<'a, C: Clock> {
     failures: Trace<()>,
 }
 
+/// Whether the whole datagram of so many bytes went out by a send that the socket answered so; none if it may be tried again, as
+/// a signal cut it short or the system had no room.
+fn sent_by(answer: &io::Result<usize>, length: usize) -> Option<bool>
+    ensures { result ≡ sent_by answer.now length }
+{
+    match answer {
+        Ok(sent) => Some(*sent == length),
+        Err(error) => match error.kind() {
+            ErrorKind::Interrupted | ErrorKind::WouldBlock => None,
+            _ => Some(false),
+        },
+    }
+}
+
 impl<'a, C: Clock> UdpLink<'a, C> {
     /// A link over a bound socket that never waits.
     fn new(socket: UdpSocket, clock: &'a C) -> UdpLink<'a, C> {
@@ -59,26 +73,16 @@ impl<'a, C: Clock> UdpLink<'a, C> {
         }
     }
 
-    /// Whether a send that failed so may be tried again: at once if a signal cut it short, and after a pause if the system
-    /// had no room.
-    fn may_retry(&self, kind: ErrorKind) -> bool {
-        match kind {
-            ErrorKind::Interrupted => true,
-            ErrorKind::WouldBlock => {
-                pause(self.clock);
-                true
-            }
-            _ => false,
-        }
-    }
-
-    /// Sends one datagram whole.
+    /// Sends one datagram whole. A send that may be tried again is: at once if a signal cut it short, and after a pause if the
+    /// system had no room.
     fn send_whole(&self, to: Endpoint, bytes: &[u8]) -> bool {
         for _ in 0..SENDS_MAX {
-            match self.socket.send_to(bytes, address_of(to)) {
-                Ok(sent) => return sent == bytes.len(),
-                Err(error) if self.may_retry(error.kind()) => {}
-                Err(_) => return false,
+            let answer = self.socket.send_to(bytes, address_of(to));
+            if let Some(is_whole) = sent_by(&answer, bytes.len()) {
+                return is_whole;
+            }
+            if matches!(&answer, Err(error) if error.kind() == ErrorKind::WouldBlock) {
+                pause(self.clock);
             }
         }
         false
