@@ -1,7 +1,12 @@
 -- Where datagrams come from and go to, and what a socket for them has answered.
 use Rattle.std.specs.Prelude.{◌≢◌, ℕ, ◌+◌, ◌*◌, List, [], ◌∷◌, Option, Result, IsNone, SomeIff}
+use Rattle.std.specs.Prelude.{◌==◌, Bool, true, false, Some, None, Ok, Err, if◌then◌else◌}
 use Rattle.std.specs.Net.Addr.{ipv4_bits}
 use Rattle.std.specs.Net.Socket.{v4_ip, v4_port}
+use Rattle.std.specs.IoError.{error_kind}
+use Rattle.std.specs.declared.io.Error.{Error}
+use Rattle.std.specs.declared.io.ErrorKind.{ErrorKind}
+use Rattle.std.specs.declared.io.ErrorKind.TheVariants as kinds
 use Rattle.std.specs.declared.net.socket_addr.SocketAddr.{SocketAddr}
 use Rattle.std.specs.declared.net.socket_addr.SocketAddr.TheVariants.{V4, V6}
 use Rattle.arrayvec.specs.ArrayVec.{ArrayVec}
@@ -23,3 +28,25 @@ came_by _ _ = Nothing
 abbrev pub came_in : List Answer → List Came
 came_in [] = []
 came_in (a ∷ answers) = came_by a.from a.bytes ∷ came_in answers
+
+-- a receive that ended so brought nothing, and did not fail
+abbrev pub brings_nothing : ErrorKind → Bool
+brings_nothing kinds.WouldBlock = true
+brings_nothing kinds.TimedOut = true
+brings_nothing kinds.Interrupted = true
+brings_nothing kinds.ConnectionRefused = true
+brings_nothing kinds.HostUnreachable = true
+brings_nothing kinds.NetworkUnreachable = true
+brings_nothing _ = false
+
+-- a send that failed so may be tried again
+abbrev pub may_retry : ErrorKind → Bool
+may_retry kinds.Interrupted = true
+may_retry kinds.WouldBlock = true
+may_retry _ = false
+
+-- whether the whole datagram of so many bytes went out, by what the socket answered; none if it may
+-- be tried again
+abbrev pub went_whole : Result ℕ Error → ℕ → Option Bool
+went_whole (Ok sent) length = Some (sent == length)
+went_whole (Err e) length = if may_retry (error_kind e) then None else Some false

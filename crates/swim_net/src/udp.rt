@@ -1,10 +1,10 @@
 //! Datagrams over UDP.
 
-ghost use Rattle.std.specs.Prelude.{◌≡◌, ◌≢◌, ◌≤◌, ◌++◌, ◌∷◌, [], length, take as first, IfErr, IfNone, IfOk, IfSome, IsOk, IsTrue, OnErr, OnOk, Some};
+ghost use Rattle.std.specs.Prelude.{◌≡◌, ◌≢◌, ◌≤◌, ◌↔◌, ◌++◌, ◌∷◌, [], length, take as first, false, IfErr, IfNone, IfOk, IfSome, IsErr, IsOk, OnErr, OnOk, Some};
 ghost use Rattle.std.specs.IoError.{error_kind};
 ghost use Rattle.std.specs.declared.io.ErrorKind.TheVariants.{Interrupted};
 ghost use Rattle.swim_shell.specs.Inbounds.{came_of};
-ghost use Rattle.swim_net.specs.Datagrams.{IsEndpointAt, came_in};
+ghost use Rattle.swim_net.specs.Datagrams.{IsEndpointAt, brings_nothing, came_in, went_whole};
 
 use crate::waits::{SocketAlarm, Waits, pause};
 use arrayvec::ArrayVec;
@@ -49,6 +49,20 @@ pub struct UdpLink<'a, C: Clock> {
     failures: Trace<()>,
 }
 
+/// Whether the whole datagram of so many bytes went out by a send that the socket answered so; none if it may be tried again, as
+/// a signal cut it short or the system had no room.
+fn went_whole(answer: &io::Result<usize>, length: usize) -> Option<bool>
+    ensures { result ≡ went_whole answer.now length }
+{
+    match answer {
+        Ok(sent) => Some(*sent == length),
+        Err(error) => match error.kind() {
+            ErrorKind::Interrupted | ErrorKind::WouldBlock => None,
+            _ => Some(false),
+        },
+    }
+}
+
 impl<'a, C: Clock> UdpLink<'a, C> {
     /// A link over a bound socket that never waits.
     fn new(socket: UdpSocket, clock: &'a C) -> UdpLink<'a, C> {
@@ -59,26 +73,16 @@ impl<'a, C: Clock> UdpLink<'a, C> {
         }
     }
 
-    /// Whether a send that failed so may be tried again: at once if a signal cut it short, and after a pause if the system
-    /// had no room.
-    fn may_retry(&self, kind: ErrorKind) -> bool {
-        match kind {
-            ErrorKind::Interrupted => true,
-            ErrorKind::WouldBlock => {
-                pause(self.clock);
-                true
-            }
-            _ => false,
-        }
-    }
-
-    /// Sends one datagram whole.
+    /// Sends one datagram whole. A send that may be tried again is: at once if a signal cut it short, and after a pause if the
+    /// system had no room.
     fn send_whole(&self, to: Endpoint, bytes: &[u8]) -> bool {
         for _ in 0..SENDS_MAX {
-            match self.socket.send_to(bytes, address_of(to)) {
-                Ok(sent) => return sent == bytes.len(),
-                Err(error) if self.may_retry(error.kind()) => {}
-                Err(_) => return false,
+            let answer = self.socket.send_to(bytes, address_of(to));
+            if let Some(is_whole) = went_whole(&answer, bytes.len()) {
+                return is_whole;
+            }
+            if matches!(&answer, Err(error) if error.kind() == ErrorKind::WouldBlock) {
+                pause(self.clock);
             }
         }
         false
@@ -127,7 +131,7 @@ pub struct UdpInbound<'a, C: Clock> {
 /// Whether a receive that ended so brought nothing, and did not fail: nothing had come in the waiting time, a signal cut it
 /// short, or the system told of an earlier send that it did not arrive.
 pub(crate) fn brings_nothing(kind: ErrorKind) -> bool
-    ensures { kind ≡ Interrupted → IsTrue result }
+    ensures { result ≡ brings_nothing kind }
 {
     matches!(
         kind,
@@ -150,6 +154,7 @@ pub fn take(
     requires { IfOk received (λ r. r.0 ≤ length bytes.now) }
     ensures came { OnOk received (IsOk result) }
     ensures failed { OnErr result (IfErr received (λ e. error_kind e ≢ Interrupted)) }
+    ensures fault { IfErr received (λ e. IsErr result ↔ (brings_nothing (error_kind e) ≡ false)) }
     ensures nothing { IfOk result (λ from. IfNone from (into.new.items ≡ [])) }
     ensures whence { IfOk received (λ r. IfOk result (λ from. IsEndpointAt r.1 from)) }
     ensures whole { IfOk received (λ r. r.0 ≤ RECEIVED_MAX → IfOk result

@@ -1,12 +1,17 @@
 //! The opening of a member on its state file.
 
-ghost use Rattle.std.specs.Prelude.{◌≡◌, [], IfOk};
+ghost use Rattle.std.specs.Prelude.{◌≡◌, ◌≢◌, ◌↔◌, ◌⊎◌, ◌<◌, [], None, Some, IfErr, IfOk};
 ghost use Rattle.swim_disk.specs.Disk.{IsSettled};
 ghost use Rattle.swim_disk.specs.File.{FileView, file_state};
 ghost use Rattle.swim_start.specs.WatchedDisk.{disk_below, watched_state};
 ghost use Rattle.swim_start.specs.declared.watched_disk.WatchedDisk.{WatchedDisk};
 ghost use Rattle.swim_member.specs.Checks.{AreSound};
 ghost use Rattle.swim_node.specs.Lives.{BeginsAbove, IsLiving, life_of};
+ghost use Rattle.swim_node.specs.Node.{owner_of};
+ghost use Rattle.swim_node.specs.declared.opening.TheConstants.{LIMIT_MAX};
+ghost use Rattle.swim_state.specs.Recovery.{fault_of};
+ghost use Rattle.swim_state.specs.declared.fault.RecoverFault.{RecoverFault as Faults};
+ghost use Rattle.swim_state.specs.declared.fault.RecoverFault.TheVariants.{Device};
 
 use crate::watched_disk::{Watch, WatchedDisk};
 use std::alloc::Global;
@@ -28,6 +33,17 @@ pub fn open<W: Watch + Drop>(
     requires settled { IsSettled (file_state disk) }
     requires sound { AreSound settings }
     ensures entries { IfOk result (λ node. node.entries ≡ []) }
+
+    // The limit is refused if and only if it is out of its range. A fault that is no failed call is the first that the file shows,
+    // and what shows one is not opened.
+    ensures limit { IfErr result (λ fault.
+        fault ≡ OpenFault.Limit ↔ ((limit ≡ 0) ⊎ (LIMIT_MAX < limit))) }
+    ensures fault { IfErr result (λ refused. (fault : Faults)
+        → fault ≢ Device
+        → refused ≡ OpenFault.Refused fault
+        → fault_of (owner_of settings) (file_state disk).content ≡ Some fault) }
+    ensures none { IfOk result
+        (λ _. fault_of (owner_of settings) (file_state disk).content ≡ None) }
 
     // A life has begun on what the file had when it was loaded. Its first number is above all that the life before said,
     // if the file kept what it had synced: if a crash may have left that of it.
