@@ -109,6 +109,30 @@ fn left_out_notes(rt: HostRuntime) -> Result<(), Fail> {
     Ok(())
 }
 
+/// One note that was left out is said too, at a later turn that has no note of its own.
+#[test]
+fn one_left_out_note(rt: HostRuntime) -> Result<(), Fail> {
+    let mut desk = Desk {
+        second: 5,
+        lines: Memory::new(rt.alloc()),
+    };
+    let mut notes = NoteLog::new();
+    for _ in 0..LOGGED_MAX + 1 {
+        notes.log(&desk, &noted(Note::NotSender), &None);
+    }
+    desk.second = 6;
+    notes.log(&desk, &replied(None, Phase::Running, 1), &None);
+    let lines = desk.lines.into_lines();
+    same(&rt, lines.len(), usize::from(LOGGED_MAX) + 1);
+    let last = lines.as_slice().last().expect(&rt, "a line");
+    holds(
+        &rt,
+        last.as_str()
+            .ends_with("note 3 NotSender, and 1 of its kind in the same second"),
+    );
+    Ok(())
+}
+
 /// A member that takes no part any more notes it at each tick; that is logged once, in whatever second.
 #[test]
 fn stopped_once(rt: HostRuntime) -> Result<(), Fail> {
