@@ -138,9 +138,9 @@ impl<'a, T: Threads + Wait + Log + Clock> LiveSettings<'a, T> {
         ensures { self.new.scribe.given ≡ self.old.scribe.given }
     {
         let keys = restart_keys(&self.told, &then);
-        tell(self.logged, keys.as_slice());
         self.told.take_anew(then);
         log_from(self.level, self.told.log);
+        tell(self.logged, keys.as_slice());
         self.name_places();
         let eras = self.told.record_eras;
         self.scribe.redirect(self.told.folder(), eras);
