@@ -1,2 +1,3 @@
+mod Naming
 pub mod Taken
 pub mod Texts

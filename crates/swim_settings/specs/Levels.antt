@@ -1,5 +1,5 @@
 -- The levels of a settings file.
-use Rattle.std.specs.Prelude.{◌≡◌, ℕ, List, codes}
+use Rattle.std.specs.Prelude.{ℕ, List, codes}
 use Rattle.swim_settings.specs.declared.level.Level.{Level}
 use Rattle.swim_settings.specs.declared.level.Level.TheVariants.{Off, Error, Warn, Info, Debug}
 use Rattle.swim_settings.specs.declared.level.Level.TheVariants.{Trace}
@@ -12,7 +12,3 @@ level_text Warn = codes "warn"
 level_text Info = codes "info"
 level_text Debug = codes "debug"
 level_text Trace = codes "trace"
-
--- the text is that of a level
-abbrev pub IsLevelText : List ℕ → Level → Type 0
-IsLevelText text level = text ≡ level_text level

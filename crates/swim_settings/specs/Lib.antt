@@ -5,3 +5,4 @@ pub mod Ranges
 pub mod Reloads
 pub mod Says
 pub mod Shown
+pub mod Unknown

@@ -1,5 +1,5 @@
 -- The presets of a settings file.
-use Rattle.std.specs.Prelude.{◌≡◌, ℕ, List, codes, Option, Some, None}
+use Rattle.std.specs.Prelude.{ℕ, List, codes, Option, Some, None}
 use Rattle.swim_settings.specs.declared.preset.Preset.{Preset}
 use Rattle.swim_settings.specs.declared.preset.Preset.TheVariants.{Local, Lan, Wan}
 use Rattle.swim_settings.specs.declared.preset.Times.{Times}
@@ -9,10 +9,6 @@ abbrev pub preset_text : Preset → List ℕ
 preset_text Local = codes "local"
 preset_text Lan = codes "lan"
 preset_text Wan = codes "wan"
-
--- the text is that of a preset
-abbrev pub IsPresetText : List ℕ → Preset → Type 0
-IsPresetText text preset = text ≡ preset_text preset
 
 -- what stands in the place of the keys that a file has not, by its preset
 abbrev pub times_of : Option Preset → Times

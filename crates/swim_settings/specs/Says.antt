@@ -1,5 +1,6 @@
 -- What the table of a settings file says.
 use Rattle.std.specs.Prelude.{◌≡◌, ◌≢◌, ◌⊎◌, ◌≤◌, ◌-◌, ℕ, ℤ, pos, negsuc, List, [], ◌∷◌}
+use Rattle.std.specs.Prelude.{length, All}
 use Rattle.std.specs.Prelude.{IsUtf8, Option, Some, None, option_and_then, option_map, Ok, Bool}
 use Rattle.std.specs.Prelude.{true, false, codes, string_bytes}
 use Rattle.std.specs.Fmt.{decimal}
@@ -10,6 +11,7 @@ use Rattle.toml.specs.Data.{Data, Items, no_items, item, Members, get_member, as
 use Rattle.toml.specs.Data.{as_array}
 use Rattle.swim_wire.specs.Numbers.{IsEndpoint}
 use Rattle.swim_words.specs.Words.{endpoint_text, No, split_by}
+use Rattle.swim_words.specs.Hosts.{SaysHost}
 use Rattle.swim_settings.specs.declared.key.Key.{Key}
 use Rattle.swim_settings.specs.declared.key.Key.TheVariants.{File, Group, Me, Control, TickMs}
 use Rattle.swim_settings.specs.declared.key.Key.TheVariants as key
@@ -23,13 +25,15 @@ use Rattle.swim_settings.specs.declared.level.Level.{Level}
 use Rattle.swim_settings.specs.declared.refusal.Refusal.{Refusal}
 use Rattle.swim_settings.specs.declared.refusal.Refusal.TheVariants as refusals
 use Rattle.swim_settings.specs.declared.settings.RunSettings.{RunSettings}
+use Rattle.swim_settings.specs.declared.settings.TheConstants.{JOIN_MAX}
 use Rattle.swim_settings.specs.declared.place.Place.{Place}
 use Rattle.swim_settings.specs.declared.place.Place.TheVariants as place
 use Rattle.swim_settings.specs.declared.preset.Preset.{Preset}
 use Rattle.swim_settings.specs.declared.preset.Times.{Times}
-use Rattle.swim_settings.specs.Keys.{key_text, keys_before}
+use Rattle.swim_settings.specs.Keys.{key_text, keys, keys_before}
 use Rattle.swim_settings.specs.Levels.{level_text}
 use Rattle.swim_settings.specs.Presets.{preset_text, times_of}
+use Rattle.swim_settings.specs.Unknown.{IsFirstUnknown}
 
 -- what stands at the key
 abbrev pub value_at : Key → Members → Option Data
@@ -53,10 +57,11 @@ abbrev pub IsNumber : Key → ℕ → Members → ℕ → Type 0
 IsNumber key default table n =
     (number_at key table ≡ Some n) ⊎ ((value_at key table ≡ None) × (n ≡ default))
 
--- what the hex digits there spell; nothing where the table hasn't the key
+-- the 32 bytes that the hex digits there spell; nothing where the table hasn't the key
 abbrev pub AreBytes : Key → Members → Option (List ℕ) → Type 0
 AreBytes key table (Some bytes) =
     (text : List ℕ) × (text_at key table ≡ Some text) × (decode_of text ≡ Ok bytes)
+    × (length bytes ≡ 32)
 AreBytes key table None = value_at key table ≡ None
 
 -- the text of an endpoint, or of a port of a host
@@ -64,18 +69,23 @@ abbrev pub place_text : Place → List ℕ
 place_text (place.Member e) = endpoint_text e
 place_text (place.Host name port) = split_by 58 name.bytes (decimal port)
 
+-- an endpoint, or a port of a host that has a name
+abbrev pub IsPlace : Place → Type 0
+IsPlace (place.Member e) = IsEndpoint e
+IsPlace (place.Host name port) = SaysHost (split_by 58 name.bytes (decimal port)) name.bytes port
+
 -- the items are the texts of these places, in this order
 abbrev pub AreTexts : Items → List Place → Type 0
 AreTexts no_items [] = Unit
 AreTexts (item d ds) (p ∷ ps) = (as_str d ≡ Some (place_text p)) × AreTexts ds ps
 AreTexts _ _ = ⊥
 
--- the places there; none where the table hasn't the key
-abbrev pub ArePlaces : Key → Members → List Place → Type 0
-ArePlaces key table ps =
+-- the places there, so many at the most; none where the table hasn't the key
+abbrev pub ArePlaces : (most : ℕ) → Key → Members → List Place → Type 0
+ArePlaces most key table ps =
     ((items : Items)
     × (option_and_then as_array (value_at key table) ≡ Some items)
-    × AreTexts items ps)
+    × AreTexts items ps × All IsPlace ps × (length ps ≤ most))
     ⊎ ((value_at key table ≡ None) × (ps ≡ []))
 
 -- which of two texts is there, the other one or the usual one, which is also meant where the table
@@ -94,15 +104,18 @@ abbrev pub IsFolder : Key → Members → Option (List ℕ) → Type 0
 IsFolder key table (Some folder) = (text_at key table ≡ Some folder) × (folder ≢ [])
 IsFolder key table None = value_at key table ≡ None
 
--- the preset there; none where the table hasn't the key
-abbrev pub IsPreset : Members → Option Preset → Type 0
-IsPreset table (Some preset) = text_at key.Preset table ≡ Some (preset_text preset)
-IsPreset table None = value_at key.Preset table ≡ None
+-- the value whose word is there; none where the table hasn't the key
+abbrev pub IsWordAt : {W : Type 0} → (W → List ℕ) → Key → Members → Option W → Type 0
+IsWordAt text_of key table (Some word) = text_at key table ≡ Some (text_of word)
+IsWordAt text_of key table None = value_at key table ≡ None
 
--- the level there; none where the table hasn't the key
+-- the preset there
+abbrev pub IsPreset : Members → Option Preset → Type 0
+IsPreset = IsWordAt preset_text key.Preset
+
+-- the level there
 abbrev pub IsLevel : Members → Option Level → Type 0
-IsLevel table (Some level) = text_at key.Log table ≡ Some (level_text level)
-IsLevel table None = value_at key.Log table ≡ None
+IsLevel = IsWordAt level_text key.Log
 
 -- the times of the preset there, or the usual ones
 abbrev pub AreTimes : Members → Times → Type 0
@@ -132,7 +145,7 @@ pub record Says (table : Members) (run : RunSettings) : Type 0 where
   pub block : IsNumber Block 1 table run.settings.block
   pub rules : IsNumber Rules 1 table run.settings.rules
   pub random_key : AreBytes RandomKey table run.random_key
-  pub join : ArePlaces Join table run.join.items
+  pub join : ArePlaces JOIN_MAX Join table run.join.items
   pub rejoin : IsNumber Rejoin (times_of run.preset).rejoin table run.rejoin
   pub expelled : EndsExpelled table run.ends_expelled
   pub record_folder : IsFolder Record table (option_map string_bytes run.record_folder)
@@ -157,7 +170,7 @@ abbrev pub IsNoTime : Key → (Times → ℕ) → ℕ → ℕ → Members → Ty
 IsNoTime key usual least most table =
     (times : Times) × AreTimes table times × No (IsWithin key (usual times) least most table)
 
--- the table has nothing at the key that the key takes; of random_key and join it isn't said
+-- the table has nothing at the key that the key takes
 abbrev pub IsRefused : Key → Members → Type 0
 IsRefused File table = text_at File table ≡ None
 IsRefused Group table = number_at Group table ≡ None
@@ -177,12 +190,13 @@ IsRefused Helpers table = No (IsWithin Helpers 3 0 HELPERS_MAX table)
 IsRefused Limit table = No (IsWithin Limit 4096 1 65536 table)
 IsRefused Block table = No (IsWithin Block 1 1 BLOCK_MAX table)
 IsRefused Rules table = No (IsWithin Rules 1 1 2 table)
+IsRefused RandomKey table = No (AreBytes RandomKey table)
+IsRefused Join table = No (ArePlaces JOIN_MAX Join table)
 IsRefused Rejoin table = IsNoTime Rejoin (λ times. times.rejoin) 0 1000000 table
 IsRefused Expelled table = No (EndsExpelled table)
 IsRefused Record table = No (IsFolder Record table)
 IsRefused RecordEras table = No (IsWithin RecordEras 8 1 1000 table)
 IsRefused key.Log table = No (IsLevel table)
-IsRefused _ table = Unit
 
 -- the refusal is of the text, which is no TOML, or memory ran out
 abbrev pub IsOfText : List ℕ → Refusal → Type 0
@@ -190,7 +204,7 @@ IsOfText text refusals.Memory = Unit
 IsOfText text refusals.Toml = IsUtf8 text → parse_document text ≡ None
 IsOfText text _ = ⊥
 
--- the table has at the key what the key takes; of random_key and join it isn't said
+-- the table has at the key what the key takes
 abbrev pub IsTaken : Key → Members → Type 0
 IsTaken File table = (text : List ℕ) × (text_at File table ≡ Some text)
 IsTaken Group table = (n : ℕ) × (number_at Group table ≡ Some n)
@@ -210,12 +224,13 @@ IsTaken Helpers table = (n : ℕ) × IsWithin Helpers 3 0 HELPERS_MAX table n
 IsTaken Limit table = (n : ℕ) × IsWithin Limit 4096 1 65536 table n
 IsTaken Block table = (n : ℕ) × IsWithin Block 1 1 BLOCK_MAX table n
 IsTaken Rules table = (n : ℕ) × IsWithin Rules 1 1 2 table n
+IsTaken RandomKey table = (bytes : Option (List ℕ)) × AreBytes RandomKey table bytes
+IsTaken Join table = (ps : List Place) × ArePlaces JOIN_MAX Join table ps
 IsTaken Rejoin table = IsTime Rejoin (λ times. times.rejoin) 0 1000000 table
 IsTaken Expelled table = (is_end : Bool) × EndsExpelled table is_end
 IsTaken Record table = (folder : Option (List ℕ)) × IsFolder Record table folder
 IsTaken RecordEras table = (n : ℕ) × IsWithin RecordEras 8 1 1000 table n
 IsTaken key.Log table = (level : Option Level) × IsLevel table level
-IsTaken _ table = Unit
 
 -- all keys before the key have what they take
 abbrev pub AreTakenBefore : Key → Members → Type 0
@@ -231,16 +246,13 @@ IsOfKey table refusals.Memory = Unit
 IsOfKey table (refusals.Key key) = IsFirst key table
 IsOfKey table _ = ⊥
 
--- the refusal is of a key that is unknown, or memory ran out
-abbrev pub IsOfUnknown : Refusal → Type 0
-IsOfUnknown refusals.Memory = Unit
-IsOfUnknown (refusals.Unknown key) = Unit
-IsOfUnknown _ = ⊥
-
--- the text is refused with reason: it is no TOML, or
--- its table has a value that its key does not take
+-- the text is refused with reason: it is no TOML, its table has a value that its key does not
+-- take, or it says settings, but has a key that no settings file has. Or memory ran out
 abbrev pub IsReason : List ℕ → Refusal → Type 0
+IsReason text refusals.Memory = Unit
 IsReason text refusals.Toml = IsUtf8 text → parse_document text ≡ None
 IsReason text (refusals.Key key) =
     (table : Members) × (parse_document text ≡ Some table) × IsFirst key table
-IsReason text _ = Unit
+IsReason text (refusals.Unknown name) =
+    (table : Members) × (run : RunSettings) × (parse_document text ≡ Some table)
+    × Says table run × IsFirstUnknown key_text keys table (string_bytes name)

@@ -1,10 +1,9 @@
 //! The keys of a settings file.
 
-ghost use Rattle.std.specs.Prelude.{◌≡◌};
 ghost use Rattle.swim_settings.specs.Keys.{key_text};
 
-use crate::table::Keys;
 use std::fmt;
+use swim_words::Word;
 
 /// How many keys there are.
 pub const KEYS: usize = 22;
@@ -84,11 +83,13 @@ impl Key {
         Key::RecordEras,
         Key::Log,
     ];
+}
 
-    /// The key as a file has it.
-    pub fn text(self) -> &'static str
-        ensures { result.now ≡ key_text self }
-    {
+/// The key as a file has it.
+impl Word for Key {
+    ghost text_of = { key_text };
+
+    fn text(self) -> &'static str {
         match self {
             Key::File => "file",
             Key::Group => "group",
@@ -120,12 +121,6 @@ impl Key {
 impl Default for Key {
     fn default() -> Key {
         Key::File
-    }
-}
-
-impl Keys for Key {
-    fn have(text: &str) -> bool {
-        Key::ALL.iter().any(|key| key.text() == text)
     }
 }
 

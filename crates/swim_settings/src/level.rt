@@ -1,8 +1,8 @@
 //! How much a member logs.
 
-ghost use Rattle.std.specs.Prelude.{◌≡◌, IfSome, IfNone};
-ghost use Rattle.swim_words.specs.Words.{No};
-ghost use Rattle.swim_settings.specs.Levels.{level_text, IsLevelText};
+ghost use Rattle.swim_settings.specs.Levels.{level_text};
+
+use swim_words::Word;
 
 /// The least level of the lines that are logged.
 #[derive(Clone, Copy, Debug, PartialEq, Eq)]
@@ -22,10 +22,22 @@ pub enum Level {
 }
 
 impl Level {
-    /// The level as a file has it.
-    pub fn text(self) -> &'static str
-        ensures { result.now ≡ level_text self }
-    {
+    /// All levels.
+    pub(crate) const ALL: [Level; 6] = [
+        Level::Off,
+        Level::Error,
+        Level::Warn,
+        Level::Info,
+        Level::Debug,
+        Level::Trace,
+    ];
+}
+
+/// The level as a file has it.
+impl Word for Level {
+    ghost text_of = { level_text };
+
+    fn text(self) -> &'static str {
         match self {
             Level::Off => "off",
             Level::Error => "error",
@@ -33,22 +45,6 @@ impl Level {
             Level::Info => "info",
             Level::Debug => "debug",
             Level::Trace => "trace",
-        }
-    }
-
-    /// The level that a text names.
-    pub(crate) fn of(text: &[u8]) -> Option<Level>
-        ensures level { IfSome result (IsLevelText text.now) }
-        ensures none { IfNone result (No (IsLevelText text.now)) }
-    {
-        match text {
-            b"off" => Some(Level::Off),
-            b"error" => Some(Level::Error),
-            b"warn" => Some(Level::Warn),
-            b"info" => Some(Level::Info),
-            b"debug" => Some(Level::Debug),
-            b"trace" => Some(Level::Trace),
-            _ => None,
         }
     }
 }

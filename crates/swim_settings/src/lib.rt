@@ -21,4 +21,4 @@ pub use refusal::Refusal;
 pub use reload::restart_keys;
 pub use settings::{JOIN_MAX, RunSettings, read_settings};
 pub use shown::show_settings;
-pub use table::{Keys, as_number, read_table, refuse_unknown};
+pub use table::{as_number, read_table, refuse_unknown};

@@ -1,9 +1,11 @@
 //! Whom a file names to join.
 
-ghost use Rattle.std.specs.Prelude.{◌≡◌, IfSome, IfOk, Some};
+ghost use Rattle.std.specs.Prelude.{◌≡◌, ◌≢◌, ℕ, List, IfSome, IfNone, IfOk, Some};
 ghost use Rattle.toml.specs.Data.{as_str, string};
 ghost use Rattle.toml.specs.View.{view};
-ghost use Rattle.swim_settings.specs.Says.{place_text};
+ghost use Rattle.swim_words.specs.Words.{No};
+ghost use Rattle.swim_words.specs.Hosts.{SaysHost};
+ghost use Rattle.swim_settings.specs.Says.{IsPlace, place_text};
 
 use arrayvec::ArrayString;
 use std::alloc::{AllocError, Global};
@@ -46,7 +48,9 @@ impl fmt::Display for Place {
 
 /// The port of a host that a text names.
 fn read_named(text: &str) -> Option<Place>
-    ensures { IfSome result (λ place. text.now ≡ place_text place) }
+    ensures text { IfSome result (λ place. text.now ≡ place_text place) }
+    ensures place { IfSome result IsPlace }
+    ensures none { IfNone result ((name : List ℕ) → No (SaysHost text.now name)) }
 {
     let (name, port) = read_host(text.as_bytes())?;
     let name = str::from_utf8(name).ok()?;
@@ -54,9 +58,11 @@ fn read_named(text: &str) -> Option<Place>
     Some(Place::Host(name, port))
 }
 
-/// The member that a text names.
+/// Whom a text names.
 fn read_place(text: &str) -> Option<Place>
-    ensures { IfSome result (λ place. text.now ≡ place_text place) }
+    ensures text { IfSome result (λ place. text.now ≡ place_text place) }
+    ensures place { IfSome result IsPlace }
+    ensures none { IfNone result ((p : Place) → IsPlace p → text.now ≢ place_text p) }
 {
     match read_endpoint(text.as_bytes()) {
         Some(endpoint) => Some(Place::Member(endpoint)),
@@ -64,9 +70,12 @@ fn read_place(text: &str) -> Option<Place>
     }
 }
 
-/// The member that a value names.
+/// Whom a value names.
 pub(crate) fn as_place(value: &Value) -> Option<Place>
-    ensures { IfSome result (λ place. as_str (view value.now) ≡ Some (place_text place)) }
+    ensures text { IfSome result (λ place. as_str (view value.now) ≡ Some (place_text place)) }
+    ensures place { IfSome result IsPlace }
+    ensures none { IfNone result ((p : Place) → IsPlace p
+        → as_str (view value.now) ≢ Some (place_text p)) }
 {
     match value.as_str() {
         Some(text) => read_place(text),

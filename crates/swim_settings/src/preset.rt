@@ -1,8 +1,9 @@
 //! Presets: each names times that go together.
 
-ghost use Rattle.std.specs.Prelude.{◌≡◌, IfSome, IfNone};
-ghost use Rattle.swim_words.specs.Words.{No};
-ghost use Rattle.swim_settings.specs.Presets.{preset_text, times_of, IsPresetText};
+ghost use Rattle.std.specs.Prelude.{◌≡◌};
+ghost use Rattle.swim_settings.specs.Presets.{preset_text, times_of};
+
+use swim_words::Word;
 
 /// A kind of network, whose times a file may take by its name.
 #[derive(Clone, Copy, Debug, PartialEq, Eq)]
@@ -16,27 +17,19 @@ pub enum Preset {
 }
 
 impl Preset {
-    /// The preset as a file has it.
-    pub fn text(self) -> &'static str
-        ensures { result.now ≡ preset_text self }
-    {
+    /// All presets.
+    pub(crate) const ALL: [Preset; 3] = [Preset::Local, Preset::Lan, Preset::Wan];
+}
+
+/// The preset as a file has it.
+impl Word for Preset {
+    ghost text_of = { preset_text };
+
+    fn text(self) -> &'static str {
         match self {
             Preset::Local => "local",
             Preset::Lan => "lan",
             Preset::Wan => "wan",
-        }
-    }
-
-    /// The preset that a text names.
-    pub(crate) fn of(text: &[u8]) -> Option<Preset>
-        ensures preset { IfSome result (IsPresetText text.now) }
-        ensures none { IfNone result (No (IsPresetText text.now)) }
-    {
-        match text {
-            b"local" => Some(Preset::Local),
-            b"lan" => Some(Preset::Lan),
-            b"wan" => Some(Preset::Wan),
-            _ => None,
         }
     }
 }

@@ -5,9 +5,11 @@ ghost use Rattle.toml.specs.Data.{Members};
 ghost use Rattle.toml.specs.Parse.{parse_document};
 ghost use Rattle.toml.specs.View.{table_view};
 ghost use Rattle.swim_member.specs.Checks.{AreSound};
+ghost use Rattle.swim_settings.specs.Keys.{key_text, keys};
 ghost use Rattle.swim_settings.specs.Ranges.{AreInRange};
 ghost use Rattle.swim_settings.specs.Says.{AreTakenBefore, AreTimes, IsFolder, IsNumber, IsOfKey, IsReason, Says, SaysMember};
-ghost use Rattle.swim_settings.specs.declared.key.Key.TheVariants as keys;
+ghost use Rattle.swim_settings.specs.Unknown.{AreNamed};
+ghost use Rattle.swim_settings.specs.declared.key.Key.TheVariants as key;
 
 use crate::key::Key;
 use crate::level::Level;
@@ -16,8 +18,8 @@ use crate::preset::{Preset, Times};
 use crate::refusal::Refusal;
 use crate::table::{read_table, refuse_unknown};
 use crate::value::{
-    read_bytes, read_choice, read_endpoint_at, read_folder, read_level, read_number, read_places,
-    read_preset, read_text, read_within,
+    read_bytes, read_choice, read_endpoint_at, read_folder, read_number, read_places, read_text,
+    read_within, read_word,
 };
 use arrayvec::ArrayVec;
 use std::alloc::Global;
@@ -62,12 +64,12 @@ pub struct RunSettings {
 /// What the member is told, with this group and endpoint, these times where the table has no others, and a block of 1 and
 /// rules 1: their keys come later.
 fn read_member(table: &Table, group: u64, me: Endpoint, times: Times) -> Result<Settings, Refusal>
-    requires taken { AreTakenBefore keys.Lambda (table_view table.now) }
+    requires taken { AreTakenBefore key.Lambda (table_view table.now) }
     requires times { AreTimes (table_view table.now) times }
     ensures sound { IfOk result AreSound }
     ensures owner { IfOk result (λ settings. (settings.group ≡ group) × (settings.me ≡ me)) }
     ensures said { IfOk result (SaysMember times (table_view table.now)) }
-    ensures taken { IfOk result (λ _. AreTakenBefore keys.Limit (table_view table.now)) }
+    ensures taken { IfOk result (λ _. AreTakenBefore key.Limit (table_view table.now)) }
     ensures refused { IfErr result (IsOfKey (table_view table.now)) }
 {
     let lambda = read_within(table, Key::Lambda, times.lambda, 1, 16)?;
@@ -92,14 +94,14 @@ fn read_member(table: &Table, group: u64, me: Endpoint, times: Times) -> Result<
 
 /// The member's settings with the block and the rules of the table.
 fn read_block_and_rules(table: &Table, member: Settings) -> Result<Settings, Refusal>
-    requires taken { AreTakenBefore keys.Block (table_view table.now) }
+    requires taken { AreTakenBefore key.Block (table_view table.now) }
     requires sound { AreSound member }
     ensures sound { IfOk result AreSound }
-    ensures block { IfOk result (λ s. IsNumber keys.Block 1 (table_view table.now) s.block) }
-    ensures rules { IfOk result (λ s. IsNumber keys.Rules 1 (table_view table.now) s.rules) }
+    ensures block { IfOk result (λ s. IsNumber key.Block 1 (table_view table.now) s.block) }
+    ensures rules { IfOk result (λ s. IsNumber key.Rules 1 (table_view table.now) s.rules) }
     ensures rest { IfOk result
         (λ s. s ≡ record member { block = s.block; rules = s.rules }) }
-    ensures taken { IfOk result (λ _. AreTakenBefore keys.RandomKey (table_view table.now)) }
+    ensures taken { IfOk result (λ _. AreTakenBefore key.RandomKey (table_view table.now)) }
     ensures refused { IfErr result (IsOfKey (table_view table.now)) }
 {
     let block = read_within(table, Key::Block, 1, 1, BLOCK_MAX)?;
@@ -113,12 +115,12 @@ fn read_block_and_rules(table: &Table, member: Settings) -> Result<Settings, Ref
 
 /// The folder of the recordings, if there is one, and how many are kept there.
 fn read_recording(alloc: Global, table: &Table) -> Result<(Option<String>, u64), Refusal>
-    requires { AreTakenBefore keys.Record (table_view table.now) }
+    requires { AreTakenBefore key.Record (table_view table.now) }
     ensures folder { IfOk result (λ told.
-        IsFolder keys.Record (table_view table.now) (option_map string_bytes told.0)) }
-    ensures eras { IfOk result (λ told. IsNumber keys.RecordEras 8 (table_view table.now) told.1) }
+        IsFolder key.Record (table_view table.now) (option_map string_bytes told.0)) }
+    ensures eras { IfOk result (λ told. IsNumber key.RecordEras 8 (table_view table.now) told.1) }
     ensures range { IfOk result (λ told. (1 ≤ told.1) × (told.1 ≤ 1000)) }
-    ensures taken { IfOk result (λ _. AreTakenBefore keys.Log (table_view table.now)) }
+    ensures taken { IfOk result (λ _. AreTakenBefore key.Log (table_view table.now)) }
     ensures refused { IfErr result (IsOfKey (table_view table.now)) }
 {
     let named = read_folder(table, Key::Record)?;
@@ -140,7 +142,7 @@ fn read_keys(alloc: Global, table: &Table) -> Result<RunSettings, Refusal>
     let group = read_number(table, Key::Group)?;
     let me = read_endpoint_at(table, Key::Me)?;
     let control = read_endpoint_at(table, Key::Control)?;
-    let preset = read_preset(table)?;
+    let preset = read_word(table, Key::Preset, &Preset::ALL)?;
     let times = Times::of(preset);
     let tick_ms = read_within(table, Key::TickMs, times.tick_ms, 1, 60_000)?;
     let member = read_member(table, group, me, times)?;
@@ -151,7 +153,7 @@ fn read_keys(alloc: Global, table: &Table) -> Result<RunSettings, Refusal>
     let rejoin = read_within(table, Key::Rejoin, times.rejoin, 0, 1_000_000)?;
     let ends_expelled = read_choice(table, Key::Expelled, "stay", "end")?;
     let (record_folder, record_eras) = read_recording(alloc, table)?;
-    let log = read_level(table)?;
+    let log = read_word(table, Key::Log, &Level::ALL)?;
     Ok(RunSettings {
         file: String::from_str(alloc, file)?,
         settings,
@@ -173,11 +175,11 @@ fn read_keys(alloc: Global, table: &Table) -> Result<RunSettings, Refusal>
 pub fn read_settings(alloc: Global, bytes: &[u8]) -> Result<RunSettings, Refusal>
     ensures range { IfOk result AreInRange }
     ensures said { IfOk result (λ run. (table : Members) × (parse_document bytes.now ≡ Some table)
-        × Says table run) }
+        × Says table run × AreNamed key_text keys table) }
     ensures refused { IfErr result (IsReason bytes.now) }
 {
     let table = read_table(alloc, bytes)?;
     let settings = read_keys(alloc, &table)?;
-    refuse_unknown::<Key>(alloc, &table)?;
+    refuse_unknown(alloc, &Key::ALL, &table)?;
     Ok(settings)
 }

@@ -14,6 +14,7 @@ use crate::settings::RunSettings;
 use std::alloc::{AllocError, Global};
 use std::fmt::Write;
 use swim_wire::Endpoint;
+use swim_words::Word;
 use toml::Value;
 
 /// What is said of the generator's key, where the settings have one.

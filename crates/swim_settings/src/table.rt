@@ -5,17 +5,13 @@ ghost use Rattle.std.specs.Prelude.{◌≡◌, ◌^◌, ◌<◌, Some, IfSome, I
 ghost use Rattle.toml.specs.Data.{as_integer};
 ghost use Rattle.toml.specs.Parse.{parse_document};
 ghost use Rattle.toml.specs.View.{view, table_view};
-ghost use Rattle.swim_settings.specs.Says.{natural_of, IsOfText, IsOfUnknown};
+ghost use Rattle.swim_settings.specs.Says.{natural_of, IsOfText};
+ghost use Rattle.swim_settings.specs.Unknown.{AreNamed, IsOfUnknown};
 
 use crate::refusal::Refusal;
 use std::alloc::Global;
+use swim_words::{Word, named};
 use toml::{Table, Value};
-
-/// The keys of a kind of file.
-pub trait Keys {
-    /// Whether this is the text of a key.
-    fn have(text: &str) -> bool;
-}
 
 /// The bytes as a TOML table.
 pub fn read_table(alloc: Global, bytes: &[u8]) -> Result<Table, Refusal>
@@ -29,13 +25,14 @@ pub fn read_table(alloc: Global, bytes: &[u8]) -> Result<Table, Refusal>
     }
 }
 
-/// Refuses a key that is none of the known ones; of several the least, by its bytes.
-pub fn refuse_unknown<K: Keys>(alloc: Global, table: &Table) -> Result<(), Refusal>
-    ensures { IfErr result IsOfUnknown }
+/// Refuses a key that none of these words is; of several the least, by its bytes.
+pub fn refuse_unknown<K: Word>(alloc: Global, keys: &[K], table: &Table) -> Result<(), Refusal>
+    ensures named { IfOk result (λ _. AreNamed K.text_of keys.now (table_view table.now)) }
+    ensures unknown { IfErr result (IsOfUnknown K.text_of keys.now (table_view table.now)) }
 {
-    for key in table.keys() {
-        if !K::have(key.as_str()) {
-            return Err(Refusal::Unknown(String::from_str(alloc, key.as_str())?));
+    for name in table.keys() {
+        if named(keys, name.as_str().as_bytes()).is_none() {
+            return Err(Refusal::Unknown(String::from_str(alloc, name.as_str())?));
         }
     }
     Ok(())

@@ -1,26 +1,23 @@
 //! The values of a table, key by key.
 
 ghost use Rattle.std.specs.Prelude.{◌≡◌, ◌≢◌, ◌^◌, ◌<◌, ◌≤◌, List, ℕ, IfSome, IfNone, IfOk, IfErr};
-ghost use Rattle.std.specs.Prelude.{Ok, Some, None, option_and_then, option_map};
+ghost use Rattle.std.specs.Prelude.{All, Contains, Ok, Some, None, length, option_and_then, option_map};
 ghost use Rattle.hex.specs.Hex.{decode_of};
 ghost use Rattle.toml.specs.Data.{as_str};
 ghost use Rattle.toml.specs.View.{view, items_view, table_view};
 ghost use Rattle.swim_wire.specs.Numbers.{IsEndpoint};
 ghost use Rattle.swim_words.specs.Words.{endpoint_text, No};
-ghost use Rattle.swim_settings.specs.Says.{value_at, text_at, number_at, IsNumber, IsWithin, IsEndpointAt, IsChoice, IsFolder, IsLevel, IsPreset, AreBytes, AreTexts, ArePlaces};
-ghost use Rattle.swim_settings.specs.declared.key.Key.TheVariants as keys;
+ghost use Rattle.swim_settings.specs.Says.{value_at, text_at, number_at, IsNumber, IsWithin, IsEndpointAt, IsChoice, IsFolder, IsPlace, IsWordAt, AreBytes, AreTexts, ArePlaces};
 ghost use Rattle.swim_settings.specs.declared.refusal.Refusal.TheVariants as refusals;
 
 use crate::key::Key;
-use crate::level::Level;
 use crate::place::{Place, as_place};
-use crate::preset::Preset;
 use crate::refusal::Refusal;
 use crate::table::as_number;
 use arrayvec::ArrayVec;
 use hex::FromHex;
 use swim_wire::Endpoint;
-use swim_words::read_endpoint;
+use swim_words::{Word, named, read_endpoint};
 use toml::{Table, Value};
 
 /// The endpoint whose text a value is.
@@ -37,8 +34,10 @@ fn as_endpoint(value: &Value) -> Option<Endpoint>
 
 /// The 32 bytes that a value spells in hex digits.
 fn as_bytes(value: &Value) -> Option<[u8; 32]>
-    ensures { IfSome result (λ bytes. (text : List ℕ) × (as_str (view value.now) ≡ Some text)
-        × (decode_of text ≡ Ok bytes)) }
+    ensures bytes { IfSome result (λ bytes. (text : List ℕ)
+        × (as_str (view value.now) ≡ Some text) × (decode_of text ≡ Ok bytes)) }
+    ensures none { IfNone result ((text bytes : List ℕ) → as_str (view value.now) ≡ Some text
+        → length bytes ≡ 32 → decode_of text ≢ Ok bytes) }
 {
     match value.as_str() {
         Some(text) => <[u8; 32] as FromHex>::from_hex(text).ok(),
@@ -48,7 +47,10 @@ fn as_bytes(value: &Value) -> Option<[u8; 32]>
 
 /// The places whose texts these are, unless there are more than `N`.
 fn places_in<const N: usize>(items: &[Value]) -> Option<ArrayVec<Place, N>>
-    ensures { IfSome result (λ places. AreTexts (items_view items.now) places.items) }
+    ensures texts { IfSome result (λ places. AreTexts (items_view items.now) places.items) }
+    ensures places { IfSome result (λ places. All IsPlace places.items) }
+    ensures none { IfNone result ((places : List Place) → AreTexts (items_view items.now) places
+        → All IsPlace places → N < length places) }
 {
     let mut places = ArrayVec::new();
     for item in items {
@@ -122,35 +124,20 @@ pub(crate) fn read_folder(table: &Table, key: Key) -> Result<Option<&str>, Refus
     Ok(Some(text))
 }
 
-/// The preset of a table; none where the key isn't there.
-pub(crate) fn read_preset(table: &Table) -> Result<Option<Preset>, Refusal>
-    ensures preset { IfOk result (IsPreset (table_view table.now)) }
-    ensures none { IfErr result (λ refusal. (refusal ≡ refusals.Key keys.Preset)
-        × No (IsPreset (table_view table.now))) }
+/// The value, of all that have a word, whose word stands at a key; none where the key isn't there.
+pub(crate) fn read_word<W: Word>(table: &Table, key: Key, words: &[W]) -> Result<Option<W>, Refusal>
+    requires all { (word : W) → Contains words.now word }
+    ensures word { IfOk result (IsWordAt W.text_of key (table_view table.now)) }
+    ensures none { IfErr result (λ refusal. (refusal ≡ refusals.Key key)
+        × No (IsWordAt W.text_of key (table_view table.now))) }
 {
-    if find(table, Key::Preset).is_none() {
+    if find(table, key).is_none() {
         return Ok(None);
     }
-    let text = read_text(table, Key::Preset)?;
-    match Preset::of(text.as_bytes()) {
-        Some(preset) => Ok(Some(preset)),
-        None => Err(Refusal::Key(Key::Preset)),
-    }
-}
-
-/// The level of a table; none where the key isn't there.
-pub(crate) fn read_level(table: &Table) -> Result<Option<Level>, Refusal>
-    ensures level { IfOk result (IsLevel (table_view table.now)) }
-    ensures none { IfErr result (λ refusal. (refusal ≡ refusals.Key keys.Log)
-        × No (IsLevel (table_view table.now))) }
-{
-    if find(table, Key::Log).is_none() {
-        return Ok(None);
-    }
-    let text = read_text(table, Key::Log)?;
-    match Level::of(text.as_bytes()) {
-        Some(level) => Ok(Some(level)),
-        None => Err(Refusal::Key(Key::Log)),
+    let text = read_text(table, key)?;
+    match named(words, text.as_bytes()) {
+        Some(word) => Ok(Some(word)),
+        None => Err(Refusal::Key(key)),
     }
 }
 
@@ -206,7 +193,8 @@ pub(crate) fn read_within(
 /// The bytes that hex digits spell at a key; none where the key isn't there.
 pub(crate) fn read_bytes(table: &Table, key: Key) -> Result<Option<[u8; 32]>, Refusal>
     ensures bytes { IfOk result (AreBytes key (table_view table.now)) }
-    ensures refusal { IfErr result (λ refusal. refusal ≡ refusals.Key key) }
+    ensures none { IfErr result (λ refusal. (refusal ≡ refusals.Key key)
+        × No (AreBytes key (table_view table.now))) }
 {
     match find(table, key) {
         Some(value) => match as_bytes(value) {
@@ -217,13 +205,14 @@ pub(crate) fn read_bytes(table: &Table, key: Key) -> Result<Option<[u8; 32]>, Re
     }
 }
 
-/// The places at a key; none where the key isn't there.
+/// The places at a key, `N` at the most; none where the key isn't there.
 pub(crate) fn read_places<const N: usize>(
     table: &Table,
     key: Key,
 ) -> Result<ArrayVec<Place, N>, Refusal>
-    ensures places { IfOk result (λ ps. ArePlaces key (table_view table.now) ps.items) }
-    ensures refusal { IfErr result (λ refusal. refusal ≡ refusals.Key key) }
+    ensures places { IfOk result (λ ps. ArePlaces N key (table_view table.now) ps.items) }
+    ensures none { IfErr result (λ refusal. (refusal ≡ refusals.Key key)
+        × No (ArePlaces N key (table_view table.now))) }
 {
     let Some(value) = find(table, key) else {
         return Ok(ArrayVec::new());

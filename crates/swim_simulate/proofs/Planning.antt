@@ -13,16 +13,12 @@ use Rattle.swim_simulate.specs.declared.key.Key.TheVariants.{Members, Minutes, T
 use Rattle.swim_simulate.specs.declared.key.Key.TheVariants.{Limit, Block, Rules, Listed, Rejoin, Loss, Repeats, Delay, Jitter}
 use Rattle.swim_simulate.specs.declared.key.Key.TheVariants.{Kills, RestartAfter, Dropped, Filled, OddClocks, ClockRate, CutMembers, CutAt, CutFor, Pauses, PauseFor, FailingSyncs}
 use Rattle.swim_simulate.specs.declared.key.Range.{Range}
-use Rattle.swim_simulate.specs.Keys.{rank_of, range_of}
+use Rattle.swim_simulate.specs.Keys.{plan_keys, rank_of, range_of}
 use Rattle.swim_simulate.specs.Plan.{IsInRange, number_at, taken_at, taken_from, taken_of, data_at}
-
--- all keys, in their order
-abbrev pub all_keys : List Key
-all_keys = Members ∷ Minutes ∷ TickMs ∷ Lambda ∷ Period ∷ Direct ∷ Suspect ∷ Forget ∷ Helpers ∷ Limit ∷ Block ∷ Rules ∷ Listed ∷ Rejoin ∷ Loss ∷ Repeats ∷ Delay ∷ Jitter ∷ Kills ∷ RestartAfter ∷ Dropped ∷ Filled ∷ OddClocks ∷ ClockRate ∷ CutMembers ∷ CutAt ∷ CutFor ∷ Pauses ∷ PauseFor ∷ FailingSyncs ∷ []
 
 -- the key in this place
 abbrev pub key_in : ℕ → Key
-key_in n = slice_index_or all_keys n Members
+key_in n = slice_index_or plan_keys n Members
 
 key_in-rank_of : (key : Key) → key_in (rank_of key) ≡ key
 key_in-rank_of Members = refl
@@ -57,7 +53,7 @@ key_in-rank_of PauseFor = refl
 key_in-rank_of FailingSyncs = refl
 
 pub rank_of-key_in : (n : ℕ) → n < 30 → rank_of (key_in n) ≡ n
-rank_of-key_in n l = sym (get_or-map rank_of all_keys n Members 0 l) ∙ (get_or-range_with_len 0 30 n 0 l ∙ zero-add n)
+rank_of-key_in n l = sym (get_or-map rank_of plan_keys n Members 0 l) ∙ (get_or-range_with_len 0 30 n 0 l ∙ zero-add n)
 
 -- each key that has one of the first places has a number of which this holds
 abbrev pub AreFilled : (Key → ℕ → Type 0) → ℕ → List ℕ → Type 0

@@ -1,5 +1,5 @@
 -- The keys of a plan, and the numbers that they take.
-use Rattle.std.specs.Prelude.{ℕ, List, codes}
+use Rattle.std.specs.Prelude.{ℕ, List, [], ◌∷◌, codes}
 use Rattle.swim_simulate.specs.declared.key.Key.{Key}
 use Rattle.swim_simulate.specs.declared.key.Range.{Range}
 use Rattle.swim_simulate.specs.declared.key.Key.TheVariants.{Members, Minutes, TickMs, Lambda}
@@ -46,6 +46,13 @@ plan_key CutFor = codes "cut_for"
 plan_key Pauses = codes "pauses"
 plan_key PauseFor = codes "pause_for"
 plan_key FailingSyncs = codes "failing_syncs"
+
+-- all keys, in the order in which a refused one is looked for
+abbrev pub plan_keys : List Key
+plan_keys = Members ∷ Minutes ∷ TickMs ∷ Lambda ∷ Period ∷ Direct ∷ Suspect ∷ Forget ∷ Helpers
+    ∷ Limit ∷ Block ∷ Rules ∷ Listed ∷ Rejoin ∷ Loss ∷ Repeats ∷ Delay ∷ Jitter ∷ Kills
+    ∷ RestartAfter ∷ Dropped ∷ Filled ∷ OddClocks ∷ ClockRate ∷ CutMembers ∷ CutAt ∷ CutFor
+    ∷ Pauses ∷ PauseFor ∷ FailingSyncs ∷ []
 
 -- a default, the least and the greatest
 abbrev pub within : ℕ → ℕ → ℕ → Range

@@ -4,14 +4,15 @@ use Rattle.std.specs.Prelude.{slice_index, slice_set}
 use Rattle.std.specs.Prelude.{nat_lt, cond, IsSome, Option, Some, None, option_and_then}
 use Rattle.toml.specs.Parse.{parse_document}
 use Rattle.toml.specs.Data.{Data, Members, get_member, as_integer}
-use Rattle.swim_settings.specs.Says.{natural_of, IsOfText, IsOfUnknown}
+use Rattle.swim_settings.specs.Says.{natural_of, IsOfText}
+use Rattle.swim_settings.specs.Unknown.{IsOfUnknown}
 use Rattle.swim_simulate.specs.declared.key.Key.{Key}
 use Rattle.swim_simulate.specs.declared.key.Key.TheVariants.{Minutes, TickMs, Kills}
 use Rattle.swim_simulate.specs.declared.key.Key.TheVariants.{Direct, Period, Pauses}
 use Rattle.swim_simulate.specs.declared.key.Range.{Range}
 use Rattle.swim_simulate.specs.declared.refusal.PlanRefusal.{PlanRefusal}
 use Rattle.swim_simulate.specs.declared.refusal.PlanRefusal.TheVariants as refusals
-use Rattle.swim_simulate.specs.Keys.{plan_key, range_of, rank_of}
+use Rattle.swim_simulate.specs.Keys.{plan_keys, plan_key, range_of, rank_of}
 
 -- a plan is a list of numbers, in the order of the keys. This is the number of the key
 abbrev pub number_at : Key → List ℕ → ℕ
@@ -83,11 +84,14 @@ pub record IsTooLate (key : Key) (table : Members) : Type 0 where
   pub is : key ≡ Direct
   pub late : number_at Period plan ≤ number_at Direct plan
 
--- the text is refused with reason: it is no TOML, or
--- its table has a number that its key does not take
+-- the text is refused with reason: it is no TOML, its table has a number that its key does not
+-- take, or it says a plan, but has a key that no plan has. Or memory ran out
 abbrev pub IsPlanReason : List ℕ → PlanRefusal → Type 0
 IsPlanReason text (refusals.Key key) =
     (table : Members)
     × (parse_document text ≡ Some table)
     × (IsFirstKey key table ⊎ IsTooLate key table)
-IsPlanReason text (refusals.Text refusal) = IsOfText text refusal ⊎ IsOfUnknown refusal
+IsPlanReason text (refusals.Text refusal) =
+    IsOfText text refusal
+    ⊎ ((table : Members) × (plan : List ℕ) × (parse_document text ≡ Some table) × Says table plan
+    × IsOfUnknown plan_key plan_keys table refusal)

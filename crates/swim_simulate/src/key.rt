@@ -1,10 +1,10 @@
 //! The keys of a plan. The value of each is a number.
 
-ghost use Rattle.std.specs.Prelude.{◌≡◌, ◌<◌, IfSome};
-ghost use Rattle.swim_simulate.specs.Keys.{plan_key, rank_of, range_of};
+ghost use Rattle.std.specs.Prelude.{◌≡◌, ◌≢◌, ◌<◌, All, IfSome, IfNone};
+ghost use Rattle.swim_simulate.specs.Keys.{plan_keys, plan_key, rank_of, range_of};
 
 use std::fmt;
-use swim_settings::Keys;
+use swim_words::{Word, named};
 
 /// How many keys there are.
 pub const KEYS: usize = 30;
@@ -131,44 +131,6 @@ impl Key {
         Key::FailingSyncs,
     ];
 
-    /// The key as a plan has it.
-    pub fn text(self) -> &'static str
-        ensures { result.now ≡ plan_key self }
-    {
-        match self {
-            Key::Members => "members",
-            Key::Minutes => "minutes",
-            Key::TickMs => "tick_ms",
-            Key::Lambda => "lambda",
-            Key::Period => "period",
-            Key::Direct => "direct",
-            Key::Suspect => "suspect",
-            Key::Forget => "forget",
-            Key::Helpers => "helpers",
-            Key::Limit => "limit",
-            Key::Block => "block",
-            Key::Rules => "rules",
-            Key::Listed => "listed",
-            Key::Rejoin => "rejoin",
-            Key::Loss => "loss",
-            Key::Repeats => "repeats",
-            Key::Delay => "delay",
-            Key::Jitter => "jitter",
-            Key::Kills => "kills",
-            Key::RestartAfter => "restart_after",
-            Key::Dropped => "dropped",
-            Key::Filled => "filled",
-            Key::OddClocks => "odd_clocks",
-            Key::ClockRate => "clock_rate",
-            Key::CutMembers => "cut_members",
-            Key::CutAt => "cut_at",
-            Key::CutFor => "cut_for",
-            Key::Pauses => "pauses",
-            Key::PauseFor => "pause_for",
-            Key::FailingSyncs => "failing_syncs",
-        }
-    }
-
     /// The numbers that the key takes.
     pub fn range(self) -> Range
         ensures { result ≡ range_of self }
@@ -245,25 +207,53 @@ impl Key {
             Key::FailingSyncs => 29,
         }
     }
-}
 
-impl Key {
     /// The key with this text, if there is one.
     pub fn of(text: &[u8]) -> Option<Key>
-        ensures { IfSome result (λ key. plan_key key ≡ text.now) }
+        ensures key { IfSome result (λ key. text.now ≡ plan_key key) }
+        ensures none { IfNone result (All (λ key. text.now ≢ plan_key key) plan_keys) }
     {
-        for key in Key::ALL {
-            if key.text().as_bytes() == text {
-                return Some(key);
-            }
-        }
-        None
+        named(&Key::ALL, text)
     }
 }
 
-impl Keys for Key {
-    fn have(text: &str) -> bool {
-        Key::of(text.as_bytes()).is_some()
+/// The key as a plan has it.
+impl Word for Key {
+    ghost text_of = { plan_key };
+
+    fn text(self) -> &'static str {
+        match self {
+            Key::Members => "members",
+            Key::Minutes => "minutes",
+            Key::TickMs => "tick_ms",
+            Key::Lambda => "lambda",
+            Key::Period => "period",
+            Key::Direct => "direct",
+            Key::Suspect => "suspect",
+            Key::Forget => "forget",
+            Key::Helpers => "helpers",
+            Key::Limit => "limit",
+            Key::Block => "block",
+            Key::Rules => "rules",
+            Key::Listed => "listed",
+            Key::Rejoin => "rejoin",
+            Key::Loss => "loss",
+            Key::Repeats => "repeats",
+            Key::Delay => "delay",
+            Key::Jitter => "jitter",
+            Key::Kills => "kills",
+            Key::RestartAfter => "restart_after",
+            Key::Dropped => "dropped",
+            Key::Filled => "filled",
+            Key::OddClocks => "odd_clocks",
+            Key::ClockRate => "clock_rate",
+            Key::CutMembers => "cut_members",
+            Key::CutAt => "cut_at",
+            Key::CutFor => "cut_for",
+            Key::Pauses => "pauses",
+            Key::PauseFor => "pause_for",
+            Key::FailingSyncs => "failing_syncs",
+        }
     }
 }
 

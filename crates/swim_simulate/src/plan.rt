@@ -5,8 +5,9 @@ ghost use Rattle.toml.specs.Data.{Members, as_integer};
 ghost use Rattle.toml.specs.Parse.{parse_document};
 ghost use Rattle.toml.specs.View.{table_view, view};
 ghost use Rattle.swim_settings.specs.Says.{natural_of};
-ghost use Rattle.swim_simulate.specs.declared.key.Key.TheVariants as keys;
-ghost use Rattle.swim_simulate.specs.Keys.{range_of};
+ghost use Rattle.swim_settings.specs.Unknown.{AreNamed};
+ghost use Rattle.swim_simulate.specs.declared.key.Key.TheVariants as key;
+ghost use Rattle.swim_simulate.specs.Keys.{plan_keys, plan_key, range_of};
 ghost use Rattle.swim_simulate.specs.Plan.{AreDefaults, IsFirstKey, IsPlanReason, Says, kill_tick, pause_tick, number_at, with_number, taken_at, taken_from, tick_count, data_at};
 
 use crate::key::{KEYS, Key, Range};
@@ -14,6 +15,7 @@ use crate::refusal::PlanRefusal;
 use std::alloc::Global;
 use std::marker::Model;
 use swim_settings::{as_number, read_table, refuse_unknown};
+use swim_words::Word;
 use toml::{Table, Value};
 
 /// What is simulated: a number for each key, which is in the range of the key.
@@ -110,7 +112,7 @@ impl Plan {
 
     /// In which tick the kill with this number comes, counted from 0.
     pub fn kill_tick(&self, kill: u64) -> u64
-        requires { kill < number_at keys.Kills self.now }
+        requires { kill < number_at key.Kills self.now }
         ensures { result ≡ kill_tick self.now kill }
     {
         let kills = self.get(Key::Kills);
@@ -119,7 +121,7 @@ impl Plan {
 
     /// In which tick the pause with this number comes, counted from 0.
     pub fn pause_tick(&self, pause: u64) -> u64
-        requires { pause < number_at keys.Pauses self.now }
+        requires { pause < number_at key.Pauses self.now }
         ensures { result ≡ pause_tick self.now pause }
     {
         let pauses = self.get(Key::Pauses);
@@ -141,9 +143,10 @@ impl Plan {
     /// The plan that the bytes of a file say.
     pub fn read(alloc: Global, bytes: &[u8]) -> Result<Plan, PlanRefusal>
         ensures said { IfOk result (λ plan. (table : Members)
-            × (parse_document bytes.now ≡ Some table) × Says table plan) }
-        ensures direct { IfOk result (λ plan. number_at keys.Direct plan
-            < number_at keys.Period plan) }
+            × (parse_document bytes.now ≡ Some table) × Says table plan
+            × AreNamed plan_key plan_keys table) }
+        ensures direct { IfOk result (λ plan. number_at key.Direct plan
+            < number_at key.Period plan) }
         ensures refused { IfErr result (IsPlanReason bytes.now) }
     {
         let table = read_table(alloc, bytes)?;
@@ -151,7 +154,7 @@ impl Plan {
             Ok(plan) => plan,
             Err(key) => return Err(PlanRefusal::Key(key)),
         };
-        refuse_unknown::<Key>(alloc, &table)?;
+        refuse_unknown(alloc, &Key::ALL, &table)?;
         if plan.get(Key::Direct) >= plan.get(Key::Period) {
             return Err(PlanRefusal::Key(Key::Direct));
         }

@@ -3,6 +3,7 @@
 use std::fmt;
 use swim_settings::Refusal;
 use swim_simulate::PlanRefusal;
+use swim_words::Word;
 
 /// Why a plan is refused, and on which line. It prints both, on one line.
 #[derive(Debug, PartialEq, Eq, Drop)]

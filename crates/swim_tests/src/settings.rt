@@ -7,6 +7,7 @@ use swim_settings::{
     Key, Level, Place, RunSettings, Times, read_settings, restart_keys, show_settings,
 };
 use swim_wire::Endpoint;
+use swim_words::Word;
 
 /// What a file has to have at least, the first lines of each file below.
 const LEAST: &str = "file = 's'
