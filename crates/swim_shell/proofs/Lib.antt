@@ -13,3 +13,4 @@ pub mod Losing
 pub mod Dealing
 pub mod Asking
 mod Examples
+pub mod Printing

@@ -53,11 +53,6 @@ gives_more u v w k l m xs ys s t = record {
 pub gives_on : (u v w : Option (List ℕ)) (k l m : List ℕ) → Gives u v k l [] → Gives v w l m [] → Gives u w k m []
 gives_on u v w k l m s t = gives_more u v w k l m [] [] s t
 
--- what follows where all went well
-pub on_ok : {A E : Type 0} (r : Result A E) (P Q : Type 0) → OnOk r P → (P → Q) → OnOk r Q
-on_ok (Ok x) P Q h f = f h
-on_ok (Err e) P Q h f = h
-
 rows_text-append : (rows : List Update) (row : Update) → rows_text (rows ++ row ∷ []) ≡ rows_text rows ++ row_text row
 rows_text-append [] row = append-nil (row_text row)
 rows_text-append (r ∷ rows) row = ap (λ w. row_text r ++ w) (rows_text-append rows row) ∙ sym (assoc (row_text r) (rows_text rows) (row_text row))
@@ -65,10 +60,6 @@ rows_text-append (r ∷ rows) row = ap (λ w. row_text r ++ w) (rows_text-append
 -- the line of one row more
 pub row_written : (old text new : List ℕ) (rows more : List Update) (row : Update) → text ≡ old ++ rows_text rows → new ≡ text ++ row_text row → more ≡ rows ++ row ∷ [] → new ≡ old ++ rows_text more
 row_written old text new rows more row so_far is next = is ∙ (ap (λ w. w ++ row_text row) so_far ∙ (assoc old (rows_text rows) (row_text row) ∙ (ap (λ w. old ++ w) (sym (rows_text-append rows row)) ∙ ap (λ w. old ++ rows_text w) (sym next))))
-
--- a head that says how many lines follow, and the lines
-pub lines_written : (old head new : List ℕ) (count lines : List ℕ) → head ≡ old ++ (codes "ok " ++ (count ++ codes "\n")) → new ≡ head ++ lines → new ≡ old ++ (codes "ok " ++ (count ++ (codes "\n" ++ lines)))
-lines_written old head new count lines is then = then ∙ (ap (λ w. w ++ lines) is ∙ (assoc old (codes "ok " ++ (count ++ codes "\n")) lines ∙ ap (λ w. old ++ (codes "ok " ++ w)) (assoc count (codes "\n") lines)))
 
 -- steps after which there are more
 

@@ -19,7 +19,9 @@ use Rattle.swim_shell.specs.declared.request.Request.{Request}
 use Rattle.swim_shell.specs.declared.request.Request.TheVariants as asked
 use Rattle.swim_shell.specs.declared.conversation.LineEnd.{LineEnd}
 use Rattle.swim_shell.specs.declared.conversation.LineEnd.TheVariants as line_end
+use Rattle.swim_shell.specs.declared.counters.TheConstants.{COUNTERS}
 use Rattle.swim_shell.specs.Calls.{CallerView, NewCall, Refuses}
+use Rattle.swim_shell.specs.Counters.{counters_text}
 
 -- what is written where a call was refused
 abbrev pub refusal_text : Refusal → List ℕ
@@ -96,6 +98,7 @@ pub record Plain (p q : CallerView) (refused : Option Refusal) (answer text : Li
 abbrev pub Replies : Request → Reply → List ℕ → Type 0
 Replies (asked.Join peer) reply text = text ≡ joined_text reply
 Replies asked.Leave reply text = text ≡ left_text reply
+Replies (asked.Members after) reply text = text ≡ members_text reply.page.items
 Replies _ reply text = Unit {0}
 
 -- the event was to be entered for this request: its one new call is of it, and what is written
@@ -106,15 +109,18 @@ Calls limit event asked p q None answer =
 Calls limit event asked p q (Some why) answer =
     Refuses limit why p q event × (answer ≡ refusal_text why)
 
--- no event was to be entered; the status is written, or that there is no reading of it
+-- no event was to be entered; a status is written, or that there is no reading of it
 abbrev pub ShowsStatus : CallerView → CallerView → Option Refusal → List ℕ → Type 0
-ShowsStatus p q None answer = q ≡ p
+ShowsStatus p q None answer = (status : Status) × (q ≡ p) × (answer ≡ status_text status)
 ShowsStatus p q (Some why) answer =
     (q ≡ p) × (why ≡ refusal.Unread) × (answer ≡ refusal_text why)
 
--- no event was to be entered, and none was refused; what the member has done is written
-abbrev pub ShowsCounters : CallerView → CallerView → Option Refusal → Type 0
-ShowsCounters p q refused = (q ≡ p) × (refused ≡ None)
+-- no event was to be entered, and none was refused; a count of each thing that a member does is
+-- written
+abbrev pub ShowsCounters : CallerView → CallerView → Option Refusal → List ℕ → Type 0
+ShowsCounters p q refused answer =
+    (counts : List ℕ) × (q ≡ p) × (refused ≡ None) × (length counts ≡ COUNTERS)
+    × (answer ≡ counters_text counts)
 
 -- what a request makes of the caller, why that was refused, if it was, and what is written
 abbrev pub Answers : ℕ → Request → CallerView → CallerView → Option Refusal → List ℕ → Type 0
@@ -128,7 +134,7 @@ Answers limit asked.Leave p q refused answer =
 Answers limit asked.Stop p q refused answer = Plain p q refused answer (codes "ok stopping\n")
 Answers limit asked.Record p q refused answer =
     Plain p q refused answer (codes "ok era ends\n")
-Answers limit asked.Counters p q refused answer = ShowsCounters p q refused
+Answers limit asked.Counters p q refused answer = ShowsCounters p q refused answer
 Answers limit asked.Reload p q refused answer = Plain p q refused answer []
 Answers limit asked.Unknown p q refused answer =
     Plain p q refused answer (codes "error 1 unknown\n")

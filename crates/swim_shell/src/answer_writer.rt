@@ -3,7 +3,7 @@
 ghost use Rattle.std.specs.Prelude.{◌≡◌, ◌≢◌, ◌≤◌, ◌++◌, ◌∷◌, true, false, [], length, IfOk, IsTrue, OnOk, ◌<◌};
 ghost use Rattle.swim_shell.specs.Writes.{sent_by};
 
-use crate::answers::Answer;
+use crate::printer::Answer;
 use arrayvec::ArrayString;
 use std::io::{self, ErrorKind, Write};
 use swim_trace::Trace;

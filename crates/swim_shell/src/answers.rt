@@ -1,35 +1,23 @@
 //! What control answers.
 
-ghost use Rattle.std.specs.Prelude.{◌≡◌, ◌+◌, ◌≤◌, ◌++◌, [], length, codes, OnOk};
+ghost use Rattle.std.specs.Prelude.{◌≡◌, ◌+◌, ◌≤◌, ◌++◌, [], length, codes};
 ghost use Rattle.std.specs.Fmt.{decimal};
 ghost use Rattle.std.specs.List.{list_any};
-ghost use Rattle.swim_shell.specs.Answers.{Replies, is_misdirected, is_stopped, joined_text, left_text, members_text, refusal_text, row_text, status_head, status_rest, status_text};
+ghost use Rattle.swim_shell.specs.Answers.{Replies, is_misdirected, is_stopped, joined_text, left_text, members_text, refusal_text, row_text, status_head, status_text};
 
 use crate::caller::Refusal;
+use crate::printer::{ANSWER_MAX, Answer, add_counted, add_endpoint, add_text};
 use crate::request::Request;
 use arrayvec::{ArrayString, ArrayVec};
-use std::fmt::{self, Write};
 use swim_member::{NOTES_MAX, Note};
 use swim_node::{Reply, Status};
-use swim_wire::Update;
-
-/// Room for the longest answer: a head, and thirty rows of at most 51 bytes.
-pub const ANSWER_MAX: usize = 2048;
-
-/// The text of an answer.
-pub type Answer = ArrayString<ANSWER_MAX>;
+use swim_wire::{UPDATES_MAX, Update};
 
 /// The answer to the line `reload` where the settings cannot be read again.
 pub const SETTINGS_REFUSED: &str = "error 8 settings\n";
 
-/// Adds a text, where it fits.
-pub(crate) fn add_text(answer: &mut Answer, text: &str)
-    ensures { length answer.old.bytes + length text.now ≤ ANSWER_MAX
-        → answer.new.bytes ≡ answer.old.bytes
-        ++ text.now }
-{
-    let _ = answer.try_push_str(text);
-}
+/// The most bytes of the line of a member.
+const ROW_MAX: usize = 51;
 
 /// A text as an answer, where it fits.
 pub fn answer_of(text: &str) -> Answer
@@ -40,69 +28,63 @@ pub fn answer_of(text: &str) -> Answer
     answer
 }
 
-/// Adds the line of a status up to the members that are held for alive, where it fits.
-fn write_head(answer: &mut Answer, status: &Status) -> fmt::Result
-    ensures { OnOk result (answer.new.bytes ≡ answer.old.bytes ++ status_head status.now) }
+/// Adds the line of a status up to the members that are held for alive.
+fn add_head(answer: &mut Answer, status: &Status)
+    requires { answer.old.bytes ≡ [] }
+    ensures text { answer.new.bytes ≡ status_head status.now }
+    ensures most { length answer.new.bytes ≤ 100 }
 {
-    let phase = status.phase.name();
-    let number = status.number;
-    let alive = status.alive;
-    write!(answer, "ok {phase} number {number} alive {alive}")
+    add_text(answer, "ok ");
+    add_text(answer, status.phase.name());
+    add_counted(answer, " number ", status.number);
+    add_counted(answer, " alive ", status.alive as u64);
 }
 
-/// Adds the rest of it, where it fits.
-fn write_rest(answer: &mut Answer, status: &Status) -> fmt::Result
-    ensures { OnOk result (answer.new.bytes ≡ answer.old.bytes ++ status_rest status.now) }
+/// Writes the line of a status.
+pub(crate) fn add_status(answer: &mut Answer, status: &Status)
+    requires { answer.old.bytes ≡ [] }
+    ensures { answer.new.bytes ≡ status_text status.now }
 {
-    let suspect = status.suspect;
-    let confirmed = status.confirmed;
-    let length = status.length;
-    writeln!(
-        answer,
-        " suspect {suspect} confirmed {confirmed} length {length}"
-    )
-}
-
-/// Adds the line of a status, where it fits.
-fn write_status(answer: &mut Answer, status: &Status) -> fmt::Result
-    ensures { OnOk result (answer.new.bytes ≡ answer.old.bytes ++ status_text status.now) }
-{
-    write_head(answer, status)?;
-    write_rest(answer, status)
-}
-
-/// The line of a status, which fits.
-pub(crate) fn add_status(answer: &mut Answer, status: &Status) {
-    let _ = write_status(answer, status);
+    add_head(answer, status);
+    add_counted(answer, " suspect ", status.suspect as u64);
+    add_counted(answer, " confirmed ", status.confirmed as u64);
+    add_counted(answer, " length ", status.length as u64);
+    add_text(answer, "\n");
 }
 
 /// Adds the line of a member, where it fits.
-fn add_row(answer: &mut Answer, row: &Update) -> fmt::Result
-    ensures { OnOk result (answer.new.bytes ≡ answer.old.bytes ++ row_text row.now) }
+fn add_row(answer: &mut Answer, row: &Update)
+    ensures fits { length answer.old.bytes + ROW_MAX ≤ ANSWER_MAX
+        → answer.new.bytes ≡ answer.old.bytes ++ row_text row.now }
+    ensures most { length answer.new.bytes ≤ length answer.old.bytes + ROW_MAX }
 {
-    let kind = row.kind.name();
-    let who = row.who;
-    let number = row.number;
-    writeln!(answer, "{kind} {who} {number}")
+    add_text(answer, row.kind.name());
+    add_text(answer, " ");
+    add_endpoint(answer, row.who);
+    add_counted(answer, " ", row.number);
+    add_text(answer, "\n");
 }
 
-/// Adds how many lines follow.
-pub(crate) fn write_count(answer: &mut Answer, lines: usize) -> fmt::Result
-    ensures { OnOk result (answer.new.bytes ≡ answer.old.bytes ++ (codes "ok " ++ (decimal lines
-        ++ codes "\n"))) }
+/// Writes how many lines follow.
+pub(crate) fn add_count(answer: &mut Answer, lines: usize)
+    requires { answer.old.bytes ≡ [] }
+    ensures text { answer.new.bytes ≡ codes "ok " ++ (decimal lines ++ codes "\n") }
+    ensures most { length answer.new.bytes ≤ 24 }
 {
-    writeln!(answer, "ok {lines}")
+    add_counted(answer, "ok ", lines as u64);
+    add_text(answer, "\n");
 }
 
-/// Adds how many members a page has, and their lines, where they fit.
-fn write_members(answer: &mut Answer, page: &[Update]) -> fmt::Result
-    ensures { OnOk result (answer.new.bytes ≡ answer.old.bytes ++ members_text page.now) }
+/// Writes how many members a page has, and their lines.
+fn add_members(answer: &mut Answer, page: &[Update])
+    requires empty { answer.old.bytes ≡ [] }
+    requires few { length page.now ≤ UPDATES_MAX }
+    ensures { answer.new.bytes ≡ members_text page.now }
 {
-    write_count(answer, page.len())?;
+    add_count(answer, page.len());
     for row in page {
-        add_row(answer, row)?;
+        add_row(answer, row);
     }
-    Ok(())
 }
 
 /// Whether the member takes no part.
@@ -159,9 +141,7 @@ pub(crate) fn add_reply(answer: &mut Answer, asked: Request, reply: &Reply)
     ensures { Replies asked reply.now answer.new.bytes }
 {
     match asked {
-        Request::Members(_) => {
-            let _ = write_members(answer, reply.page.as_slice());
-        }
+        Request::Members(_) => add_members(answer, reply.page.as_slice()),
         Request::Join(_) => add_joined(answer, reply),
         Request::Leave => add_left(answer, reply),
         _ => {}

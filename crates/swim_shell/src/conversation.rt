@@ -5,10 +5,11 @@ ghost use Rattle.swim_shell.specs.Answers.{Answers, ShowsCounters, ShowsStatus, 
 ghost use Rattle.swim_shell.specs.Control.{carried};
 
 use crate::answer_writer::{AnswerWriter, Sent};
-use crate::answers::{ANSWER_MAX, Answer, add_refusal, add_reply, add_status, add_text};
+use crate::answers::{add_refusal, add_reply, add_status};
 use crate::caller::{Observer, Refusal};
 use crate::counters::add_counters;
 use crate::lines::{LineReader, NoLine};
+use crate::printer::{ANSWER_MAX, Answer, add_text};
 use crate::request::{Request, understand};
 use crate::worker::Worker;
 use arrayvec::ArrayString;
@@ -90,7 +91,8 @@ fn show_status<C: Observer>(caller: &mut C, answer: &mut Answer) -> Option<Refus
 
 /// Writes what the member has done, for which no call is made, and so none is refused.
 fn show_counters<C: Observer>(caller: &mut C, answer: &mut Answer) -> Option<Refusal>
-    ensures { ShowsCounters (C.known caller.old) (C.known caller.new) result }
+    requires { answer.old.bytes ≡ [] }
+    ensures { ShowsCounters (C.known caller.old) (C.known caller.new) result answer.new.bytes }
 {
     add_counters(answer, &caller.counters());
     None

@@ -1,11 +1,11 @@
 //! What a running member tells of all that it did.
 
-ghost use Rattle.std.specs.Prelude.{◌≡◌, ◌++◌, OnOk};
-ghost use Rattle.swim_shell.specs.Counters.{counter_at, counter_line, counter_name, counters_text, lines_from};
+ghost use Rattle.std.specs.Prelude.{◌≡◌, ◌+◌, ◌≤◌, ◌++◌, [], length};
+ghost use Rattle.swim_shell.specs.Counters.{counter_at, counter_line, counter_name, counters_text};
 
-use crate::answers::{Answer, write_count};
+use crate::answers::add_count;
 use crate::counts::{CALL_COUNTS, NOTE_KINDS};
-use std::fmt::{self, Write};
+use crate::printer::{ANSWER_MAX, Answer, add_counted, add_text};
 use swim_member::Note;
 use swim_wire::WireFault;
 
@@ -17,6 +17,9 @@ pub const NOTES_FROM: usize = ERA_COUNTS + CALL_COUNTS;
 
 /// How many counters there are.
 pub const COUNTERS: usize = NOTES_FROM + NOTE_KINDS;
+
+/// The most bytes of the line of a counter.
+const COUNTER_LINE_MAX: usize = 40;
 
 /// What is counted.
 #[derive(Clone, Copy, Debug, PartialEq, Eq)]
@@ -125,34 +128,23 @@ pub struct Counters {
 }
 
 /// Adds the line of a counter, where it fits.
-fn add_counter(answer: &mut Answer, counter: Counter, count: u64) -> fmt::Result
-    ensures { OnOk result (answer.new.bytes ≡ answer.old.bytes ++ counter_line counter count) }
+fn add_counter(answer: &mut Answer, counter: Counter, count: u64)
+    ensures fits { length answer.old.bytes + COUNTER_LINE_MAX ≤ ANSWER_MAX
+        → answer.new.bytes ≡ answer.old.bytes ++ counter_line counter count }
+    ensures most { length answer.new.bytes ≤ length answer.old.bytes + COUNTER_LINE_MAX }
 {
-    let name = counter.name();
-    writeln!(answer, "{name} {count}")
+    add_text(answer, counter.name());
+    add_counted(answer, " ", count);
+    add_text(answer, "\n");
 }
 
-/// Adds the lines of the counters, where they fit.
-fn add_lines(answer: &mut Answer, counts: &[u64; COUNTERS]) -> fmt::Result
-    ensures { OnOk result (answer.new.bytes
-        ≡ answer.old.bytes ++ lines_from counter_line 0 counts.now) }
+/// Writes how many counters there are, and their lines.
+pub(crate) fn add_counters(answer: &mut Answer, counters: &Counters)
+    requires { answer.old.bytes ≡ [] }
+    ensures { answer.new.bytes ≡ counters_text counters.now.values }
 {
-    for (place, count) in counts.iter().enumerate() {
-        add_counter(answer, Counter::at(place), *count)?;
+    add_count(answer, COUNTERS);
+    for (place, count) in counters.values.iter().enumerate() {
+        add_counter(answer, Counter::at(place), *count);
     }
-    Ok(())
-}
-
-/// Adds how many lines there are, and the lines, where they fit.
-fn write_counters(answer: &mut Answer, counters: &Counters) -> fmt::Result
-    ensures { OnOk result (answer.new.bytes ≡ answer.old.bytes
-        ++ counters_text counters.now.values) }
-{
-    write_count(answer, COUNTERS)?;
-    add_lines(answer, &counters.values)
-}
-
-/// The counters with their number, which fit.
-pub(crate) fn add_counters(answer: &mut Answer, counters: &Counters) {
-    let _ = write_counters(answer, counters);
 }

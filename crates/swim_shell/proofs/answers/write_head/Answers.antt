@@ -1,6 +1,0 @@
-use Rattle.std.proofs.lemmas.Fmt.{contents_after_writes}
-use Rattle.swim_shell.proofs.Writing.{on_ok}
-use Rattle.swim_shell.proofs.answers.write_head.Goals as goal
-
-pub returns : goal.returns
-returns c = rw (← c.name-phase.ensures) (on_ok c.write.result _ _ c.write.ensures.writes (λ w. contents_after_writes _ (λ s. s.bytes) (λ s l t h. h) _ _ _ w))

@@ -1,7 +1,0 @@
-use Rattle.std.proofs.Common.{◌≡◌, ◌++◌, take}
-use Rattle.swim_shell.specs.Answers.{rows_text}
-use Rattle.swim_shell.proofs.answers.write_members.Given as goal
-
--- the head, and the rows so far
-abbrev pub invariant-loop-row : goal.invariant-loop-row
-invariant-loop-row l = l.answer.bytes ≡ l.initial.answer.bytes ++ rows_text (take l.row-index l.page)
