@@ -1,7 +1,7 @@
 //! What lies under the lock.
 
 ghost use Rattle.std.specs.Prelude.{◌≡◌, ◌↔◌, ◌+◌, ◌<◌, ◌≤◌, ◌^◌, ◌++◌};
-ghost use Rattle.std.specs.Prelude.{length, true, false, IfOk, IfErr, IfSome, IsTrue, OnOk, OnErr};
+ghost use Rattle.std.specs.Prelude.{length, true, false, IfOk, IfErr, IfSome, IsSome, IsTrue, OnOk, OnErr};
 ghost use Rattle.swim_node.specs.History.{IsLegal};
 ghost use Rattle.swim_shared.specs.Taken.{taken_of};
 ghost use Rattle.swim_shared.specs.Machinery.Rules.{head_of, MayAdd};
@@ -96,6 +96,7 @@ impl<N: Name, D: Disk, L: Link, R: Wait + Drop> Locked<N, D, L, R> {
     fn claim(&mut self) -> Option<Pen>
         ensures same { self.new ≡ record self.old { has_pen = false } }
         ensures may { IfSome result (MayAdd (sight N.book self.old.journal)) }
+        ensures kept { IsTrue self.old.has_pen → IsSome result }
     {
         // the journal is short
         let _ = self.node.journal();
