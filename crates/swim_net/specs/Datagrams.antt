@@ -1,5 +1,5 @@
 -- Where datagrams come from and go to, and what a socket for them has answered.
-use Rattle.std.specs.Prelude.{◌≢◌, ℕ, ◌+◌, ◌*◌, List, [], ◌∷◌, Option, Result, IsNone, SomeIff}
+use Rattle.std.specs.Prelude.{◌≡◌, ◌≢◌, ℕ, ◌+◌, ◌*◌, List, [], ◌∷◌, Option, Result, IsNone, SomeIff}
 use Rattle.std.specs.Prelude.{◌==◌, Bool, true, false, Some, None, Ok, Err, if◌then◌else◌}
 use Rattle.std.specs.Net.Addr.{ipv4_bits}
 use Rattle.std.specs.Net.Socket.{v4_ip, v4_port}
@@ -12,6 +12,8 @@ use Rattle.std.specs.declared.net.socket_addr.SocketAddr.TheVariants.{V4, V6}
 use Rattle.arrayvec.specs.ArrayVec.{ArrayVec}
 use Rattle.swim_shell.specs.Inbounds.{Came, Nothing, came_of}
 use Rattle.swim_net.specs.declared.udp.Answer.{Answer}
+use Rattle.swim_net.specs.declared.udp.Went.{Went}
+use Rattle.swim_net.specs.declared.udp.Went.TheVariants as went
 
 -- the endpoint at an address: none where that is of IPv6, or its port is 0
 abbrev pub IsEndpointAt : SocketAddr → Option ℕ → Type 0
@@ -39,14 +41,28 @@ brings_nothing kinds.HostUnreachable = true
 brings_nothing kinds.NetworkUnreachable = true
 brings_nothing _ = false
 
--- a send that failed so may be tried again
-abbrev pub may_retry : ErrorKind → Bool
-may_retry kinds.Interrupted = true
-may_retry kinds.WouldBlock = true
-may_retry _ = false
+-- what became of a datagram whose send failed so
+abbrev pub failed_by : ErrorKind → Went
+failed_by kinds.Interrupted = went.Interrupted
+failed_by kinds.WouldBlock = went.NoRoom
+failed_by _ = went.Lost
 
--- whether the whole datagram of so many bytes went out, by what the socket answered; none if it may
--- be tried again
-abbrev pub went_whole : Result ℕ Error → ℕ → Option Bool
-went_whole (Ok sent) length = Some (sent == length)
-went_whole (Err e) length = if may_retry (error_kind e) then None else Some false
+-- what became of a datagram of so many bytes, by what the socket answered
+abbrev pub went_by : Result ℕ Error → ℕ → Went
+went_by (Ok sent) length = if sent == length then went.Whole else went.Lost
+went_by (Err e) length = failed_by (error_kind e)
+
+-- a send that this became of may be tried again
+abbrev pub MayRetry : Went → Type 0
+MayRetry went.Interrupted = Unit
+MayRetry went.NoRoom = Unit
+MayRetry _ = ⊥
+
+-- a datagram of so many bytes may be sent again where the socket answered so
+abbrev pub SendsAgain : ℕ → Result ℕ Error → Type 0
+SendsAgain length answer = MayRetry (went_by answer length)
+
+-- it went out whole by this answer, or was lost
+abbrev pub EndsAs : ℕ → (is_whole : Bool) → Result ℕ Error → Type 0
+EndsAs length true answer = went_by answer length ≡ went.Whole
+EndsAs length false answer = went_by answer length ≡ went.Lost

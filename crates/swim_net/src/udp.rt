@@ -1,10 +1,10 @@
 //! Datagrams over UDP.
 
-ghost use Rattle.std.specs.Prelude.{◌≡◌, ◌≢◌, ◌≤◌, ◌↔◌, ◌++◌, ◌∷◌, [], length, take as first, false, IfErr, IfNone, IfOk, IfSome, IsErr, IsOk, OnErr, OnOk, Some};
+ghost use Rattle.std.specs.Prelude.{◌≡◌, ◌≢◌, ◌≤◌, ◌↔◌, ◌++◌, ◌∷◌, [], length, take as first, false, IfErr, IfNone, IfOk, IfSome, IsErr, IsOk, None, OnErr, OnOk, Some};
 ghost use Rattle.std.specs.IoError.{error_kind};
 ghost use Rattle.std.specs.declared.io.ErrorKind.TheVariants.{Interrupted};
 ghost use Rattle.swim_shell.specs.Inbounds.{came_of};
-ghost use Rattle.swim_net.specs.Datagrams.{IsEndpointAt, brings_nothing, came_in, went_whole};
+ghost use Rattle.swim_net.specs.Datagrams.{IsEndpointAt, brings_nothing, came_in, went_by};
 
 use crate::waits::{SocketAlarm, Waits, pause};
 use arrayvec::ArrayVec;
@@ -47,42 +47,67 @@ pub struct UdpLink<'a, C: Clock> {
     socket: UdpSocket,
     clock: &'a C,
     failures: Trace<()>,
+    /// What the socket answered, which only proofs read.
+    answers: Trace<io::Result<usize>>,
 }
 
-/// Whether the whole datagram of so many bytes went out by a send that the socket answered so; none if it may be tried again, as
-/// a signal cut it short or the system had no room.
-fn went_whole(answer: &io::Result<usize>, length: usize) -> Option<bool>
-    ensures { result ≡ went_whole answer.now length }
+/// What became of a datagram that a socket was to send.
+#[derive(Clone, Copy, Debug, PartialEq, Eq)]
+enum Went {
+    /// All of it went out.
+    Whole,
+    /// It did not go out, or was cut short.
+    Lost,
+    /// A signal interrupted the send: it may be tried again at once.
+    Interrupted,
+    /// The system had no room: it may be tried again after a pause.
+    NoRoom,
+}
+
+/// What became of a datagram of so many bytes, where the socket answered so.
+fn went_by(answer: &io::Result<usize>, length: usize) -> Went
+    ensures { result ≡ went_by answer.now length }
 {
     match answer {
-        Ok(sent) => Some(*sent == length),
+        Ok(sent) if *sent == length => Went::Whole,
+        Ok(_) => Went::Lost,
         Err(error) => match error.kind() {
-            ErrorKind::Interrupted | ErrorKind::WouldBlock => None,
-            _ => Some(false),
+            ErrorKind::Interrupted => Went::Interrupted,
+            ErrorKind::WouldBlock => Went::NoRoom,
+            _ => Went::Lost,
         },
     }
 }
 
 impl<'a, C: Clock> UdpLink<'a, C> {
+    ghost use Rattle.std.specs.Prelude.{◌≡◌, false, length};
+    ghost use Rattle.swim_shell.specs.Tries.{Tried};
+    ghost use Rattle.swim_net.specs.Datagrams.{EndsAs, SendsAgain};
+
     /// A link over a bound socket that never waits.
     fn new(socket: UdpSocket, clock: &'a C) -> UdpLink<'a, C> {
         UdpLink {
             socket,
             clock,
             failures: Trace::new(),
+            answers: Trace::new(),
         }
     }
 
-    /// Sends one datagram whole. A send that may be tried again is: at once if a signal cut it short, and after a pause if the
-    /// system had no room.
-    fn send_whole(&self, to: Endpoint, bytes: &[u8]) -> bool {
+    /// Sends one datagram, and says whether it went out whole. A send that may be tried again is, some times.
+    fn send_whole(&mut self, to: Endpoint, bytes: &[u8]) -> bool
+        ensures tried { Tried (SendsAgain (length bytes.now)) (EndsAs (length bytes.now) result)
+            SENDS_MAX (result ≡ false) self.old.answers self.new.answers }
+        ensures failures { self.new.failures ≡ self.old.failures }
+    {
         for _ in 0..SENDS_MAX {
             let answer = self.socket.send_to(bytes, address_of(to));
-            if let Some(is_whole) = went_whole(&answer, bytes.len()) {
-                return is_whole;
-            }
-            if matches!(&answer, Err(error) if error.kind() == ErrorKind::WouldBlock) {
-                pause(self.clock);
+            self.answers = self.answers.and(&answer);
+            match went_by(&answer, bytes.len()) {
+                Went::Whole => return true,
+                Went::Lost => return false,
+                Went::Interrupted => {}
+                Went::NoRoom => pause(self.clock),
             }
         }
         false
@@ -155,6 +180,7 @@ pub fn take(
     ensures came { OnOk received (IsOk result) }
     ensures failed { OnErr result (IfErr received (λ e. error_kind e ≢ Interrupted)) }
     ensures fault { IfErr received (λ e. IsErr result ↔ (brings_nothing (error_kind e) ≡ false)) }
+    ensures none { IfErr received (λ _. IfOk result (λ from. from ≡ None)) }
     ensures nothing { IfOk result (λ from. IfNone from (into.new.items ≡ [])) }
     ensures whence { IfOk received (λ r. IfOk result (λ from. IsEndpointAt r.1 from)) }
     ensures whole { IfOk received (λ r. r.0 ≤ RECEIVED_MAX → IfOk result
