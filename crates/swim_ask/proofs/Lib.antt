@@ -1,2 +1,6 @@
 pub mod Statuses
 pub mod Counted
+pub mod Counts
+pub mod Rows
+pub mod Wholes
+pub mod Pages

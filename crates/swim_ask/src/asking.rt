@@ -1,5 +1,9 @@
 //! `swim ctl`.
 
+ghost use Rattle.std.specs.Prelude.{◌≡◌, ◌+◌, ◌↔◌, ℕ, min, IfNone, IfOk, IfSome, IsOk, IsTrue};
+ghost use Rattle.swim_words.specs.Words.{Lacks};
+ghost use Rattle.swim_ask.specs.Whole.{AsksLines, Follow, IsWhole, ends};
+
 use crate::place::find;
 use std::io::{self, ErrorKind, Read, Write};
 use std::net::{Net, TcpStream};
@@ -26,12 +30,20 @@ fn left<R: Clock>(rt: &R, start: &Instant) -> io::Result<Duration> {
 }
 
 /// Whether the line asks for members or counters, whose answer has more lines than one.
-fn asks_lines(line: &str) -> bool {
+fn asks_lines(line: &str) -> bool
+    ensures { IsTrue result ↔ AsksLines line.now }
+{
     line == "members" || line.starts_with("members ") || line == "counters"
 }
 
 /// How many lines the answer has that begins so: with `ok N`, where members or counters were asked for, N more than one.
-fn lines_wanted(line: &str, answer: &[u8]) -> Option<u64> {
+fn lines_wanted(line: &str, answer: &[u8]) -> Option<u64>
+    ensures wanted { IfSome result (λ wanted. (more : ℕ)
+        × Follow line.now answer.now more
+        × (wanted ≡ min (more + 1) u64.MAX)) }
+    ensures ended { IfSome result (λ wanted. ¬ Lacks 10 answer.now) }
+    ensures none { IfNone result (Lacks 10 answer.now) }
+{
     let (first, _) = split_at_byte(answer, b'\n')?;
     if !asks_lines(line) {
         return Some(1);
@@ -43,11 +55,19 @@ fn lines_wanted(line: &str, answer: &[u8]) -> Option<u64> {
     Some(more.saturating_add(1))
 }
 
+/// How many lines of the text have ended.
+fn count_ends(text: &[u8]) -> usize
+    ensures { result ≡ ends text.now }
+{
+    text.iter().filter(|byte| **byte == b'\n').count()
+}
+
 /// Whether this is the whole answer to the line.
-fn is_whole(line: &str, answer: &[u8]) -> bool {
-    let ends = answer.iter().filter(|byte| **byte == b'\n').count();
+fn is_whole(line: &str, answer: &[u8]) -> bool
+    ensures { IsTrue result ↔ IsWhole line.now answer.now }
+{
     match lines_wanted(line, answer) {
-        Some(wanted) => wanted <= ends as u64,
+        Some(wanted) => wanted <= count_ends(answer) as u64,
         None => false,
     }
 }
@@ -59,7 +79,9 @@ fn read_answer<R: Clock>(
     stream: &mut TcpStream,
     line: &str,
     answer: &mut Vec<u8>,
-) -> io::Result<()> {
+) -> io::Result<()>
+    ensures { IsOk result → IsWhole line.now answer.new.items }
+{
     for _ in 0..ANSWER_MAX {
         if is_whole(line, answer.as_slice()) {
             return Ok(());
@@ -81,7 +103,9 @@ fn talk<R: Net<Stream = TcpStream> + Clock + AllocGlobal>(
     rt: &R,
     to: Endpoint,
     line: &str,
-) -> io::Result<Vec<u8>> {
+) -> io::Result<Vec<u8>>
+    ensures { IfOk result (λ answer. IsWhole line.now answer.items) }
+{
     let start = Instant::now(rt)?;
     let mut stream = TcpStream::connect_timeout(rt, &address_of(to), left(rt, &start)?)?;
     stream.set_write_timeout(Some(left(rt, &start)?))?;
@@ -98,7 +122,9 @@ pub(crate) fn exchange<R: Net<Stream = TcpStream> + Clock + AllocGlobal>(
     rt: &R,
     to: Endpoint,
     line: &str,
-) -> Result<Vec<u8>, Ending> {
+) -> Result<Vec<u8>, Ending>
+    ensures { IfOk result (λ answer. IsWhole line.now answer.items) }
+{
     talk(rt, to, line).map_err(|error| Ending::of(&error, Ending::Socket))
 }
 
@@ -108,6 +134,8 @@ pub fn ask<R: Net<Stream = TcpStream> + Clock + AllocGlobal>(
     rt: &R,
     to: &str,
     line: &str,
-) -> Result<Vec<u8>, Ending> {
+) -> Result<Vec<u8>, Ending>
+    ensures { IfOk result (λ answer. IsWhole line.now answer.items) }
+{
     exchange(rt, find(rt, to)?, line)
 }

@@ -1,7 +1,9 @@
 //! The answer to `counters`, read and as JSON.
 
-ghost use Rattle.std.specs.Prelude.{◌≡◌, IfSome};
+ghost use Rattle.std.specs.Prelude.{◌≡◌, IfSome, IfNone};
 ghost use Rattle.swim_shell.specs.Counters.{counters_text};
+ghost use Rattle.swim_words.specs.Words.{No};
+ghost use Rattle.swim_ask.specs.Answers.{SaysCounters};
 
 use crate::status::read_count;
 use std::fmt;
@@ -9,7 +11,8 @@ use swim_shell::{COUNTERS, Counter, Counters};
 
 /// The counters that an answer to the line `counters` tells; none where it is no such answer.
 pub fn read_counters(answer: &[u8]) -> Option<Counters>
-    ensures { IfSome result (λ counters. answer.now ≡ counters_text counters.values) }
+    ensures counters { IfSome result (λ counters. answer.now ≡ counters_text counters.values) }
+    ensures none { IfNone result (No (SaysCounters answer.now)) }
 {
     let (lines, mut left) = read_count(answer, b"ok", b'\n')?;
     if lines != COUNTERS as u64 {

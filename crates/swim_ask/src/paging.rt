@@ -1,6 +1,10 @@
 //! All rows of a running member, asked for page by page by control lines.
 
-ghost use Rattle.std.specs.Prelude.{◌≡◌, ◌≢◌, ◌+◌, length, IfSome};
+ghost use Rattle.std.specs.Prelude.{◌≡◌, ◌≢◌, ◌+◌, ◌↔◌, List, ℕ, codes, length, IfErr, IfNone, IfOk, IfSome};
+ghost use Rattle.std.specs.Io.{StartsWith};
+ghost use Rattle.swim_wire.specs.Text.{kind_word};
+ghost use Rattle.swim_words.specs.Words.{No};
+ghost use Rattle.swim_ask.specs.Answers.{AddsAnswer, AddsRows, FitsAfter, HasAfterFirst, SaysRow};
 
 use crate::asking::exchange;
 use arrayvec::ArrayString;
@@ -29,15 +33,23 @@ enum Page {
 }
 
 /// The kind of a row with this name.
-fn read_kind(word: &[u8]) -> Option<UpdateKind> {
-    let kinds = [UpdateKind::Alive, UpdateKind::Suspect, UpdateKind::Confirm];
-    kinds
-        .into_iter()
-        .find(|kind| kind.name().as_bytes() == word)
+fn read_kind(word: &[u8]) -> Option<UpdateKind>
+    ensures kind { IfSome result (λ kind. word.now ≡ kind_word kind) }
+    ensures none { IfNone result (No (λ kind. word.now ≡ kind_word kind)) }
+{
+    match word {
+        b"alive" => Some(UpdateKind::Alive),
+        b"suspect" => Some(UpdateKind::Suspect),
+        b"confirm" => Some(UpdateKind::Confirm),
+        _ => None,
+    }
 }
 
 /// The row of a line `KIND A N`.
-fn read_row(line: &[u8]) -> Option<Update> {
+fn read_row(line: &[u8]) -> Option<Update>
+    ensures row { IfSome result (λ row. SaysRow line.now row) }
+    ensures none { IfNone result (No (SaysRow line.now)) }
+{
     let (kind, rest) = split_at_byte(line, b' ')?;
     let (who, number) = split_at_byte(rest, b' ')?;
     Some(Update {
@@ -50,7 +62,9 @@ fn read_row(line: &[u8]) -> Option<Update> {
 /// Adds the rows of an answer, and says how many lines it has; none if a line is no row, or one that is not after the
 /// others.
 fn add_rows(rows: &mut Rows, lines: &[u8]) -> Option<usize>
-    ensures { IfSome result (λ count. length rows.new ≡ length rows.old + count) }
+    ensures count { IfSome result (λ count. length rows.new ≡ length rows.old + count) }
+    ensures rows { IfSome result (λ count. AddsRows lines.now rows.old rows.new count) }
+    ensures none { IfNone result (No (FitsAfter lines.now rows.old)) }
 {
     let mut left = lines;
     for count in 0..MEMBERS_MAX {
@@ -69,11 +83,20 @@ fn add_rows(rows: &mut Rows, lines: &[u8]) -> Option<usize>
 fn take_answer(rows: &mut Rows, answer: &[u8]) -> Result<Page, Ending>
     ensures full { result ≡ Ok Page.Full → length rows.new ≡ length rows.old + UPDATES_MAX }
     ensures last { result ≡ Ok Page.Last → length rows.new ≢ length rows.old + UPDATES_MAX }
+    ensures era { result ≡ Ok Page.EraFull ↔ StartsWith answer.now (codes "error 5") }
+    ensures kept { result ≡ Ok Page.EraFull → rows.new ≡ rows.old }
+    ensures rows { IfOk result (λ page. page ≢ Page.EraFull
+        → AddsAnswer answer.now rows.old rows.new) }
+    ensures refused { IfErr result (λ why. (lines : List ℕ)
+        → HasAfterFirst answer.now lines
+        → No (FitsAfter lines rows.old)) }
 {
     if answer.starts_with(ERA_FULL) {
         return Ok(Page::EraFull);
     }
-    let (first, lines) = split_at_byte(answer, b'\n').ok_or(Ending::Answer)?;
+    let Some((first, lines)) = split_at_byte(answer, b'\n') else {
+        return Err(Ending::Answer);
+    };
     if !first.starts_with(b"ok ") {
         return Err(Ending::Answer);
     }

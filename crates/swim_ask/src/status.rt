@@ -1,9 +1,11 @@
 //! The answer to `status`, read and as JSON.
 
-ghost use Rattle.std.specs.Prelude.{◌≡◌, ◌++◌, ◌∷◌, IfSome};
+ghost use Rattle.std.specs.Prelude.{◌≡◌, ◌≢◌, ◌⊎◌, ◌^◌, ◌<◌, ◌++◌, ◌∷◌, ℕ, List, IfSome, IfNone};
 ghost use Rattle.std.specs.Fmt.{decimal};
 ghost use Rattle.swim_member.specs.Texts.{phase_word};
 ghost use Rattle.swim_shell.specs.Answers.{status_text};
+ghost use Rattle.swim_words.specs.Words.{No, Lacks};
+ghost use Rattle.swim_ask.specs.Answers.{SaysStatus};
 
 use std::fmt;
 use swim_member::Phase;
@@ -12,7 +14,8 @@ use swim_words::{read_number, split_at_byte};
 
 /// The phase that the word is.
 fn read_phase(word: &[u8]) -> Option<Phase>
-    ensures { IfSome result (λ phase. word.now ≡ phase_word phase) }
+    ensures phase { IfSome result (λ phase. word.now ≡ phase_word phase) }
+    ensures none { IfNone result (No (λ phase. word.now ≡ phase_word phase)) }
 {
     match word {
         b"running" => Some(Phase::Running),
@@ -24,15 +27,24 @@ fn read_phase(word: &[u8]) -> Option<Phase>
 
 /// What stands after a word and a space.
 fn after_word<'a>(text: &'a [u8], word: &[u8]) -> Option<&'a [u8]>
-    ensures { IfSome result (λ rest. text.now ≡ word.now ++ 32 ∷ rest.now) }
+    ensures rest { IfSome result (λ rest. text.now ≡ word.now ++ 32 ∷ rest.now) }
+    ensures none { IfNone result (Lacks 32 word.now
+        → (rest : List ℕ)
+        → text.now ≢ word.now ++ 32 ∷ rest) }
 {
     let (first, rest) = split_at_byte(text, b' ')?;
     if first == word { Some(rest) } else { None }
 }
 
-/// The count after a name, and what stands after the byte that ends it.
+/// The count after a name, and what stands after the byte that ends it, which is no digit.
 pub(crate) fn read_count<'a>(text: &'a [u8], name: &[u8], end: u8) -> Option<(u64, &'a [u8])>
-    ensures { IfSome result (λ r. text.now ≡ name.now ++ 32 ∷ decimal r.0 ++ end ∷ r.1.now) }
+    ensures count { IfSome result (λ r. text.now ≡ name.now ++ 32 ∷ decimal r.0 ++ end ∷ r.1.now) }
+    ensures small { IfSome result (λ r. r.0 < 2 ^ 64) }
+    ensures none { IfNone result (Lacks 32 name.now
+        → (end < 48) ⊎ (57 < end)
+        → (count : ℕ) (rest : List ℕ)
+        → count < 2 ^ 64
+        → text.now ≢ name.now ++ 32 ∷ decimal count ++ end ∷ rest) }
 {
     let rest = after_word(text, name)?;
     let (word, after) = split_at_byte(rest, end)?;
@@ -42,7 +54,8 @@ pub(crate) fn read_count<'a>(text: &'a [u8], name: &[u8], end: u8) -> Option<(u6
 
 /// The status that an answer to the line `status` says; none where it is no such answer.
 pub fn read_status(answer: &[u8]) -> Option<Status>
-    ensures { IfSome result (λ status. answer.now ≡ status_text status) }
+    ensures status { IfSome result (λ status. answer.now ≡ status_text status) }
+    ensures none { IfNone result (No (SaysStatus answer.now)) }
 {
     let rest = after_word(answer, b"ok")?;
     let (phase, rest) = split_at_byte(rest, b' ')?;
