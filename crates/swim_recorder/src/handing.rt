@@ -1,6 +1,6 @@
 //! The end of an era, at which it is handed to who keeps it.
 
-ghost use Rattle.std.specs.Prelude.{◌≡◌, ◌∷◌, [], ◌++◌, IfSome, IfNone};
+ghost use Rattle.std.specs.Prelude.{◌≡◌, ◌∷◌, [], ◌++◌, IfSome, IfNone, is_some};
 ghost use Rattle.swim_node.specs.Node.{next_base};
 ghost use Rattle.swim_recorder.specs.Handing.{begun_at, recorded};
 
@@ -11,14 +11,18 @@ use swim_trace::Trace;
 
 /// Who keeps the eras of a member that ended.
 pub trait Keeper {
-    ghost use Rattle.std.specs.Prelude.{◌≡◌, ◌++◌, ◌∷◌, [], List};
+    ghost use Rattle.std.specs.Prelude.{◌≡◌, ◌++◌, ◌∷◌, [], Bool, List};
     ghost use Rattle.swim_node.specs.Lives.{Era};
 
     /// The eras that it was given, in order.
     ghost given: { Self → List Era };
 
+    /// Whether it keeps eras now.
+    ghost keeps: { Self → Bool };
+
     /// Whether it keeps eras. What it is given else is let go.
-    fn is_on(&self) -> bool;
+    fn is_on(&self) -> bool
+        ensures { result ≡ keeps self.now };
 
     /// Takes an era that ended, of the life that began with this number. It may not hold the member up. It may give the room of
     /// one back that it needs no longer, and the next era fills that.
@@ -29,7 +33,8 @@ pub trait Keeper {
 /// Where an era of a node that has no entry yet begins, for a keeper that keeps eras.
 pub fn begin<D: Disk, K: Keeper>(node: &Node<D>, keeper: &K) -> Option<Beginning>
     requires { node.now.entries ≡ [] }
-    ensures { IfSome result (λ beginning. beginning ≡ begun_at node.now.base) }
+    ensures at { IfSome result (λ beginning. beginning ≡ begun_at node.now.base) }
+    ensures asked { is_some result ≡ K.keeps keeper.now }
 {
     if keeper.is_on() {
         Some(node.beginning())
@@ -83,9 +88,11 @@ impl Unkept {
 }
 
 impl Keeper for Unkept {
-    ghost use Rattle.std.specs.Prelude.{◌≡◌, ◌++◌, ◌∷◌, []};
+    ghost use Rattle.std.specs.Prelude.{◌≡◌, ◌++◌, ◌∷◌, [], false};
 
     ghost given = { λ u. u.given };
+
+    ghost keeps = { λ _. false };
 
     fn is_on(&self) -> bool {
         false

@@ -1,5 +1,7 @@
 //! Whom the settings file of a running member names to join.
 
+ghost use Rattle.std.specs.Prelude.{◌≡◌, ◌≤◌, false, length};
+
 use arrayvec::ArrayVec;
 use swim_settings::{JOIN_MAX, Place};
 use swim_wire::Endpoint;
@@ -17,16 +19,10 @@ pub(crate) struct Listing {
     addresses: Addresses,
     /// Whether the joiner does not know them yet.
     is_new: bool,
-    /// Whether they were not asked for yet.
+    /// Whether a host is among them, which is to be looked up.
+    has_host: bool,
+    /// Whether they were not looked up yet.
     is_unasked: bool,
-}
-
-/// Places among which is a host.
-#[derive(Drop)]
-pub(crate) struct Asked {
-    pub(crate) places: Places,
-    /// Whether nobody asked for them before.
-    pub(crate) is_first: bool,
 }
 
 /// The address of a place without a lookup.
@@ -35,6 +31,15 @@ fn own_address(place: &Place) -> Option<Endpoint> {
         Place::Member(endpoint) => Some(*endpoint),
         Place::Host(_, _) => None,
     }
+}
+
+/// The same places.
+fn copy_of(places: &[Place]) -> Places
+    ensures { length places.now ≤ JOIN_MAX → result.items ≡ places.now }
+{
+    let mut copy = ArrayVec::new();
+    let _ = copy.try_extend_from_slice(places);
+    copy
 }
 
 /// Whether the place is to be looked up.
@@ -49,6 +54,7 @@ impl Listing {
             places: ArrayVec::new(),
             addresses: ArrayVec::new(),
             is_new: false,
+            has_host: false,
             is_unasked: true,
         };
         listing.name(places);
@@ -64,30 +70,38 @@ impl Listing {
 
     /// The file names these places from now on. What is known of them stays known.
     pub(crate) fn name(&mut self, places: &[Place]) {
-        let mut named = ArrayVec::new();
         let mut addresses = ArrayVec::new();
         for place in places {
             let _ = addresses.try_push(self.address_of(place));
-            let _ = named.try_push(*place);
         }
-        self.places = named;
+        self.places = copy_of(places);
         self.addresses = addresses;
         self.is_new = true;
+        self.has_host = places.iter().any(is_host);
         self.is_unasked = true;
     }
 
-    /// The places, where a host is among them that is to be looked up. They are asked for now.
-    pub(crate) fn take_asked(&mut self) -> Option<Asked> {
-        if !self.places.as_slice().iter().any(is_host) {
-            return None;
-        }
-        let mut places = ArrayVec::new();
-        for place in self.places.as_slice() {
-            let _ = places.try_push(*place);
-        }
-        let is_first = self.is_unasked;
+    /// Whether a host is among the places, which is to be looked up.
+    pub(crate) fn has_host(&self) -> bool
+        ensures { result ≡ self.now.has_host }
+    {
+        self.has_host
+    }
+
+    /// Whether the places were not looked up yet.
+    pub(crate) fn is_unasked(&self) -> bool
+        ensures { result ≡ self.now.is_unasked }
+    {
+        self.is_unasked
+    }
+
+    /// The places, which are looked up now.
+    pub(crate) fn ask(&mut self) -> Places
+        ensures places { result.items ≡ self.old.places.items }
+        ensures asked { self.new ≡ record self.old { is_unasked = false } }
+    {
         self.is_unasked = false;
-        Some(Asked { places, is_first })
+        copy_of(self.places.as_slice())
     }
 
     /// These addresses were found of these places; a host that was not found keeps the address that it had. Says whether an address is
@@ -107,7 +121,10 @@ impl Listing {
     }
 
     /// Whether the joiner does not know the addresses yet. It is told them now.
-    pub(crate) fn take_new(&mut self) -> bool {
+    pub(crate) fn take_new(&mut self) -> bool
+        ensures new { result ≡ self.old.is_new }
+        ensures told { self.new ≡ record self.old { is_new = false } }
+    {
         let is_new = self.is_new;
         self.is_new = false;
         is_new

@@ -1,6 +1,10 @@
 //! The settings of a running member.
 
+ghost use Rattle.std.specs.Prelude.{◌≡◌, ◌≤◌, ◌==◌, ℕ, List, None, Some, if◌then◌else◌, length, option_map};
+ghost use Rattle.std.specs.Duration.{as_nanos};
 ghost use Rattle.swim_settings.specs.Ranges.{AreInRange};
+ghost use Rattle.swim_settings.specs.Reloads.{taken_anew};
+ghost use Rattle.swim_start.specs.Starting.{lasting, peers_to_join};
 
 use crate::listing::Listing;
 use crate::reading::settings_at;
@@ -15,7 +19,7 @@ use swim_node::Room;
 use swim_recorder::{Finished, Keeper};
 use swim_scribe::Scribe;
 use swim_serve::{Host, Joins};
-use swim_settings::{Key, Level, RunSettings, restart_keys};
+use swim_settings::{JOIN_MAX, Key, Level, RunSettings, restart_keys};
 use swim_shell::{Answer, SETTINGS_REFUSED, answer_of};
 use swim_start::{paces_of, peers_of};
 use swim_state::Peers;
@@ -116,7 +120,16 @@ impl<'a, T: Threads + Wait + Log + Clock> LiveSettings<'a, T> {
     }
 
     /// Whom a member joins whose state file has these peers, and how often it does what.
-    pub(crate) fn joins_with(&self, stored: &Peers) -> Joins {
+    pub(crate) fn joins_with(&self, stored: &Peers) -> Joins
+        ensures peers { (listed : List ℕ) × (length listed ≤ JOIN_MAX) × (result.peers.items
+            ≡ peers_to_join self.now.told.settings.me listed stored.now) }
+        ensures answer { let told = self.now.told in
+            as_nanos result.paces.answer ≡ lasting told.settings.direct told.tick_ms }
+        ensures period { let told = self.now.told in
+            as_nanos result.paces.period ≡ lasting told.settings.period told.tick_ms }
+        ensures rejoin { let told = self.now.told in option_map as_nanos result.paces.rejoin
+            ≡ (if told.rejoin == 0 then None else Some (lasting told.rejoin told.tick_ms)) }
+    {
         let told = &self.told;
         let settings = &told.settings;
         let listed = self.listing.lock(self.logged).endpoints();
@@ -135,7 +148,8 @@ impl<'a, T: Threads + Wait + Log + Clock> LiveSettings<'a, T> {
     /// Takes from these settings what a running member may take, and tells what needs a restart.
     fn take(&mut self, then: RunSettings) -> Answer
         requires { AreInRange then }
-        ensures { self.new.scribe.given ≡ self.old.scribe.given }
+        ensures told { self.new.told ≡ taken_anew self.old.told then }
+        ensures given { self.new.scribe.given ≡ self.old.scribe.given }
     {
         let keys = restart_keys(&self.told, &then);
         self.told.take_anew(then);
@@ -154,7 +168,11 @@ impl<'a, T: Threads + Wait + Log + Clock> LiveSettings<'a, T> {
 }
 
 impl<'a, T: Threads + Log + Clock> Keeper for LiveSettings<'a, T> {
+    ghost use Rattle.std.specs.Prelude.{is_some};
+
     ghost given = { λ s. s.scribe.given };
+
+    ghost keeps = { λ s. is_some s.scribe.folder };
 
     fn is_on(&self) -> bool {
         self.scribe.is_on()

@@ -1,7 +1,7 @@
 //! Doors whose thread looks after host names meanwhile.
 
 use crate::inside::{Answers, Lines};
-use crate::listing::{Asked, Listing, Places};
+use crate::listing::{Listing, Places};
 use crate::lookup::{Found, Lookup};
 use arrayvec::ArrayVec;
 use log::{Log, warn};
@@ -62,17 +62,23 @@ impl<'a, O, T: Threads + Wait + Log + Clock> LookingDoors<'a, O, T> {
         }
     }
 
-    /// Starts the next lookup, if a host is named and it is time.
+    /// The places that are to be looked up, if a host is named and it is time: at once where they were not looked up yet.
+    fn next_places(&mut self) -> Option<Places> {
+        let mut listing = self.listing.lock(self.logged);
+        if !listing.has_host() {
+            return None;
+        }
+        let now = Instant::now(self.logged).ok()?;
+        if !listing.is_unasked() && !self.is_due(now) {
+            return None;
+        }
+        self.began = Some(now);
+        Some(listing.ask())
+    }
+
+    /// Starts the next lookup, if one is due.
     fn start(&mut self) {
-        let asked = self.listing.lock(self.logged).take_asked();
-        let Some(Asked { places, is_first }) = asked else {
-            return;
-        };
-        let Ok(now) = Instant::now(self.logged) else {
-            return;
-        };
-        if is_first || self.is_due(now) {
-            self.began = Some(now);
+        if let Some(places) = self.next_places() {
             self.lookup = Lookup::start(self.logged, self.rt, places);
         }
     }

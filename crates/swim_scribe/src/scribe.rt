@@ -337,9 +337,11 @@ impl<'a, T: Threads + Log + Clock> Scribe<'a, T> {
 }
 
 impl<'a, T: Threads + Log + Clock> Keeper for Scribe<'a, T> {
-    ghost use Rattle.std.specs.Prelude.{◌≡◌, ◌++◌, ◌∷◌, []};
+    ghost use Rattle.std.specs.Prelude.{◌≡◌, ◌++◌, ◌∷◌, [], is_some};
 
     ghost given = { λ r. r.given };
+
+    ghost keeps = { λ r. is_some r.folder };
 
     fn is_on(&self) -> bool {
         self.folder.is_some()

@@ -1,6 +1,6 @@
 -- Peers that are kept where an era ends.
 use Rattle.std.proofs.Common.{◌≡◌, ◌⊎◌, ◌+◌, ◌<◌, ◌∙◌, [], ap, inl, inr, sym, true, false, refl}
-use Rattle.std.specs.Prelude.{Result, Ok, Err, OnOk, OnErr}
+use Rattle.std.specs.Prelude.{Option, Some, None, IfSome, IfNone, is_some, Result, Ok, Err, OnOk, OnErr}
 use Rattle.swim_wire.specs.declared.update.TheConstants.{NUMBER_MAX}
 use Rattle.swim_disk.specs.Disk.{DiskState}
 use Rattle.swim_state.specs.declared.fault.SaveFault.{SaveFault}
@@ -50,3 +50,12 @@ begins state a b Exhausted f = inr (inr f)
 pub begins_kept : {D : Type 0} (keeps : Type 0) (state : D → DiskState) (a b : NodeView D) → KeepsPeers keeps state a b → BeginsKept b
 begins_kept keeps state a b (inl saved) = inl saved.known
 begins_kept keeps state a b (inr (why, could_not)) = begins state a b why could_not.failed
+
+-- what holds where there is a value, and where there is none
+pub some_gives : {A : Type 0} (o : Option A) (P : Type 0) → IfSome o (λ _. P) → is_some o ≡ true → P
+some_gives (Some x) P all is = all
+some_gives None P all is = cc
+
+pub none_gives : {A : Type 0} (o : Option A) (P : Type 0) → IfNone o P → is_some o ≡ false → P
+none_gives (Some x) P all is = cc
+none_gives None P all is = all

@@ -1,13 +1,13 @@
 //! What becomes of an answered call beside its reply: its notes are logged, and it is counted.
 
-ghost use Rattle.std.specs.Prelude.{◌≡◌};
-ghost use Rattle.swim_shell.specs.Counts.{counts_after};
+ghost use Rattle.std.specs.Prelude.{◌≡◌, replicate};
+ghost use Rattle.swim_shell.specs.Counts.{call_counts, counts_after};
 
 use crate::note_log::NoteLog;
 use log::Log;
 use std::time::Clock;
 use swim_node::Reply;
-use swim_shell::{Counts, EventKind};
+use swim_shell::{CALL_COUNTS, Counts, EventKind, NOTE_KINDS};
 use swim_wire::Endpoint;
 
 /// What a worker has logged and counted of its calls, from one era to the next.
@@ -19,7 +19,11 @@ pub struct CallLog {
 
 impl CallLog {
     /// Nothing was logged or counted yet of a member whose own number is this one.
-    pub fn new(number: u64) -> CallLog {
+    pub fn new(number: u64) -> CallLog
+        ensures number { result.counts.number ≡ number }
+        ensures none { call_counts result.counts ≡ replicate CALL_COUNTS 0 }
+        ensures notes { result.counts.notes ≡ replicate NOTE_KINDS 0 }
+    {
         CallLog {
             notes: NoteLog::new(),
             counts: Counts::new(number),

@@ -341,6 +341,7 @@ fn together<
         × (back.passes.control ≡ ends.entry.control.caller.handle.pass)
         × (back.ends.control ≡ ends.entry.control.end) × IsPass N.base back.passes.control) }
     ensures room { IfOk result (λ back. back.room ≡ room) }
+    ensures eras { IfOk result (λ back. back.outside.logs.eras ≡ eras) }
 {
     let receiver = ends.receiver.ok_or(Refusal::Memory)?;
     let ticker = ends.ticker.ok_or(Refusal::Memory)?;
@@ -420,6 +421,7 @@ fn work<
         (desk_of back.outside.desk.joiner back.outside.desk.conversation
         back.outside.desk.others) back.passes.control back.ends.control) }
     ensures room { IfOk result (λ back. back.room.items ≡ []) }
+    ensures eras { IfOk result (λ back. back.outside.logs.eras ≡ outside.logs.eras) }
 {
     let Outside {
         receiver,
@@ -542,6 +544,7 @@ pub fn run_era<
         (new_caller 3)
         (desk_of end.outside.desk.joiner end.outside.desk.conversation
         end.outside.desk.others) end.ends.control end.odd end.node.entries) }
+    ensures eras { IfOk result (λ end. end.outside.logs.eras ≡ outside.logs.eras) }
 {
     let (shared, held) = share::<N, D, R>(rt, alloc, parts)?;
     let pace = Pace::new();

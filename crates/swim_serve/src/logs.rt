@@ -33,8 +33,8 @@ impl EraCounts {
         }
     }
 
-    /// Adds an era that ended, with what became of the peers.
-    fn add_peers(&mut self, peers: PeersSave)
+    /// Adds an era that ended, at whose end this became of the peers.
+    fn end_with(&mut self, peers: PeersSave)
         ensures { self.new ≡ with_peers peers self.old }
     {
         self.ended = self.ended.saturating_add(1);
@@ -49,7 +49,7 @@ impl EraCounts {
     fn add(&mut self, saves: EraSaves)
         ensures { self.new ≡ with_era saves self.old }
     {
-        self.add_peers(saves.peers);
+        self.end_with(saves.peers);
         self.numbers = self.numbers.saturating_add(saves.numbers);
     }
 

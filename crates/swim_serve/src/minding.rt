@@ -70,11 +70,23 @@ impl<'a, C: Caller + Drop, W: Log> Minding<'a, C, W> {
 }
 
 impl<'a, C: Caller + Drop, W: Log> Caller for Minding<'a, C, W> {
+    ghost use Rattle.std.specs.Prelude.{◌≡◌, IfErr, IfOk, IfSome};
+    ghost use Rattle.swim_shell.specs.Calls.{NewCall, Refuses};
+    ghost use Rattle.swim_serve.specs.Numbers.{said_in};
+
     ghost known = { λ m. C.known m.caller };
 
     ghost limit = { C.limit };
 
-    fn call(&mut self, event: Event) -> Result<Reply, Refusal> {
+    fn call(&mut self, event: Event) -> Result<Reply, Refusal>
+        ensures ok { IfOk result (λ reply. NewCall (C.known self.old.caller)
+            (C.known self.new.caller) event reply) }
+        ensures err { IfErr result (λ why. Refuses C.limit why (C.known self.old.caller)
+            (C.known self.new.caller) event) }
+        // beside what every caller does: what a datagram says of the member is minded
+        ensures minded { IfOk result (λ reply. IfSome (said_in self.old.numbers.me event)
+            (λ _. self.new.numbers.number ≡ reply.status.number)) }
+    {
         let said = said_in(&self.numbers, &event);
         match self.caller.call(event) {
             Ok(reply) => {

@@ -102,7 +102,8 @@ fn write_failure<W: Log>(rt: &W, number: u64) {
 impl NumberLog {
     /// Nothing was logged yet of this member, whose number is this one.
     pub fn new(me: Endpoint, number: u64) -> NumberLog
-        ensures { (result.me ≡ me) × (result.number ≡ number) }
+        ensures of { (result.me ≡ me) × (result.number ≡ number) }
+        ensures nothing { (result.told ≡ 0) × (result.lives ≡ 0) × (result.failed_at ≡ None) }
     {
         NumberLog {
             me,

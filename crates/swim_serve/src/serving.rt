@@ -1,6 +1,8 @@
 //! A member from one era to the next.
 
-ghost use Rattle.std.specs.Prelude.{◌≡◌, ◌∷◌, [], ◌++◌, IfNone, IfOk, IfSome};
+ghost use Rattle.std.specs.Prelude.{◌≡◌, ◌∷◌, [], ◌++◌, List, false, IfNone, IfOk, IfSome, IsTrue};
+ghost use Rattle.swim_node.specs.declared.entry.Entry.{Entry};
+ghost use Rattle.swim_node.specs.History.{IsLegal};
 ghost use Rattle.swim_node.specs.Lives.{IsRaised};
 ghost use Rattle.swim_node.specs.Node.{next_base};
 ghost use Rattle.swim_recorder.specs.Handing.{begun_at, recorded};
@@ -106,10 +108,35 @@ fn fault_of(ends: &EraEnds) -> Option<Fault>
     by_desk(ends.control)
 }
 
-/// Ends an era of a node, and keeps the peers that the member knows then, if they are others than those that stand in the
-/// state file. A fault there is logged only: the member goes on, and its next save keeps the peers that it knows by then. The
-/// era is handed to its keeper, if that asked for its beginning. It tells what was saved, and what became of the peers.
+/// Keeps the peers that the member knows, if they are others than those that stand in the state file, and tells what became of
+/// them. A fault is logged only: the member goes on, and its next save keeps the peers that it knows by then.
 #[tactic(auto, using(crate::proofs::Keeping::keeps_peers, crate::proofs::Keeping::begins_kept))]
+fn keep_peers<D: Disk, T: Log>(rt: &T, node: &mut Node<D>) -> PeersSave
+    requires { node.old.entries ≡ [] }
+    ensures entries { node.new.entries ≡ [] }
+    ensures base { IsRaised node.old.base node.new.base }
+    ensures owner { node.new.owner ≡ node.old.owner }
+    ensures first { node.new.first ≡ node.old.first }
+    ensures kept { (HasKnown node.old → ⊥)
+        → KeepsPeers D.keeps_model D.state node.old node.new }
+    ensures spared { HasKnown node.old → node.new ≡ node.old }
+    ensures begins { BeginsKept node.new }
+    ensures told { BecameOf D.keeps_model D.state node.old node.new result }
+{
+    if !node.has_other_peers() {
+        return PeersSave::Spared;
+    }
+    match node.keep_peers() {
+        Ok(()) => PeersSave::Done,
+        Err(fault) => {
+            warn!(rt; "keep refused {fault}");
+            PeersSave::Failed
+        }
+    }
+}
+
+/// Ends an era of a node, and keeps the peers that the member knows then. The era is handed to its keeper, if that asked for its
+/// beginning. It tells what was saved, and what became of the peers.
 fn end_era<D: Disk, T: Log, K: Keeper>(
     rt: &T,
     node: &mut Node<D>,
@@ -133,17 +160,7 @@ fn end_era<D: Disk, T: Log, K: Keeper>(
 {
     let numbers = number_saves(node.journal()) as u64;
     hand_over(node, beginning, keeper);
-    let peers = if node.has_other_peers() {
-        match node.keep_peers() {
-            Ok(()) => PeersSave::Done,
-            Err(fault) => {
-                warn!(rt; "keep refused {fault}");
-                PeersSave::Failed
-            }
-        }
-    } else {
-        PeersSave::Spared
-    };
+    let peers = keep_peers(rt, node);
     EraSaves { numbers, peers }
 }
 
@@ -177,6 +194,10 @@ fn one_era<
     ensures owner { IfOk result (λ end. end.node.owner ≡ node.owner) }
     ensures first { IfOk result (λ end. end.node.first ≡ node.first) }
     ensures kept { IfOk result (λ end. BeginsKept end.node) }
+    ensures given { IfOk result (λ end. IsTrue (K.keeps keeper.old) → (journal : List Entry)
+        × IsLegal node.base journal
+        × (K.given keeper.new ≡ K.given keeper.old ++ recorded node.base journal ∷ [])) }
+    ensures let_go { IfOk result (λ end. K.keeps keeper.old ≡ false → keeper.new ≡ keeper.old) }
     ensures era { IfOk result (λ end. Era I.tells M.tells M.took M.failures O.Reader.remaining
         O.Writer.contents
         (member_of node.base (receiver_of I.came I.failures outside.receiver)
