@@ -1,7 +1,8 @@
 //! What a state file says, and what an opening of it would do.
 
-ghost use Rattle.std.specs.Prelude.{◌≡◌, ◌≤◌, ◌+◌, length, IfOk, IfSome};
+ghost use Rattle.std.specs.Prelude.{◌≡◌, ◌≤◌, ◌+◌, length, IfErr, IfOk, IfSome};
 ghost use Rattle.swim_disk.specs.declared.mem.TheConstants.{MOST_BYTES};
+ghost use Rattle.swim_show.specs.declared.fault.ShowFault.TheVariants as faults;
 ghost use Rattle.swim_show.specs.Showing.{endpoint_by, named_by, opener_of, opening_of};
 ghost use Rattle.swim_wire.specs.Numbers.{number_at};
 ghost use Rattle.swim_disk.specs.MemDisk.{state_of};
@@ -146,6 +147,7 @@ pub fn show(alloc: Global, image: Vec<u8>) -> Result<Shown, ShowFault>
         (λ s. AreOf (layout_of (version_in image.items)) image.items s.slots) }
     ensures opening { IfOk result
         (λ s. s.opening ≡ opening_of (opener_of (named_by image.items)) image.items) }
+    ensures refused { IfErr result (λ fault. fault ≡ faults.Memory) }
 {
     // Two names, since the check follows a struct by value through one call only.
     let owner = owner_in(&image);
