@@ -1,6 +1,6 @@
 //! The settings of a running member.
 
-ghost use Rattle.std.specs.Prelude.{◌≡◌, ◌≤◌, ◌==◌, ℕ, List, None, Some, if◌then◌else◌, length, option_map};
+ghost use Rattle.std.specs.Prelude.{◌≡◌, ◌≤◌, ◌==◌, ℕ, List, None, Some, cond, length, option_map};
 ghost use Rattle.std.specs.Duration.{as_nanos};
 ghost use Rattle.swim_settings.specs.Ranges.{AreInRange};
 ghost use Rattle.swim_settings.specs.Reloads.{taken_anew};
@@ -128,7 +128,7 @@ impl<'a, T: Threads + Wait + Log + Clock> LiveSettings<'a, T> {
         ensures period { let told = self.now.told in
             as_nanos result.paces.period ≡ lasting told.settings.period told.tick_ms }
         ensures rejoin { let told = self.now.told in option_map as_nanos result.paces.rejoin
-            ≡ (if told.rejoin == 0 then None else Some (lasting told.rejoin told.tick_ms)) }
+            ≡ cond (told.rejoin == 0) None (Some (lasting told.rejoin told.tick_ms)) }
     {
         let told = &self.told;
         let settings = &told.settings;
