@@ -1,10 +1,14 @@
-/* Refuses memory to the program that it is loaded before (LD_PRELOAD). tests/refuse builds it.
+/* Refuses memory or a thread to the program that it is loaded before (LD_PRELOAD). tests/refuse builds it.
 
-   REFUSE_AT=N     refuses the N-th allocation, and that one alone
-   REFUSE_FROM=N   refuses the N-th allocation and each one after it
-   REFUSE_TOLD=FD  writes one byte to this descriptor at the first refusal */
+   REFUSE_AT=N      refuses the N-th allocation, and that one alone
+   REFUSE_FROM=N    refuses the N-th allocation and each one after it
+   REFUSE_THREAD=N  refuses the N-th thread, and that one alone
+   REFUSE_TOLD=FD   writes one byte to this descriptor at the first refusal */
 
+#define _GNU_SOURCE
+#include <dlfcn.h>
 #include <errno.h>
+#include <pthread.h>
 #include <stdatomic.h>
 #include <stddef.h>
 #include <stdlib.h>
@@ -15,13 +19,19 @@ extern void *__libc_calloc(size_t, size_t);
 extern void *__libc_realloc(void *, size_t);
 extern void *__libc_memalign(size_t, size_t);
 
-static _Atomic long made;
+static _Atomic long made, begun;
 static _Atomic int told;
 
 static long number_in(const char *name)
 {
     const char *text = getenv(name);
     return text ? atol(text) : 0;
+}
+
+static void tell(long descriptor)
+{
+    if (descriptor && !atomic_exchange(&told, 1) && write((int)descriptor, "r", 1) < 0)
+        abort();
 }
 
 static int is_refused(void)
@@ -37,8 +47,7 @@ static int is_refused(void)
     long number = ++made;
     if (number != at && (!from || number < from))
         return 0;
-    if (descriptor && !atomic_exchange(&told, 1) && write((int)descriptor, "r", 1) < 0)
-        abort();
+    tell(descriptor);
     errno = ENOMEM;
     return 1;
 }
@@ -70,4 +79,15 @@ int posix_memalign(void **place, size_t alignment, size_t size)
         return ENOMEM;
     *place = made_here;
     return 0;
+}
+
+typedef int begin(pthread_t *, const pthread_attr_t *, void *(*)(void *), void *);
+
+int pthread_create(pthread_t *thread, const pthread_attr_t *shape, void *(*run)(void *), void *with)
+{
+    if (++begun == number_in("REFUSE_THREAD")) {
+        tell(number_in("REFUSE_TOLD"));
+        return EAGAIN;
+    }
+    return ((begin *)dlsym(RTLD_NEXT, "pthread_create"))(thread, shape, run, with);
 }
