@@ -62,7 +62,7 @@ fn members_send_the_same_by(rules: Rules) {
         port: PORT,
     };
     let mut numbers = Numbers(1);
-    let mut plain = plain::Member::new(settings, 1);
+    let mut plain: plain::Member = plain::Member::new(settings, 1);
     let mut tight = Member::new(settings, wire::member(ME, PORT), 1);
     for _ in 0..20_000 {
         let (mut from_plain, mut from_tight) = (Vec::new(), Kept::default());
