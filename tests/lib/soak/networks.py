@@ -42,11 +42,12 @@ class Weather:
         self.draw, self.loss, self.tick = draw, loss, tick
         self.is_clear = False
         self.side = set()  # the places that are cut off from all the others
+        self.deaf, self.mute = set(), set()  # those that hear nobody, and those that nobody hears
         self.counts = dict.fromkeys(("lost", "cut", "repeated", "late"), 0)
 
     def waits(self, source, to):
         """After how many seconds each copy of a datagram arrives."""
-        if (source in self.side) != (to in self.side):
+        if (source in self.side) != (to in self.side) or source in self.mute or to in self.deaf:
             self.counts["cut"] += 1
             return []
         if self.happens("lost", self.loss / 100):
