@@ -5,6 +5,13 @@ import subprocess
 from typing import NamedTuple
 
 
+# What the page of a command says of the script of the package that has the same name as the page.
+SCRIPTS = {
+    "run": "The script swim-run CONFIG runs this command for a service or a container: at SIGTERM it stops the member in order. "
+    "OPERATIONS.md, \"Signals, and a container\", tells of it."
+}
+
+
 class Help(NamedTuple):
     """What a help text says: its first line, its usage, and its lists of pairs by their headings."""
 
@@ -60,6 +67,8 @@ def page_of(program, date, command):
     lines += [rf"{name}\-{command} \- {spelled(help.about)}", ".SH SYNOPSIS", f".B {spelled(help.usage)}"]
     for heading, pairs in help.lists.items():
         lines += [f".SH {heading.upper()}", *tagged(pairs)]
+    if command in SCRIPTS:
+        lines += [".SH NOTES", spelled(SCRIPTS[command])]
     lines += [".SH SEE ALSO", f".BR {name} (1)"]
     return "\n".join(lines) + "\n"
 
