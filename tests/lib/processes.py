@@ -92,14 +92,32 @@ HINTS = (
         "an address is an IPv4 endpoint without leading zeros, such as 127.0.0.1:7001; where a member is asked it may be a host name"
         " with a port too, such as db1.example:7001",
     ),
-    (r"host refused", "the system knows no IPv4 address of this host: `getent ahostsv4 NAME` asks it the same"),
+    (
+        r"host refused",
+        "the system knows no IPv4 address of this host, or did not say within 5 seconds: `getent ahostsv4 NAME` asks it the same",
+    ),
+    (
+        r"not ended",
+        "the member said that it stops, and a minute later its control socket was still open: it records eras, waits for its disk, or"
+        " is not what answers there. Look at its log; `swim ctl ADDR stop --now` waits for nothing",
+    ),
+)
+
+# And those after `file refused` where the system says more.
+OUTPUT = "standard output was not taken whole: look whether its disk is full (`df`), and whether it was closed (`>&-`)"
+READ_ONLY = (
+    "its file system takes no writes (EROFS): it was mounted so, or the system made it so after its disk had failed. Look at"
+    " `findmnt -T FILE` and `dmesg`; leave the file where it is, and start again once its file system can be written"
+)
+DEVICE = (
+    "its disk fails (EIO): look at `dmesg`. Leave a state file where it is, and put no copy in its place: see \"The disk\" in OPERATIONS.md"
 )
 
 
-def refused(text):
-    """What the program says on standard error when it ends with this text."""
-    hints = [f"swim: {hint}\n" for wanted, hint in HINTS if re.fullmatch(wanted, text)]
-    return f"swim: {text}\n{''.join(hints)}"
+def refused(text, hint=None):
+    """What the program says on standard error when it ends with this text, and with this hint where it is not the usual one."""
+    hints = [hint] if hint else [usual for wanted, usual in HINTS if re.fullmatch(wanted, text)]
+    return "".join(f"swim: {said}\n" for said in (text, *hints))
 
 
 def why_no_namespace(*kinds):

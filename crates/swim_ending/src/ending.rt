@@ -1,7 +1,11 @@
 //! Why the program ends before it is done, with the text on standard error and the exit status.
 
+ghost use Rattle.std.specs.Prelude.{◌≡◌};
+ghost use Rattle.swim_ending.specs.Ending.{refused_by};
+
 use std::io::{self, ErrorKind};
 use std::process::ExitCode;
+use swim_input::InputFault;
 use swim_node::OpenFault;
 use swim_script::ScriptFault;
 use swim_settings::Refusal;
@@ -18,6 +22,12 @@ const REFUSED: u8 = 2;
 /// The exit status of a member that ended because it was expelled.
 const EXPELLED: u8 = 3;
 
+/// The exit status where nobody reads standard output any more, as a shell has it of a program that SIGPIPE ends.
+const UNREAD: u8 = 141;
+
+/// The system's number of a disk that fails, EIO.
+const INPUT_OUTPUT: i32 = 5;
+
 /// Why the program ends. Each prints its one line, after `swim: `, and some have a hint for a second one.
 #[derive(Debug, Drop, Error)]
 pub enum Ending {
@@ -27,9 +37,27 @@ pub enum Ending {
     /// The state file was not opened as this member's.
     #[error("open refused {0}")]
     Open(OpenFault),
-    /// The settings or the state file cannot be opened, read, made or locked, or standard input or output failed.
+    /// The settings or the state file cannot be opened, read, made or locked, or standard input failed.
     #[error("file refused")]
     File,
+    /// The same, since its file system takes no writes.
+    #[error("file refused")]
+    ReadOnly,
+    /// The same, since its disk fails.
+    #[error("file refused")]
+    Device,
+    /// What is to be read is a pipe, a device or a socket.
+    #[error("file refused: it is a pipe, a device or a socket, and no file")]
+    NotFile,
+    /// What is read has more bytes than this.
+    #[error("file refused: it has more than {0} bytes")]
+    TooLong(u64),
+    /// Standard output was not taken whole.
+    #[error("file refused")]
+    Output,
+    /// Nobody reads standard output any more.
+    #[error("output unread")]
+    Unread,
     /// A socket was not bound or connected, or a connection ended before the whole answer.
     #[error("socket refused")]
     Socket,
@@ -39,6 +67,9 @@ pub enum Ending {
     /// A member did not answer with its rows.
     #[error("answer refused")]
     Answer,
+    /// A member that was told to stop has not ended in time.
+    #[error("not ended")]
+    NotEnded,
     /// A worker ended by itself.
     #[error("worker ended {0}")]
     Worker(WorkerEnd),
@@ -75,9 +106,25 @@ const SETTINGS: &str =
 const FILE: &str =
     "look whether the file is there, whether this user may use it, and whether another `swim run` has it; if a state file is lost, see \"A lost state file\" in OPERATIONS.md before any `swim init`";
 
+/// What else to say where a file system takes no writes.
+const READ_ONLY: &str =
+    "its file system takes no writes (EROFS): it was mounted so, or the system made it so after its disk had failed. Look at `findmnt -T FILE` and `dmesg`; leave the file where it is, and start again once its file system can be written";
+
+/// What else to say where a disk fails.
+const DEVICE: &str =
+    "its disk fails (EIO): look at `dmesg`. Leave a state file where it is, and put no copy in its place: see \"The disk\" in OPERATIONS.md";
+
+/// What else to say where standard output was not taken.
+const OUTPUT: &str =
+    "standard output was not taken whole: look whether its disk is full (`df`), and whether it was closed (`>&-`)";
+
 /// What else to say where a socket was refused.
 const SOCKET: &str =
     "to run, the addresses have to be this machine's and free (`ss -lntup`); to ask, a member has to run with this address as its `control`";
+
+/// What else to say where a member did not end.
+const NOT_ENDED: &str =
+    "the member said that it stops, and a minute later its control socket was still open: it records eras, waits for its disk, or is not what answers there. Look at its log; `swim ctl ADDR stop --now` waits for nothing";
 
 /// What else to say where an address was refused.
 const ADDRESS: &str =
@@ -85,12 +132,34 @@ const ADDRESS: &str =
 
 /// What else to say where a host was refused.
 const HOST: &str =
-    "the system knows no IPv4 address of this host: `getent ahostsv4 NAME` asks it the same";
+    "the system knows no IPv4 address of this host, or did not say within 5 seconds: `getent ahostsv4 NAME` asks it the same";
+
+/// The ending where a file is refused with an error of this number, which may be the disk's.
+fn refused_by(code: Option<i32>) -> Ending
+    ensures { result ≡ refused_by code }
+{
+    match code {
+        Some(INPUT_OUTPUT) => Ending::Device,
+        _ => Ending::File,
+    }
+}
+
+impl From<InputFault> for Ending {
+    fn from(fault: InputFault) -> Ending {
+        match fault {
+            InputFault::Memory => Ending::Memory,
+            InputFault::NotFile => Ending::NotFile,
+            InputFault::TooLong(most) => Ending::TooLong(most),
+            InputFault::System(error) => Ending::of(&error, Ending::File),
+        }
+    }
+}
 
 impl Ending {
-    ghost use Rattle.std.specs.Prelude.{◌≡◌};
+    ghost use Rattle.std.specs.Prelude.{◌≡◌, ◌↔◌, IsTrue};
+    ghost use Rattle.std.specs.IoError.{error_kind, raw_os_error};
     ghost use Rattle.std.specs.Process.{exit_status};
-    ghost use Rattle.swim_ending.specs.Ending.{ending_status};
+    ghost use Rattle.swim_ending.specs.Ending.{ending_by, ending_of_output, ending_status};
 
     /// What else there is to say, on a line of its own.
     pub fn hint(&self) -> Option<&'static str> {
@@ -102,29 +171,56 @@ impl Ending {
             Ending::Open(OpenFault::Refused(RecoverFault::WrongOwner)) => Some(OTHER_OWNER),
             Ending::Settings(_) => Some(SETTINGS),
             Ending::File => Some(FILE),
+            Ending::ReadOnly => Some(READ_ONLY),
+            Ending::Device => Some(DEVICE),
+            Ending::Output => Some(OUTPUT),
             Ending::Socket => Some(SOCKET),
             Ending::Host => Some(HOST),
+            Ending::NotEnded => Some(NOT_ENDED),
             Ending::Address => Some(ADDRESS),
             _ => None,
         }
     }
 
-    /// The ending by an error of the system: the lack of memory, or else the other one.
-    pub fn of(error: &io::Error, otherwise: Ending) -> Ending {
-        if error.kind() == ErrorKind::OutOfMemory {
-            Ending::Memory
-        } else {
-            otherwise
+    /// The ending by an error of the system: the lack of memory, what is wrong with the file system or the disk of a file, or else the
+    /// other one.
+    pub fn of(error: &io::Error, otherwise: Ending) -> Ending
+        ensures { result ≡ ending_by (error_kind error.now) (raw_os_error error.now) otherwise }
+    {
+        match (error.kind(), otherwise) {
+            (ErrorKind::OutOfMemory, _) => Ending::Memory,
+            (ErrorKind::ReadOnlyFilesystem, Ending::File) => Ending::ReadOnly,
+            (_, Ending::File) => refused_by(error.raw_os_error()),
+            (_, otherwise) => otherwise,
         }
     }
 
-    /// The exit status: 2 where what was written is at fault, 3 where the member was expelled and was to end then, and 1 else.
+    /// The ending by an error of standard output.
+    pub fn of_output(error: &io::Error) -> Ending
+        ensures { result ≡ ending_of_output (error_kind error.now) }
+    {
+        match error.kind() {
+            ErrorKind::BrokenPipe => Ending::Unread,
+            _ => Ending::Output,
+        }
+    }
+
+    /// Whether nothing is said of it: it is no fault that a reader has read enough.
+    pub fn is_silent(&self) -> bool
+        ensures { IsTrue result ↔ (self.now ≡ Ending.Unread) }
+    {
+        matches!(self, Ending::Unread)
+    }
+
+    /// The exit status: 2 where what was written is at fault, 3 where the member was expelled and was to end then, 141 where nobody
+    /// reads standard output any more, and 1 else.
     pub fn status(&self) -> ExitCode
         ensures { exit_status result ≡ ending_status self.now }
     {
         match self {
             Ending::Address | Ending::Settings(_) | Ending::Script(_) => ExitCode::from(REFUSED),
             Ending::Expelled => ExitCode::from(EXPELLED),
+            Ending::Unread => ExitCode::from(UNREAD),
             _ => ExitCode::from(FAILED),
         }
     }
