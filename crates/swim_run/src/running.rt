@@ -117,7 +117,8 @@ pub fn run<T: Threads + Wait + Log + Clock + Send + Sync + Copy + Drop>(
     let drawn = key_of(rt, told.random_key);
     let key = drawn.map_err(|error: io::Error| Ending::of(&error, Ending::File))?;
     let (waits, connections) = waits(rt, rt.alloc())?;
-    let sockets = Sockets::bind(rt, logged, &waits, connections, &told)?;
+    // The control socket stays open until all else is closed: who finds it closed may start the next life at once.
+    let (sockets, _control) = Sockets::bind(rt, logged, &waits, connections, &told)?;
     let listing = Mutex::new(Listing::new(told.join.as_slice()));
     live(
         rt, logged, level, config, told, &listing, key, held, sockets,

@@ -46,18 +46,20 @@ pub(crate) fn waits<R: Net>(rt: &R, alloc: Global) -> Result<(Waits, SocketAlarm
     Waits::new(rt, alloc).map_err(unbound)
 }
 
-/// Binds the control socket, whose thread has these waits.
+/// Binds the control socket, whose thread has these waits, and gives it twice.
 fn bind_doors<'a, R: Net<Listener = TcpListener, Stream = TcpStream>, C: Clock>(
     rt: &R,
     clock: &'a C,
     waits: &'a Waits,
     control: Endpoint,
     wait: Duration,
-) -> Result<TcpDoors<'a, C>, Ending> {
+) -> Result<(TcpDoors<'a, C>, TcpListener), Ending> {
     let bound = TcpListener::bind(rt, address_of(control));
     let listener = bound.map_err(unbound)?;
+    let again = listener.try_clone().map_err(unbound)?;
     let wait = wait.min(Duration::from_millis(DOORS_WAIT_MAX_MILLIS));
-    TcpDoors::new(listener, waits, clock, wait).map_err(unbound)
+    let doors = TcpDoors::new(listener, waits, clock, wait).map_err(unbound)?;
+    Ok((doors, again))
 }
 
 /// The sockets of a member: what receives datagrams, what sends them, the control socket, and what ends the waits of the first
@@ -71,24 +73,26 @@ pub(crate) struct Sockets<'a, C: Clock> {
 }
 
 impl<'a, C: Clock> Sockets<'a, C> {
-    /// Binds them as the settings say. The control socket's thread has these waits, which that alarm ends.
+    /// Binds them as the settings say. The control socket's thread has these waits, which that alarm ends. The control socket is open
+    /// as long as what is given beside them.
     pub(crate) fn bind<R: Net<Listener = TcpListener, Stream = TcpStream> + AllocGlobal>(
         rt: &R,
         clock: &'a C,
         waits: &'a Waits,
         connections: SocketAlarm,
         told: &RunSettings,
-    ) -> Result<Sockets<'a, C>, Ending> {
+    ) -> Result<(Sockets<'a, C>, TcpListener), Ending> {
         let wait = wait_of(told.tick_ms);
         let at = own_address(told.settings.me)?;
         let bound = bind_datagrams(rt, clock, rt.alloc(), at, wait);
         let (inbound, link, datagrams) = bound.map_err(unbound)?;
-        let doors = bind_doors(rt, clock, waits, told.control, wait)?;
-        Ok(Sockets {
+        let (doors, control) = bind_doors(rt, clock, waits, told.control, wait)?;
+        let sockets = Sockets {
             inbound,
             link,
             doors,
             alarms: [datagrams, connections],
-        })
+        };
+        Ok((sockets, control))
     }
 }
