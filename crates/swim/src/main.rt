@@ -7,6 +7,7 @@
 use clap::Error;
 use clap::error::ErrorKind;
 use log::{LevelFilter, Log, Logged};
+use std::fmt::Display;
 use std::io::{self, IsTerminal, Read, Write};
 use std::process::ExitCode;
 use std::sync::Wait;
@@ -46,7 +47,14 @@ fn read_input(rt: &HostRuntime, lacks: Ending) -> Result<Vec<u8>, Ending> {
 
 /// Prints bytes.
 fn print_bytes(rt: &HostRuntime, bytes: &[u8]) -> Result<(), Ending> {
-    io::writer(rt).write_all(bytes).map_err(|_| Ending::File)
+    io::writer(rt)
+        .write_all(bytes)
+        .map_err(|error| Ending::of_output(&error))
+}
+
+/// Prints a line.
+fn print_line<D: Display + Drop>(rt: &HostRuntime, line: D) -> Result<(), Ending> {
+    println!(rt; "{line}").map_err(|error| Ending::of_output(&error))
 }
 
 /// Plays a recording, and prints what happened. A refused one is named on standard error.
@@ -85,11 +93,11 @@ fn check_input(rt: &HostRuntime) -> Result<ExitCode, Ending> {
     let capture = read_input(rt, Ending::Memory)?;
     match check(rt.alloc(), &capture) {
         Ok(count) => {
-            println!(rt; "{count} datagrams keep the law").map_err(|_| Ending::File)?;
+            print_line(rt, format_args!("{count} datagrams keep the law"))?;
             Ok(ExitCode::SUCCESS)
         }
         Err(stop @ Stop::Broken(..)) => {
-            println!(rt; "{stop}").map_err(|_| Ending::File)?;
+            print_line(rt, stop)?;
             Ok(ExitCode::FAILURE)
         }
         Err(Stop::NoMemory) => Err(Ending::Memory),
@@ -103,12 +111,10 @@ fn check_input(rt: &HostRuntime) -> Result<ExitCode, Ending> {
 /// Prints the answer of a member, a status or counters as a JSON object.
 fn print_json(rt: &HostRuntime, answer: &[u8]) -> Result<(), Ending> {
     if let Some(status) = read_status(answer) {
-        let shown = StatusJson(status);
-        return println!(rt; "{shown}").map_err(|_| Ending::File);
+        return print_line(rt, StatusJson(status));
     }
     if let Some(counters) = read_counters(answer) {
-        let shown = CountersJson(counters);
-        return println!(rt; "{shown}").map_err(|_| Ending::File);
+        return print_line(rt, CountersJson(counters));
     }
     print_bytes(rt, answer)
 }
@@ -157,7 +163,7 @@ fn explain_files(
         match explain_file(rt, file, who, as_json) {
             Ok(story) => {
                 if !as_json {
-                    println!(rt; "{file}").map_err(|_| Ending::File)?;
+                    print_line(rt, file)?;
                 }
                 print_bytes(rt, story.as_bytes())?;
             }
@@ -278,9 +284,12 @@ fn answer<T: Threads + Wait + Log + Clock + Send + Sync + Copy + Drop>(
     }
 }
 
-/// Prints why the program ends, with a hint where there is one, and gives the status. It is the same where standard error
-/// cannot be written.
+/// Prints why the program ends, if that is said, with a hint where there is one, and gives the status. It is the same where standard
+/// error cannot be written.
 fn end(rt: &HostRuntime, ending: &Ending) -> ExitCode {
+    if ending.is_silent() {
+        return ending.status();
+    }
     let _ = eprintln!(rt; "swim: {ending}");
     if let Some(hint) = ending.hint() {
         let _ = eprintln!(rt; "swim: {hint}");
@@ -293,13 +302,13 @@ fn explain(rt: &HostRuntime, error: &Error) -> ExitCode {
     if error.kind() == ErrorKind::OutOfMemory {
         return end(rt, &Ending::Memory);
     }
-    let is_printed = error.print(rt).is_ok();
+    let printed = error.print(rt);
     if error.use_stderr() {
-        ExitCode::from(REFUSED)
-    } else if is_printed {
-        ExitCode::SUCCESS
-    } else {
-        end(rt, &Ending::File)
+        return ExitCode::from(REFUSED);
+    }
+    match printed {
+        Ok(()) => ExitCode::SUCCESS,
+        Err(error) => end(rt, &Ending::of_output(&error)),
     }
 }
 

@@ -5,6 +5,7 @@ mod asking;
 mod counters;
 mod gap;
 mod looking;
+mod output;
 mod paging;
 mod paint;
 mod place;

@@ -1,6 +1,7 @@
 //! `swim members` and `swim watch`.
 
 use crate::gap::{Gap, GapJson};
+use crate::output::Output;
 use crate::paging::read_rows;
 use crate::paint::{Paint, PaintedChange, PaintedKind};
 use crate::place::{find, judge};
@@ -26,7 +27,7 @@ const ENDPOINT_WIDTH: usize = 21;
 
 /// Prints a line at once.
 fn print_line<P: Print, D: Display>(rt: &P, line: &D) -> Result<(), Ending> {
-    println!(rt; "{line}").map_err(|_| Ending::File)
+    println!(rt; "{line}").map_err(|error| Ending::of_output(&error))
 }
 
 /// Prints a row of the table.
@@ -36,7 +37,7 @@ fn print_row<P: Print>(rt: &P, row: &Update, paint: Paint) -> Result<(), Ending>
     let who = text.as_str();
     let kind = PaintedKind(paint, row.kind);
     let number = row.number;
-    println!(rt; "{who:<21} {kind} {number}").map_err(|_| Ending::File)
+    println!(rt; "{who:<21} {kind} {number}").map_err(|error| Ending::of_output(&error))
 }
 
 /// Prints rows as JSON, a line each.
@@ -49,7 +50,7 @@ fn print_objects<P: Print>(rt: &P, rows: &Rows) -> Result<(), Ending> {
 
 /// Prints rows as a table with a head.
 fn print_table<P: Print>(rt: &P, rows: &Rows, paint: Paint) -> Result<(), Ending> {
-    println!(rt; "MEMBER                KIND    NUMBER").map_err(|_| Ending::File)?;
+    print_line(rt, &"MEMBER                KIND    NUMBER")?;
     for row in rows.as_slice() {
         print_row(rt, row, paint)?;
     }
@@ -155,7 +156,7 @@ impl Watched<'_> {
     }
 }
 
-/// Prints what changes of a member's rows until the process is ended. The first comparison is with no rows. Where its era is full,
+/// Prints what changes of a member's rows until the process is ended, or nobody reads it any more. The first comparison is with no rows. Where its era is full,
 /// or where it does not answer, there is no comparison, and the next one is with the rows that stood before.
 pub fn watch_members<R: Net<Stream = TcpStream> + Clock + AllocGlobal + Print, T: Wait>(
     rt: &R,
@@ -165,12 +166,13 @@ pub fn watch_members<R: Net<Stream = TcpStream> + Clock + AllocGlobal + Print, T
     judge(watched.to)?;
     let mut before = Rows::new();
     let mut is_lost = false;
+    let mut output = Output::new(rt);
     for _ in wait.forever() {
         if let Some(rows) = watched.rows_now(rt, &mut is_lost)? {
             watched.tell_news(rt, &before, &rows)?;
             before = rows;
         }
-        thread::sleep(rt, Duration::from_millis(watched.every));
+        output.wait(rt, Duration::from_millis(watched.every))?;
     }
     unreachable!()
 }

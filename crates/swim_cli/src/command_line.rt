@@ -223,7 +223,9 @@ fn watch_command<'a>(alloc: Global) -> Result<Command<'a>, Error> {
         .action(ArgAction::SetTrue)
         .help("Ends with status 1 where the member does not answer");
     let command = Command::new(alloc, "watch")
-        .about("Prints what changes of the members, a line a change, until it is stopped")
+        .about(
+            "Prints what changes of the members, a line a change, until it is stopped or nobody reads it",
+        )
         .after_help(examples::WATCH);
     let command = with_arg(Ok(command), address(alloc));
     let command = with_arg(command, json(alloc));

@@ -31,11 +31,12 @@ fn refused<R: Eprint>(rt: &R, listen: &str, error: &Error) -> Ending {
 /// Prints what is served where, and who can read it.
 fn announce<R: Print>(rt: &R, web: &Web<'_>, listen: Endpoint) -> Result<(), Ending> {
     let Web { of, .. } = *web;
-    println!(rt; "http://{listen}/ shows what {of} says").map_err(|_| Ending::File)?;
+    let unprinted = |error: Error| Ending::of_output(&error);
+    println!(rt; "http://{listen}/ shows what {of} says").map_err(unprinted)?;
     if !address_of(listen).ip().is_loopback() {
         println!(rt;
             "everyone who reaches {listen} can read the group: there is no password"
-        ).map_err(|_| Ending::File)?;
+        ).map_err(unprinted)?;
     }
     Ok(())
 }
