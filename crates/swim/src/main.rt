@@ -15,8 +15,8 @@ use std::thread::Threads;
 use std::time::Clock;
 use std::{env, fs};
 use swim_ask::{
-    CountersJson, Paint, StatusJson, Watched, ask, read_counters, read_status, show_members,
-    watch_members,
+    CountersJson, Paint, StatusJson, Watched, ask, await_end, read_counters, read_status,
+    show_members, watch_members,
 };
 use swim_check::{Stop, check};
 use swim_cli::{Subcommand, hold_standard, make, read_words};
@@ -119,16 +119,41 @@ fn print_json(rt: &HostRuntime, answer: &[u8]) -> Result<(), Ending> {
     print_bytes(rt, answer)
 }
 
-/// Asks a member, and prints its answer, a status or counters as a JSON object where that is wanted. The exit status says whether
-/// it begins with `ok`.
-fn ask_member(rt: &HostRuntime, to: &str, line: &str, as_json: bool) -> Result<ExitCode, Ending> {
-    let answer = ask(rt, to, line)?;
-    if as_json {
-        print_json(rt, answer.as_slice())?;
+/// The line that ends a member.
+const STOP: &str = "stop";
+
+/// A control line that is asked, and what becomes of its answer.
+#[derive(Clone, Copy, Debug)]
+struct Question<'a> {
+    /// The control socket, not yet judged.
+    to: &'a str,
+    line: &'a str,
+    /// Whether a status or counters are printed as a JSON object.
+    as_json: bool,
+    /// Whether a member that stops is left as soon as it answered.
+    at_once: bool,
+}
+
+/// Asks a member, and prints its answer. Where that is to `stop`, the member has ended then, if that is wanted. The exit status says
+/// whether the answer begins with `ok`.
+fn ask_member<T: Threads>(
+    rt: &HostRuntime,
+    threads: &T,
+    question: &Question<'_>,
+) -> Result<ExitCode, Ending> {
+    let answer = ask(rt, threads, question.to, question.line)?;
+    let text = answer.text.as_slice();
+    let printed = if question.as_json {
+        print_json(rt, text)
     } else {
-        print_bytes(rt, answer.as_slice())?;
+        print_bytes(rt, text)
+    };
+    let is_ok = text.starts_with(b"ok");
+    if is_ok && question.line == STOP && !question.at_once {
+        await_end(rt, answer.at)?;
     }
-    Ok(if answer.as_slice().starts_with(b"ok") {
+    printed?;
+    Ok(if is_ok {
         ExitCode::SUCCESS
     } else {
         ExitCode::FAILURE
@@ -230,9 +255,22 @@ fn answer<T: Threads + Wait + Log + Clock + Send + Sync + Copy + Drop>(
             }
             Ok(ExitCode::SUCCESS)
         }
-        Subcommand::Ctl { to, line, as_json } => ask_member(rt, to, line, as_json),
+        Subcommand::Ctl {
+            to,
+            line,
+            as_json,
+            at_once,
+        } => {
+            let question = Question {
+                to,
+                line,
+                as_json,
+                at_once,
+            };
+            ask_member(rt, logged, &question)
+        }
         Subcommand::Members { to, as_json } => {
-            show_members(rt, to, as_json, paint(rt))?;
+            show_members(rt, logged, to, as_json, paint(rt))?;
             Ok(ExitCode::SUCCESS)
         }
         Subcommand::Watch {

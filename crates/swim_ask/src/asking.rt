@@ -4,29 +4,35 @@ ghost use Rattle.std.specs.Prelude.{◌≡◌, ◌+◌, ◌↔◌, ℕ, min, IfN
 ghost use Rattle.swim_words.specs.Words.{Lacks};
 ghost use Rattle.swim_ask.specs.Whole.{AsksLines, Follow, IsWhole, ends};
 
-use crate::place::find;
+use crate::place::find_from;
 use std::io::{self, ErrorKind, Read, Write};
 use std::net::{Net, TcpStream};
 use std::rt::Clock;
+use std::thread::Threads;
 use std::time::{Duration, Instant};
 use swim_ending::Ending;
 use swim_net::address_of;
 use swim_wire::Endpoint;
 use swim_words::{read_number, split_at_byte};
 
-/// How many milliseconds the whole exchange may take.
-const LIMIT_MILLIS: u64 = 5000;
+/// How many milliseconds the whole exchange may take, and a lookup of the host with it.
+pub(crate) const LIMIT_MILLIS: u64 = 5000;
 
 /// The most bytes of an answer, and so the most reads: 31 lines of at most 51 bytes are less.
 const ANSWER_MAX: usize = 4096;
 
-/// What is left of the time limit; an error where nothing is.
-fn left<R: Clock>(rt: &R, start: &Instant) -> io::Result<Duration> {
-    let left = Duration::from_millis(LIMIT_MILLIS).saturating_sub(start.elapsed(rt)?);
+/// What is left of so many milliseconds; an error where nothing is.
+pub(crate) fn left_of<R: Clock>(rt: &R, start: &Instant, millis: u64) -> io::Result<Duration> {
+    let left = Duration::from_millis(millis).saturating_sub(start.elapsed(rt)?);
     if left.is_zero() {
         return Err(io::Error::from(ErrorKind::TimedOut));
     }
     Ok(left)
+}
+
+/// What is left of the time limit; an error where nothing is.
+fn left<R: Clock>(rt: &R, start: &Instant) -> io::Result<Duration> {
+    left_of(rt, start, LIMIT_MILLIS)
 }
 
 /// Whether the line asks for members or counters, whose answer has more lines than one.
@@ -98,22 +104,27 @@ fn read_answer<R: Clock>(
     Err(io::Error::from(ErrorKind::InvalidData))
 }
 
-/// Connects, sends the line and reads its answer, within the time limit.
+/// Connects, sends the line and reads its answer, within the time limit from that start on.
 fn talk<R: Net<Stream = TcpStream> + Clock + AllocGlobal>(
     rt: &R,
+    start: &Instant,
     to: Endpoint,
     line: &str,
 ) -> io::Result<Vec<u8>>
     ensures { IfOk result (λ answer. IsWhole line.now answer.items) }
 {
-    let start = Instant::now(rt)?;
-    let mut stream = TcpStream::connect_timeout(rt, &address_of(to), left(rt, &start)?)?;
-    stream.set_write_timeout(Some(left(rt, &start)?))?;
+    let mut stream = TcpStream::connect_timeout(rt, &address_of(to), left(rt, start)?)?;
+    stream.set_write_timeout(Some(left(rt, start)?))?;
     stream.write_all(line.as_bytes())?;
     stream.write_all(b"\n")?;
     let mut answer = Vec::new(rt.alloc());
-    read_answer(rt, &start, &mut stream, line, &mut answer)?;
+    read_answer(rt, start, &mut stream, line, &mut answer)?;
     Ok(answer)
+}
+
+/// Now, from which on a time limit is counted. An error says that there is no memory, or that the clock fails.
+pub(crate) fn now<R: Clock>(rt: &R) -> Result<Instant, Ending> {
+    Instant::now(rt).map_err(|error| Ending::of(&error, Ending::Socket))
 }
 
 /// The whole answer to a control line. It takes at most 5 seconds. An error says that there was no memory, or that the member did
@@ -125,17 +136,32 @@ pub(crate) fn exchange<R: Net<Stream = TcpStream> + Clock + AllocGlobal>(
 ) -> Result<Vec<u8>, Ending>
     ensures { IfOk result (λ answer. IsWhole line.now answer.items) }
 {
-    talk(rt, to, line).map_err(|error| Ending::of(&error, Ending::Socket))
+    talk(rt, &now(rt)?, to, line).map_err(|error| Ending::of(&error, Ending::Socket))
+}
+
+/// What a member answered, and where.
+#[derive(Drop)]
+pub struct Answered {
+    /// Its control socket.
+    pub at: Endpoint,
+    /// The whole answer.
+    pub text: Vec<u8>,
 }
 
 /// Sends one control line as it is, with its end, and gives the whole answer. The address is an endpoint, or a host name
-/// and a port, not yet judged. The exchange takes at most 5 seconds.
-pub fn ask<R: Net<Stream = TcpStream> + Clock + AllocGlobal>(
-    rt: &R,
+/// and a port, not yet judged. All of it takes at most 5 seconds, the lookup of the host too.
+pub fn ask<T: Threads>(
+    rt: &HostRuntime,
+    threads: &T,
     to: &str,
     line: &str,
-) -> Result<Vec<u8>, Ending>
-    ensures { IfOk result (λ answer. IsWhole line.now answer.items) }
+) -> Result<Answered, Ending>
+    ensures { IfOk result (λ answered. IsWhole line.now answered.text.items) }
 {
-    exchange(rt, find(rt, to)?, line)
+    let start = now(rt)?;
+    let at = find_from(rt, threads, to, &start)?;
+    match talk(rt, &start, at, line) {
+        Ok(text) => Ok(Answered { at, text }),
+        Err(error) => Err(Ending::of(&error, Ending::Socket)),
+    }
 }

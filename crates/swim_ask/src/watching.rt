@@ -1,17 +1,18 @@
 //! `swim members` and `swim watch`.
 
+use crate::asking::now;
 use crate::gap::{Gap, GapJson};
 use crate::output::Output;
 use crate::paging::read_rows;
 use crate::paint::{Paint, PaintedChange, PaintedKind};
-use crate::place::{find, judge};
+use crate::place::{find, find_from, judge};
 use crate::timed::{Timed, TimedJson};
 use arrayvec::ArrayString;
 use std::fmt::{self, Display, Write as _};
 use std::net::{Net, TcpStream};
 use std::rt::Clock;
 use std::sync::{Wait, WaitMethods};
-use std::thread;
+use std::thread::{self, Threads};
 use std::time::Duration;
 use swim_ending::Ending;
 use swim_news::{Change, ChangeJson, Changes, RowJson, Rows, compare};
@@ -58,13 +59,14 @@ fn print_table<P: Print>(rt: &P, rows: &Rows, paint: Paint) -> Result<(), Ending
 }
 
 /// Prints all rows of a member, whose control socket is a word not yet judged. Where its era is full it is asked again.
-pub fn show_members<R: Net<Stream = TcpStream> + Clock + AllocGlobal + Print>(
-    rt: &R,
+pub fn show_members<T: Threads>(
+    rt: &HostRuntime,
+    threads: &T,
     to: &str,
     as_json: bool,
     paint: Paint,
 ) -> Result<(), Ending> {
-    let to = find(rt, to)?;
+    let to = find_from(rt, threads, to, &now(rt)?)?;
     for _ in 0..AGAIN_MAX {
         if let Some(rows) = read_rows(rt, to)? {
             return if as_json {

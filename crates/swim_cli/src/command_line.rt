@@ -43,6 +43,8 @@ pub enum Subcommand<'a> {
         line: &'a str,
         /// Whether as JSON, which only the lines `status` and `counters` have.
         as_json: bool,
+        /// Whether to wait for nothing but the answer, which only the line `stop` has.
+        at_once: bool,
     },
     /// All rows of a member.
     Members {
@@ -254,7 +256,7 @@ fn web_command<'a>(alloc: Global) -> Result<Command<'a>, Error> {
     with_arg(command, listen.default_value("127.0.0.1:7080"))
 }
 
-/// `swim ctl ADDR LINE [--json]`.
+/// `swim ctl ADDR LINE [--json] [--now]`.
 fn ctl_command<'a>(alloc: Global) -> Result<Command<'a>, Error> {
     let line = word(
         alloc,
@@ -263,12 +265,17 @@ fn ctl_command<'a>(alloc: Global) -> Result<Command<'a>, Error> {
         "status, members, members A, counters, join A, leave, record, reload or stop",
     );
     let as_json = json(alloc).help("Prints the answer to status or counters as a JSON object");
+    let at_once = Arg::new(alloc, "now")
+        .long("now")
+        .action(ArgAction::SetTrue)
+        .help("Ends at the answer to stop, and not once the member has ended");
     let command = Command::new(alloc, "ctl")
         .about("Sends a control line and prints the answer")
         .after_help(examples::CTL);
     let command = with_arg(Ok(command), address(alloc));
     let command = with_arg(command, line.allow_hyphen_values(true));
-    with_arg(command, as_json)
+    let command = with_arg(command, as_json);
+    with_arg(command, at_once)
 }
 
 /// A word that may stand after its name.
@@ -420,6 +427,7 @@ fn chosen<'a>(matches: &ArgMatches<'a>, all: &'a [String]) -> Option<Subcommand<
             to: text(words, "addr"),
             line: text(words, "line"),
             as_json: words.get_flag("json"),
+            at_once: words.get_flag("now"),
         }),
         "members" => Some(Subcommand::Members {
             to: text(words, "addr"),

@@ -23,7 +23,7 @@ pub(crate) const CTL: &str = "Examples:
   swim ctl 127.0.0.1:7001 status                what the member says of itself
   swim ctl 127.0.0.1:7001 counters              what it has done since it began
   swim ctl 127.0.0.1:7001 \"join 10.0.0.2:7000\"  a line with a space is quoted
-  swim ctl 127.0.0.1:7001 stop                  stops it";
+  swim ctl 127.0.0.1:7001 stop                  stops it, and waits until it has ended";
 
 /// Examples of `swim members`.
 pub(crate) const MEMBERS: &str = "Examples:
