@@ -2,7 +2,7 @@
 
 use crate::known::Known;
 use crate::peer::Peer;
-use mio::net::TcpListener as Listener;
+use mio::net::{TcpListener as Listener, TcpStream as Stream};
 use mio::{Events, Interest, Poll, Token};
 use std::alloc::{AllocError, Global};
 use std::net::{Net, TcpListener};
@@ -13,6 +13,12 @@ use swim_pages::response;
 
 /// The most connections at a time. One more takes the place of the one that came so many before it.
 const PEERS_MAX: usize = 256;
+
+/// How many descriptors are left free where the system gives no more: to ask the member needs one, and to take the next connection.
+const FREE: usize = 2;
+
+/// The system's number of a process that may open no more descriptors, EMFILE.
+const TOO_MANY: i32 = 24;
 
 /// How many connections are taken in one turn, before those that are there have theirs.
 const TAKEN_MAX: u32 = 16;
@@ -38,6 +44,8 @@ pub(crate) struct Server {
     listener: Listener,
     peers: Vec<Option<Peer>>,
     next: usize,
+    /// The most connections at a time: fewer than there are places, once the system gave no descriptor for one more.
+    most: usize,
 }
 
 /// So many empty places.
@@ -79,6 +87,7 @@ impl Server {
             poll,
             listener,
             next: 0,
+            most: PEERS_MAX,
         })
     }
 
@@ -90,9 +99,51 @@ impl Server {
         }
     }
 
+    /// How many connections there are.
+    fn count(&self) -> usize {
+        self.peers.iter().filter(|place| place.is_some()).count()
+    }
+
+    /// Ends the connection that came first of those that are there: the first one from the next place on.
+    fn end_first(&mut self) {
+        let next = self.next.min(self.peers.len());
+        let (later, first) = self.peers.split_at_mut(next);
+        for place in first.iter_mut().chain(later.iter_mut()) {
+            if place.is_some() {
+                *place = None;
+                return;
+            }
+        }
+    }
+
+    /// Ends the connections that came first, until one more is none too many.
+    fn make_room(&mut self) {
+        for _ in 0..PEERS_MAX {
+            if self.count() < self.most {
+                return;
+            }
+            self.end_first();
+        }
+    }
+
+    /// The next connection that came; an error where there is none. Where there is no descriptor for it, some that came before it end,
+    /// and from then on so many are too many.
+    fn accept(&mut self) -> io::Result<Stream> {
+        match self.listener.accept() {
+            Ok((stream, _)) => Ok(stream),
+            Err(error) if error.raw_os_error() == Some(TOO_MANY) => {
+                self.most = self.count().saturating_sub(FREE).max(1);
+                self.make_room();
+                Ok(self.listener.accept()?.0)
+            }
+            Err(error) => Err(error),
+        }
+    }
+
     /// Takes the next connection that came; an error where there is none.
     fn take<C: Clock>(&mut self, clock: &C) -> io::Result<()> {
-        let (mut stream, _) = self.listener.accept()?;
+        let mut stream = self.accept()?;
+        self.make_room();
         let both = Interest::READABLE | Interest::WRITABLE;
         self.poll.registry().register(&mut stream, SOCKET, both)?;
         let peer = Peer::new(self.alloc, clock, stream)?;
