@@ -1,3 +1,4 @@
 mod Examples
 pub mod Paths
 pub mod Texts
+pub mod Slashes

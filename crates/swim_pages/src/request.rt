@@ -1,8 +1,9 @@
 //! The head of a request, read from the bytes that came.
 
-ghost use Rattle.std.specs.Prelude.{◌≡◌, ◌≢◌, IfSome, IfNone};
+ghost use Rattle.std.specs.Prelude.{◌≡◌, ◌≢◌, IfSome, IfNone, codes, drop, length};
 ghost use Rattle.swim_words.specs.Words.{No};
-ghost use Rattle.swim_pages.specs.Requests.{IsMethod, IsPath, IsReading, path_in, path_text};
+ghost use Rattle.swim_pages.specs.Requests.{IsAbsolute, IsMethod, IsPath, IsPathOf, IsReading};
+ghost use Rattle.swim_pages.specs.Requests.{from_slash, path_in, path_text};
 
 use httparse::spans::{EMPTY_HEADER_SPAN, parse_request};
 use httparse::{Error, Status};
@@ -13,6 +14,9 @@ pub const HEAD_MAX: usize = 8192;
 
 /// The most fields of a head.
 pub const FIELDS_MAX: usize = 64;
+
+/// What an absolute target begins with, as a proxy is sent: letters of any case.
+const SCHEME: &[u8] = b"http://";
 
 /// What a request is to do.
 #[derive(Clone, Copy, Debug, PartialEq, Eq)]
@@ -76,6 +80,41 @@ fn path_in(target: &[u8]) -> &[u8]
     }
 }
 
+/// What stands behind the scheme of an absolute path; none where it is not absolute.
+fn after_scheme(path: &[u8]) -> Option<&[u8]>
+    ensures absolute { IfSome result (λ rest. IsAbsolute path.now) }
+    ensures rest { IfSome result (λ rest. rest.now ≡ drop (length (codes "http://")) path.now) }
+    ensures none { IfNone result (¬ IsAbsolute path.now) }
+{
+    let (scheme, rest) = path.split_at_checked(SCHEME.len())?;
+    if scheme.eq_ignore_ascii_case(SCHEME) {
+        Some(rest)
+    } else {
+        None
+    }
+}
+
+/// What the text has from its first slash on; a slash where it has none.
+fn from_slash(text: &[u8]) -> &[u8]
+    ensures { result.now ≡ from_slash text.now }
+{
+    match split_at_byte(text, b'/') {
+        Some((host, _)) => &text[host.len()..],
+        None => b"/",
+    }
+}
+
+/// The path of a target without its query, and without the scheme and the host that an absolute target begins with.
+fn path_of(target: &[u8]) -> &[u8]
+    ensures { IsPathOf target.now result.now }
+{
+    let path = path_in(target);
+    match after_scheme(path) {
+        Some(rest) => from_slash(rest),
+        None => path,
+    }
+}
+
 /// A request.
 #[derive(Clone, Copy, Debug, PartialEq, Eq)]
 pub struct Request {
@@ -106,7 +145,7 @@ pub fn read_request(bytes: &[u8]) -> Reading
     match parse_request(bytes, &mut fields) {
         Ok(Status::Complete(head)) => Reading::Asked(Request {
             method: Method::of(head.method.of(bytes)),
-            path: Path::of(path_in(head.path.of(bytes))),
+            path: Path::of(path_of(head.path.of(bytes))),
         }),
         Ok(Status::Partial) => {
             if bytes.len() < HEAD_MAX {
