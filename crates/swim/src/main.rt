@@ -8,7 +8,7 @@ use clap::Error;
 use clap::error::ErrorKind;
 use log::{LevelFilter, Log, Logged};
 use std::fmt::Display;
-use std::io::{self, IsTerminal, Read, Write};
+use std::io::{self, IsTerminal, Write};
 use std::process::ExitCode;
 use std::sync::Wait;
 use std::thread::Threads;
@@ -22,6 +22,7 @@ use swim_check::{Stop, check};
 use swim_cli::{Subcommand, hold_standard, make, read_words};
 use swim_ending::Ending;
 use swim_explain::{ExplainFault, explain_file, in_order};
+use swim_input::{InputFault, SETTINGS_MAX, look_at};
 use swim_log::{LogLevel, LogStream, Stamped};
 use swim_play::{play, play_recorded};
 use swim_replay::{RecordingFault, RecordingReason, after_first_line};
@@ -37,11 +38,10 @@ const REFUSED: u8 = 2;
 
 /// All of standard input, or this ending where there is no memory for it.
 fn read_input(rt: &HostRuntime, lacks: Ending) -> Result<Vec<u8>, Ending> {
-    let mut input = Vec::new(rt.alloc());
-    match rt.stdin().read_to_end(&mut input) {
-        Ok(_) => Ok(input),
-        Err(error) if error.kind() == io::ErrorKind::OutOfMemory => Err(lacks),
-        Err(_) => Err(Ending::File),
+    match swim_input::read_input(rt) {
+        Ok(input) => Ok(input),
+        Err(InputFault::Memory) => Err(lacks),
+        Err(fault) => Err(Ending::from(fault)),
     }
 }
 
@@ -165,6 +165,7 @@ fn show_file(rt: &HostRuntime, path: &str, as_json: bool) -> Result<ExitCode, En
     let shown = swim_show::answer(rt, path, as_json).map_err(|fault| match fault {
         ShowFault::Memory => Ending::Memory,
         ShowFault::File => Ending::File,
+        ShowFault::NotFile => Ending::NotFile,
     })?;
     print_bytes(rt, shown.text.as_bytes())?;
     Ok(if shown.is_sound {
@@ -207,8 +208,19 @@ fn paint(rt: &HostRuntime) -> Paint {
     Paint::of(rt, rt.stdout().is_terminal())
 }
 
+/// Refuses a plan that is no file, or too long. Other faults are told where it is read.
+fn refuse_endless(rt: &HostRuntime, plan: &str) -> Result<(), Ending> {
+    match look_at(rt, plan, SETTINGS_MAX) {
+        Ok(()) | Err(InputFault::System(_)) => Ok(()),
+        Err(fault) => Err(Ending::from(fault)),
+    }
+}
+
 /// Simulates a group, and prints what was measured. A refused plan or sweep is named on standard error.
 fn simulate_group(rt: &HostRuntime, asked: &Asked<'_>) -> Result<ExitCode, Ending> {
+    if let Some(plan) = asked.plan {
+        refuse_endless(rt, plan)?;
+    }
     let stream = rt.stderr();
     let terminal = if stream.is_terminal() {
         Some(stream)
@@ -227,6 +239,13 @@ fn simulate_group(rt: &HostRuntime, asked: &Asked<'_>) -> Result<ExitCode, Endin
         AskedFault::Plan(_) | AskedFault::Sweep(_) => ExitCode::from(REFUSED),
         _ => ExitCode::FAILURE,
     })
+}
+
+/// Prints the settings of a file as they will be used.
+fn show_settings(rt: &HostRuntime, config: &str) -> Result<(), Ending> {
+    look_at(rt, config, SETTINGS_MAX)?;
+    let text = shown_settings(rt, config)?;
+    print_bytes(rt, text.as_bytes())
 }
 
 /// Does what was asked. A member that runs has its threads and its log by the other handle, and sets how much is logged.
@@ -248,8 +267,7 @@ fn answer<T: Threads + Wait + Log + Clock + Send + Sync + Copy + Drop>(
         }
         Subcommand::Run { config, shows } => {
             if shows {
-                let text = shown_settings(rt, config)?;
-                print_bytes(rt, text.as_bytes())?;
+                show_settings(rt, config)?;
             } else {
                 run(rt, logged, level, config)?;
             }

@@ -184,16 +184,29 @@ fn show_command<'a>(alloc: Global) -> Result<Command<'a>, Error> {
     let command = Command::new(alloc, "show")
         .about(about)
         .after_help(examples::SHOW);
-    let command = with_arg(Ok(command), word(alloc, "file", "FILE", "The state file"));
+    let command = with_arg(
+        Ok(command),
+        word(
+            alloc,
+            "file",
+            "FILE",
+            "The state file, no pipe and no device",
+        ),
+    );
     with_arg(command, json(alloc))
 }
 
 /// `swim explain --member A [--json] FILE..`.
 fn explain_command<'a>(alloc: Global) -> Result<Command<'a>, Error> {
     let member = word(alloc, "member", "A", "The member that the story is of").long("member");
-    let files = word(alloc, "files", "FILE", "Recordings of one member")
-        .num_args(1..)
-        .trailing_var_arg(true);
+    let files = word(
+        alloc,
+        "files",
+        "FILE",
+        "Recordings of one member, of at most 256 MiB each",
+    )
+    .num_args(1..)
+    .trailing_var_arg(true);
     let command = Command::new(alloc, "explain")
         .about("Prints when a member was heard of, suspected, confirmed, and why")
         .after_help(examples::EXPLAIN);
@@ -297,7 +310,13 @@ fn simulate_command<'a>(alloc: Global) -> Result<Command<'a>, Error> {
         .after_help(examples::SIMULATE);
     let command = with_arg(
         Ok(command),
-        word(alloc, "plan", "PLAN", "What is simulated, a TOML table").required(false),
+        word(
+            alloc,
+            "plan",
+            "PLAN",
+            "What is simulated, a TOML table of at most 1 MiB",
+        )
+        .required(false),
     );
     let command = with_arg(command, seed);
     let command = with_arg(command, runs);
@@ -320,7 +339,12 @@ fn run_command<'a>(alloc: Global) -> Result<Command<'a>, Error> {
         .after_help(examples::RUN);
     let command = with_arg(
         Ok(command),
-        word(alloc, "config", "CONFIG", "The settings, a TOML table"),
+        word(
+            alloc,
+            "config",
+            "CONFIG",
+            "The settings, a TOML table of at most 1 MiB",
+        ),
     );
     with_arg(command, shows)
 }
@@ -328,11 +352,11 @@ fn run_command<'a>(alloc: Global) -> Result<Command<'a>, Error> {
 /// All that the program takes.
 fn command<'a>(alloc: Global) -> Result<Command<'a>, Error> {
     let play = Command::new(alloc, "play")
-        .about("Plays a script or a recording from standard input")
+        .about("Plays a script or a recording from standard input, of at most 256 MiB")
         .after_help(examples::PLAY);
     let check = Command::new(alloc, "check")
         .about(
-            "Looks in a capture from standard input for a datagram that breaks the law of the group",
+            "Looks in a capture from standard input, of at most 256 MiB, for a datagram that breaks the law of the group",
         )
         .after_help(examples::CHECK);
     let command = Command::new(alloc, "swim")

@@ -2,9 +2,9 @@
 
 use crate::printing::print_story;
 use std::alloc::AllocError;
-use std::fs::{self, File};
-use std::io::{self, ErrorKind};
+use std::fs::File;
 use std::rt::Files;
+use swim_input::{INPUT_MAX, InputFault, read_file};
 use swim_replay::{Played, RecordingFault, RecordingReason, play_from};
 use swim_wire::Endpoint;
 use thiserror::Error;
@@ -18,6 +18,12 @@ pub enum ExplainFault {
     /// The file cannot be opened or read.
     #[error("file refused")]
     File,
+    /// It is a pipe, a device or a socket.
+    #[error("file refused: it is a pipe, a device or a socket, and no file")]
+    NotFile,
+    /// It has more bytes than this.
+    #[error("file refused: it has more than {0} bytes")]
+    TooLong(u64),
     /// It is no recording.
     #[error("{0}")]
     Recording(RecordingFault),
@@ -29,12 +35,13 @@ impl From<AllocError> for ExplainFault {
     }
 }
 
-impl From<io::Error> for ExplainFault {
-    fn from(error: io::Error) -> ExplainFault {
-        if error.kind() == ErrorKind::OutOfMemory {
-            ExplainFault::Memory
-        } else {
-            ExplainFault::File
+impl From<InputFault> for ExplainFault {
+    fn from(fault: InputFault) -> ExplainFault {
+        match fault {
+            InputFault::Memory => ExplainFault::Memory,
+            InputFault::NotFile => ExplainFault::NotFile,
+            InputFault::TooLong(most) => ExplainFault::TooLong(most),
+            InputFault::System(_) => ExplainFault::File,
         }
     }
 }
@@ -71,7 +78,7 @@ pub fn explain_file<R: Files<File = File> + AllocGlobal>(
     who: Endpoint,
     as_json: bool,
 ) -> Result<String, ExplainFault> {
-    let text = fs::read(rt, path)?;
+    let text = read_file(rt, path, INPUT_MAX)?;
     let Played { beginning, era } = play_from(rt.alloc(), &text)?;
     match print_story(rt.alloc(), beginning, &era, who, as_json) {
         Ok(story) => Ok(story),

@@ -12,6 +12,7 @@ use std::fs::File;
 use std::io::Read;
 use std::rt::Files;
 use swim_disk::MOST_BYTES;
+use swim_input::open_file;
 
 /// What is printed of a file.
 #[derive(Drop)]
@@ -29,7 +30,7 @@ fn read_file<R: Files<File = File> + AllocGlobal>(
 ) -> Result<(Vec<u8>, u64), ShowFault>
     ensures { IfOk result (λ file. length file.0.items ≤ MOST_BYTES) }
 {
-    let file = File::open(rt, path)?;
+    let file = open_file(rt, path)?;
     let size = file.metadata()?.len();
     let mut bytes = Vec::new(rt.alloc());
     file.take(MOST_BYTES).read_to_end(&mut bytes)?;

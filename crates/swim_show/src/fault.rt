@@ -2,6 +2,7 @@
 
 use std::alloc::AllocError;
 use std::io::{self, ErrorKind};
+use swim_input::InputFault;
 use thiserror::Error;
 
 /// Why nothing is shown.
@@ -13,6 +14,9 @@ pub enum ShowFault {
     /// The file cannot be opened or read.
     #[error("file refused")]
     File,
+    /// It is a pipe, a device or a socket.
+    #[error("it is a pipe, a device or a socket, and no file")]
+    NotFile,
 }
 
 impl From<AllocError> for ShowFault {
@@ -27,6 +31,17 @@ impl From<io::Error> for ShowFault {
             ShowFault::Memory
         } else {
             ShowFault::File
+        }
+    }
+}
+
+impl From<InputFault> for ShowFault {
+    fn from(fault: InputFault) -> ShowFault {
+        match fault {
+            InputFault::Memory => ShowFault::Memory,
+            InputFault::NotFile => ShowFault::NotFile,
+            InputFault::System(error) => ShowFault::from(error),
+            InputFault::TooLong(_) => ShowFault::File,
         }
     }
 }
