@@ -1,14 +1,18 @@
 -- What a checker remembers is what was told.
-use Rattle.std.proofs.Common.{◌≡◌, ◌≢◌, ℕ, ◌<◌, ◌≤◌, nat_lt, ◌⊎◌, inl, inr, refl, sym, ◌∙◌, ap, subst, List, [], ◌∷◌, ◌++◌, append_assoc, length, slice_index_or, zero, suc, All, Any, arith}
+use Rattle.std.proofs.Common.{◌≡◌, ◌≢◌, ◌↔◌, ℕ, ◌⊎◌, inl, inr, refl, sym, ◌∙◌, ap, subst, List, [], ◌∷◌, ◌++◌, append_assoc, cond, true, false, Some, unwrap_or, All, Contains, rules}
+use Rattle.std.specs.BTreeMap.{is_at}
+use Rattle.std.specs.Cmp.Rules.{comparing}
 use Rattle.std.specs.List.{AllByRecursion}
-use Rattle.std.proofs.lemmas.Bool.{cases_Bool, ltb-true, ltb-false}
+use Rattle.std.specs.Map.{lookup}
+use Rattle.std.specs.Ordering.{nat_cmp}
+use Rattle.std.proofs.lemmas.Bool.{cases_eq}
 use Rattle.swim_wire.specs.declared.datagram.Datagram.{Datagram}
 use Rattle.swim_wire.specs.declared.update.Update.{Update}
 use Rattle.swim_member.specs.declared.answer.Out.{Out}
 use Rattle.swim_group.specs.declared.checker.Breach.{Breach}
 use Rattle.swim_group.specs.declared.checker.Breach.TheVariants.{Invented, Passed, WentBack}
 use Rattle.swim_group.specs.Numbers.{HasNumber, HasTold}
-use Rattle.swim_group.specs.Checking.{MaySay, Breaks, MayFollow, Remembers, IsNoted}
+use Rattle.swim_group.specs.Checking.{MaySay, Breaks, MayFollow, IsRemembered, Remembers, IsAdded, IsNoted, told_numbers}
 use Rattle.swim_group.proofs.Lists.{all-weaker}
 use Rattle.swim_group.specs.Checking.{KeepTheLaw, as_sent}
 use Rattle.swim_group.proofs.Holding.{all-of}
@@ -19,21 +23,6 @@ use Rattle.std.proofs.lemmas.List.{append-nil}
 module _ (x n : ℕ) where
   abbrev IsIt : Update → Type 0
   IsIt u = (u.who ≡ x) × (u.number ≡ n)
-
-  pub any-number : (told : List Update) → HasNumber x n told → Any IsIt told
-  any-number [] h = absurd h
-  any-number (u ∷ told) (inl h) = (zero, u, omega arith, refl, h)
-  any-number (u ∷ told) (inr h) =
-      let rest : Any IsIt told = any-number told h in
-      (suc rest.0, rest.1, omega arith, rest.3, rest.4)
-
-  at-number : (told : List Update) (k : ℕ) (u : Update) → k < length told → slice_index_or told k u ≡ u → IsIt u → HasNumber x n told
-  at-number [] k u l e h = absurd (omega arith)
-  at-number (t ∷ told) zero u l e h = inl (subst IsIt (sym e) h)
-  at-number (t ∷ told) (suc k) u l e h = inr (at-number told k u (omega arith) e h)
-
-  pub number-any : (told : List Update) → Any IsIt told → HasNumber x n told
-  number-any told h = at-number told h.0 h.1 h.2 h.3 h.4
 
   pub number-snoc : (us : List Update) (u : Update) → HasNumber x n (us ++ u ∷ []) → HasNumber x n us ⊎ IsIt u
   number-snoc [] u (inl h) = inr h
@@ -72,51 +61,59 @@ module _ (x n : ℕ) where
   told-more (o ∷ sent) out (inl (inr h)) = inr (told-more sent out (inl h))
   told-more (o ∷ sent) out (inr h) = inr (told-more sent out (inr h))
 
--- all numbers of x are below m
-pub below-all : (x m : ℕ) (told : List Update) → AllByRecursion (λ u. u.who ≡ x → u.number < m) told → (n : ℕ) → HasNumber x n told → n < m
-below-all x m [] a n h = absurd h
-below-all x m (u ∷ told) a n (inl h) = subst (λ k. k < m) h.1 (a.0 h.0)
-below-all x m (u ∷ told) a n (inr h) = below-all x m told a.1 n h
+-- What is remembered of each member
 
-pub all-below : (x m : ℕ) (told : List Update) → ((n : ℕ) → HasNumber x n told → n < m) → All (λ u. u.who ≡ x → u.number < m) told
-all-below x m told h k d l e = h (slice_index_or told k d).number (at-number x (slice_index_or told k d).number told k (slice_index_or told k d) l (index-same told k d l) (e, refl))
+-- of one that is found among the entries, what it holds
+pub found-numbers : (told : List (ℕ × List ℕ)) (x : ℕ) (ns : List ℕ) → lookup (is_at (nat_cmp x)) told ≡ Some ns → told_numbers told x ≡ ns
+found-numbers told x ns e = ap (λ o. unwrap_or o []) e
+
+-- with this at one of them, and what it was at the others
+pub numbers-set : (old new : List (ℕ × List ℕ)) (k : ℕ) (ns : List ℕ) → ((q : ℕ) → lookup (is_at (nat_cmp q)) new ≡ cond (is_at (nat_cmp k) q) (Some ns) (lookup (is_at (nat_cmp q)) old)) → (q : ℕ) → (q ≡ k → told_numbers new q ≡ ns) × (q ≢ k → told_numbers new q ≡ told_numbers old q)
+numbers-set old new k ns sets q = (
+  λ e. found-numbers new q ns (sets q ∙ ap (λ b. cond b (Some ns) (lookup (is_at (nat_cmp q)) old)) (here e)),
+  λ ne. ap (λ o. unwrap_or o []) (sets q ∙ ap (λ b. cond b (Some ns) (lookup (is_at (nat_cmp q)) old)) (apart ne)),
+)
   where
-    index-same : (us : List Update) (i : ℕ) (v : Update) → i < length us → slice_index_or us i (slice_index_or us i v) ≡ slice_index_or us i v
-    index-same [] i v i_l = absurd (omega arith)
-    index-same (t ∷ us) zero v i_l = refl
-    index-same (t ∷ us) (suc i) v i_l = index-same us i v (omega arith)
+    here : q ≡ k → is_at (nat_cmp k) q ≡ true
+    here e = search (rules, comparing)
 
--- one of them is above m
-pub some-above : (x m : ℕ) (told : List Update) → Any (λ u. (u.who ≡ x) × (m < u.number)) told → (n : ℕ) × HasNumber x n told × (m < n)
-some-above x m told h = (h.1.number, at-number x h.1.number told h.0 h.1 h.2 h.3 (h.4.0, refl), h.4.1)
+    apart : q ≢ k → is_at (nat_cmp k) q ≡ false
+    apart ne = search (rules, comparing)
 
-pub above-some : (x m n : ℕ) (told : List Update) → HasNumber x n told → m < n → Any (λ u. (u.who ≡ x) × (m < u.number)) told
-above-some x m n [] h l = absurd h
-above-some x m n (u ∷ told) (inl h) l = (zero, u, omega arith, refl, (h.0, subst (λ k. m < k) (sym h.1) l))
-above-some x m n (u ∷ told) (inr h) l =
-    let rest : Any (λ v. (v.who ≡ x) × (m < v.number)) told = above-some x m n told h l in
-    (suc rest.0, rest.1, omega arith, rest.3, rest.4)
+-- so what was added to the numbers of one is noted of it
+pub noted-at : (old new : List (ℕ × List ℕ)) (k : ℕ) (before ns : List ℕ) (us : List Update) → told_numbers old k ≡ before → IsAdded before k us ns → ((q : ℕ) → (q ≡ k → told_numbers new q ≡ ns) × (q ≢ k → told_numbers new q ≡ told_numbers old q)) → IsNoted old k us new
+noted-at old new k before ns us was added sets x n = (forth, back)
+  where
+    forth : IsRemembered old x n ⊎ ((x ≡ k) × HasNumber x n us) → IsRemembered new x n
+    forth (inr h) = subst (λ l. Contains l n) (sym ((sets x).0 h.0)) ((added n).1 (inr (subst (λ y. HasNumber y n us) h.0 h.1)))
+    forth (inl h) = elim (cases_eq x k) [
+      | inl e ↦ subst (λ l. Contains l n) (sym ((sets x).0 e)) ((added n).1 (inl (subst (λ l. Contains l n) (ap (told_numbers old) e ∙ was) h)))
+      | inr ne ↦ subst (λ l. Contains l n) (sym ((sets x).1 ne)) h
+    ]
 
-pub none-above : (x m : ℕ) (told : List Update) → (Any (λ u. (u.who ≡ x) × (m < u.number)) told → ⊥) → (n : ℕ) → HasNumber x n told → n ≤ m
-none-above x m told none n k =
-    elim (cases_Bool (nat_lt m n)) [
-      | inl t ↦ absurd (none (above-some x m n told k (ltb-true m n t)))
-      | inr f ↦ ltb-false m n f
+    which : x ≡ k → Contains before n ⊎ HasNumber k n us → IsRemembered old x n ⊎ ((x ≡ k) × HasNumber x n us)
+    which e (inl h) = inl (subst (λ l. Contains l n) (sym (ap (told_numbers old) e ∙ was)) h)
+    which e (inr h) = inr (e, subst (λ y. HasNumber y n us) (sym e) h)
+
+    back : IsRemembered new x n → IsRemembered old x n ⊎ ((x ≡ k) × HasNumber x n us)
+    back h = elim (cases_eq x k) [
+      | inl e ↦ which e ((added n).0 (subst (λ l. Contains l n) ((sets x).0 e) h))
+      | inr ne ↦ inl (subst (λ l. Contains l n) ((sets x).1 ne) h)
     ]
 
 -- By what is remembered and by what was told
 
-module _ (told : List Update) (sent : List Out) (same : Remembers told sent) (sender : ℕ) where
-  say-told : (u : Update) → MaySay (λ x n. HasNumber x n told) sender u → MaySay (HasTold sent) sender u
+module _ (told : List (ℕ × List ℕ)) (sent : List Out) (same : Remembers told sent) (sender : ℕ) where
+  say-told : (u : Update) → MaySay (IsRemembered told) sender u → MaySay (HasTold sent) sender u
   say-told u h = record {
     other = λ ne. (same u.who u.number).1 (h.other ne);
     own = λ e n k. h.own e n ((same sender n).0 k);
   }
 
-  pub say-all : (us : List Update) → All (MaySay (λ x n. HasNumber x n told) sender) us → AllByRecursion (MaySay (HasTold sent) sender) us
-  say-all us h = all-weaker (MaySay (λ x n. HasNumber x n told) sender) (MaySay (HasTold sent) sender) say-told us (all-of (MaySay (λ x n. HasNumber x n told) sender) us h)
+  pub say-all : (us : List Update) → All (MaySay (IsRemembered told) sender) us → AllByRecursion (MaySay (HasTold sent) sender) us
+  say-all us h = all-weaker (MaySay (IsRemembered told) sender) (MaySay (HasTold sent) sender) say-told us (all-of (MaySay (IsRemembered told) sender) us h)
 
-  pub breaks-told : (breach : Breach) (u : Update) → Breaks (λ x n. HasNumber x n told) sender breach u → Breaks (HasTold sent) sender breach u
+  pub breaks-told : (breach : Breach) (u : Update) → Breaks (IsRemembered told) sender breach u → Breaks (HasTold sent) sender breach u
   breaks-told Invented u h = (
     h.0,
     λ k. h.1 ((same u.who u.number).0 k),
@@ -126,82 +123,64 @@ module _ (told : List Update) (sent : List Out) (same : Remembers told sent) (se
   breaks-told WentBack u h = (h.0, (h.1.0, (same sender h.1.0).1 h.1.1, h.1.2))
 
   -- and of the datagram after them
-  pub remembers-more : (out : Out) (new : List Update) → out.datagram.sender ≡ sender → IsNoted told sender out.datagram.updates.items new → Remembers new (sent ++ out ∷ [])
+  pub remembers-more : (out : Out) (new : List (ℕ × List ℕ)) → out.datagram.sender ≡ sender → IsNoted told sender out.datagram.updates.items new → Remembers new (sent ++ out ∷ [])
   remembers-more out new from noted x n = (
     λ k. (noted x n).0 (forth (told-snoc x n sent out k)),
     λ k. told-more x n sent out (back ((noted x n).1 k)),
   )
     where
-      forth : HasTold sent x n ⊎ ((x ≡ out.datagram.sender) × HasNumber x n out.datagram.updates.items) → HasNumber x n told ⊎ ((x ≡ sender) × HasNumber x n out.datagram.updates.items)
+      forth : HasTold sent x n ⊎ ((x ≡ out.datagram.sender) × HasNumber x n out.datagram.updates.items) → IsRemembered told x n ⊎ ((x ≡ sender) × HasNumber x n out.datagram.updates.items)
       forth (inl k) = inl ((same x n).0 k)
       forth (inr k) = inr (k.0 ∙ from, k.1)
 
-      back : HasNumber x n told ⊎ ((x ≡ sender) × HasNumber x n out.datagram.updates.items) → HasTold sent x n ⊎ ((x ≡ out.datagram.sender) × HasNumber x n out.datagram.updates.items)
+      back : IsRemembered told x n ⊎ ((x ≡ sender) × HasNumber x n out.datagram.updates.items) → HasTold sent x n ⊎ ((x ≡ out.datagram.sender) × HasNumber x n out.datagram.updates.items)
       back (inl k) = inl ((same x n).1 k)
       back (inr k) = inr (k.0 ∙ sym from, k.1)
 
--- Noting
+-- Adding
 
--- nothing, where the update is about another
-pub noted-other : (told : List Update) (sender : ℕ) (u : Update) → u.who ≢ sender → IsNoted told sender (u ∷ []) told
-noted-other told sender u ne x n = (forth, inl)
+-- one more number, and then one more update
+pub added-none : (who : ℕ) (ns : List ℕ) → IsAdded ns who [] ns
+added-none who ns n = (inl, none)
   where
-    forth : HasNumber x n told ⊎ ((x ≡ sender) × HasNumber x n (u ∷ [])) → HasNumber x n told
-    forth (inl h) = h
-    forth (inr h) = which h.1
-      where
-        which : ((u.who ≡ x) × (u.number ≡ n)) ⊎ ⊥ → HasNumber x n told
-        which (inl it) = absurd (ne (it.0 ∙ h.0))
-        which (inr none) = absurd none
+    none : Contains ns n ⊎ ⊥ → Contains ns n
+    none (inl h) = h
+    none (inr h) = absurd h
 
--- nothing, where it was told before
-pub noted-again : (told : List Update) (sender : ℕ) (u : Update) → HasNumber sender u.number told → IsNoted told sender (u ∷ []) told
-noted-again told sender u has x n = (forth, inl)
+-- an update of another adds nothing
+pub added-other : (old now : List ℕ) (who : ℕ) (us : List Update) (u : Update) → u.who ≢ who → IsAdded old who us now → IsAdded old who (us ++ u ∷ []) now
+added-other old now who us u ne before n = (λ h. more ((before n).0 h), λ h. (before n).1 (fewer h))
   where
-    forth : HasNumber x n told ⊎ ((x ≡ sender) × HasNumber x n (u ∷ [])) → HasNumber x n told
-    forth (inl h) = h
-    forth (inr h) = which h.1
-      where
-        which : ((u.who ≡ x) × (u.number ≡ n)) ⊎ ⊥ → HasNumber x n told
-        which (inl it) = subst (λ y. HasNumber y n told) (sym h.0) (subst (λ m. HasNumber sender m told) it.1 has)
-        which (inr none) = absurd none
+    more : Contains old n ⊎ HasNumber who n us → Contains old n ⊎ HasNumber who n (us ++ u ∷ [])
+    more (inl h) = inl h
+    more (inr h) = inr (number-before who n us u h)
 
--- the sender tells it of itself
-pub noted-pushed : (told : List Update) (sender : ℕ) (u : Update) → u.who ≡ sender → IsNoted told sender (u ∷ []) (told ++ u ∷ [])
-noted-pushed told sender u own x n = (forth, λ h. back (number-snoc x n told u h))
+    which : HasNumber who n us ⊎ ((u.who ≡ who) × (u.number ≡ n)) → Contains old n ⊎ HasNumber who n us
+    which (inl h) = inr h
+    which (inr h) = absurd (ne h.0)
+
+    fewer : Contains old n ⊎ HasNumber who n (us ++ u ∷ []) → Contains old n ⊎ HasNumber who n us
+    fewer (inl h) = inl h
+    fewer (inr h) = which (number-snoc who n us u h)
+
+pub added-own : (old now new : List ℕ) (who : ℕ) (us : List Update) (u : Update) → u.who ≡ who → IsAdded old who us now → ((n : ℕ) → Contains new n ↔ (Contains now n ⊎ (n ≡ u.number))) → IsAdded old who (us ++ u ∷ []) new
+added-own old now new who us u own before step n = (λ h. more ((step n).0 h), λ h. (step n).1 (fewer h))
   where
-    forth : HasNumber x n told ⊎ ((x ≡ sender) × HasNumber x n (u ∷ [])) → HasNumber x n (told ++ u ∷ [])
-    forth (inl h) = number-before x n told u h
-    forth (inr h) = which h.1
-      where
-        which : ((u.who ≡ x) × (u.number ≡ n)) ⊎ ⊥ → HasNumber x n (told ++ u ∷ [])
-        which (inl it) = number-last x n told u it
-        which (inr none) = absurd none
+    longer : Contains old n ⊎ HasNumber who n us → Contains old n ⊎ HasNumber who n (us ++ u ∷ [])
+    longer (inl h) = inl h
+    longer (inr h) = inr (number-before who n us u h)
 
-    back : HasNumber x n told ⊎ ((u.who ≡ x) × (u.number ≡ n)) → HasNumber x n told ⊎ ((x ≡ sender) × HasNumber x n (u ∷ []))
-    back (inl h) = inl h
-    back (inr it) = inr (sym it.0 ∙ own, inl it)
+    more : Contains now n ⊎ (n ≡ u.number) → Contains old n ⊎ HasNumber who n (us ++ u ∷ [])
+    more (inl h) = longer ((before n).0 h)
+    more (inr e) = inr (number-last who n us u (own, sym e))
 
--- one more update
-pub noted-more : (old now new : List Update) (sender : ℕ) (us : List Update) (u : Update) → IsNoted old sender us now → IsNoted now sender (u ∷ []) new → IsNoted old sender (us ++ u ∷ []) new
-noted-more old now new sender us u before step x n = (forth, λ h. back ((step x n).1 h))
-  where
-    forth : HasNumber x n old ⊎ ((x ≡ sender) × HasNumber x n (us ++ u ∷ [])) → HasNumber x n new
-    forth (inl h) = (step x n).0 (inl ((before x n).0 (inl h)))
-    forth (inr h) = which (number-snoc x n us u h.1)
-      where
-        which : HasNumber x n us ⊎ ((u.who ≡ x) × (u.number ≡ n)) → HasNumber x n new
-        which (inl k) = (step x n).0 (inl ((before x n).0 (inr (h.0, k))))
-        which (inr k) = (step x n).0 (inr (h.0, inl k))
+    which : HasNumber who n us ⊎ ((u.who ≡ who) × (u.number ≡ n)) → Contains now n ⊎ (n ≡ u.number)
+    which (inl h) = inl ((before n).1 (inr h))
+    which (inr h) = inr (sym h.1)
 
-    earlier : HasNumber x n old ⊎ ((x ≡ sender) × HasNumber x n us) → HasNumber x n old ⊎ ((x ≡ sender) × HasNumber x n (us ++ u ∷ []))
-    earlier (inl k) = inl k
-    earlier (inr k) = inr (k.0, number-before x n us u k.1)
-
-    back : HasNumber x n now ⊎ ((x ≡ sender) × HasNumber x n (u ∷ [])) → HasNumber x n old ⊎ ((x ≡ sender) × HasNumber x n (us ++ u ∷ []))
-    back (inl k) = earlier ((before x n).1 k)
-    back (inr (e, inl it)) = inr (e, number-last x n us u it)
-    back (inr (e, inr none)) = absurd none
+    fewer : Contains old n ⊎ HasNumber who n (us ++ u ∷ []) → Contains now n ⊎ (n ≡ u.number)
+    fewer (inl h) = inl ((before n).1 (inl h))
+    fewer (inr h) = which (number-snoc who n us u h)
 
 -- Lists of datagrams
 

@@ -1,6 +1,10 @@
 -- Datagrams of a real group in the order in which they were sent, and what of them breaks the law.
-use Rattle.std.specs.Prelude.{◌≡◌, ◌≢◌, ◌⊎◌, ℕ, ◌<◌, ◌≤◌, List, [], ◌∷◌, ◌++◌, map, take, slice_get}
+use Rattle.std.specs.Prelude.{◌≡◌, ◌≢◌, ◌⊎◌, ◌↔◌, ℕ, ◌<◌, ◌≤◌, List, [], ◌∷◌, ◌++◌}
+use Rattle.std.specs.Prelude.{map, take, slice_get, unwrap_or}
 use Rattle.std.specs.Prelude.{Contains, Some}
+use Rattle.std.specs.BTreeMap.{is_at}
+use Rattle.std.specs.Map.{lookup}
+use Rattle.std.specs.Ordering.{nat_cmp}
 use Rattle.std.specs.List.{AllByRecursion}
 use Rattle.swim_wire.specs.declared.datagram.Datagram.{Datagram}
 use Rattle.swim_wire.specs.declared.update.Update.{Update}
@@ -44,16 +48,30 @@ IsBroken sent d (Broken u breach) =
     Contains d.updates.items u × Breaks (HasTold sent) d.sender breach u
 IsBroken sent d NoMemory = Unit {0}
 
+-- the numbers that this member told of itself, of what is remembered of each
+abbrev pub told_numbers : List (ℕ × List ℕ) → ℕ → List ℕ
+told_numbers told x = unwrap_or (lookup (is_at (nat_cmp x)) told) []
+
+-- it is remembered that x told this number of itself
+abbrev pub IsRemembered : List (ℕ × List ℕ) → ℕ → ℕ → Type 0
+IsRemembered told x n = Contains (told_numbers told x) n
+
 -- what is remembered is what each sender of these told of itself
-abbrev pub Remembers : List Update → List Out → Type 0
+abbrev pub Remembers : List (ℕ × List ℕ) → List Out → Type 0
 Remembers told sent =
-    (x n : ℕ) → (HasTold sent x n → HasNumber x n told) × (HasNumber x n told → HasTold sent x n)
+    (x n : ℕ)
+    → (HasTold sent x n → IsRemembered told x n) × (IsRemembered told x n → HasTold sent x n)
+
+-- these numbers, and what this member tells of itself in these updates
+abbrev pub IsAdded : List ℕ → ℕ → List Update → List ℕ → Type 0
+IsAdded old who updates new =
+    (n : ℕ) → Contains new n ↔ (Contains old n ⊎ HasNumber who n updates)
 
 -- what was remembered, and what this sender tells of itself in these updates
-abbrev pub IsNoted : List Update → ℕ → List Update → List Update → Type 0
+abbrev pub IsNoted : List (ℕ × List ℕ) → ℕ → List Update → List (ℕ × List ℕ) → Type 0
 IsNoted old sender updates new = (x n : ℕ)
-    → (HasNumber x n old ⊎ ((x ≡ sender) × HasNumber x n updates) → HasNumber x n new)
-    × (HasNumber x n new → HasNumber x n old ⊎ ((x ≡ sender) × HasNumber x n updates))
+    → (IsRemembered old x n ⊎ ((x ≡ sender) × HasNumber x n updates) → IsRemembered new x n)
+    × (IsRemembered new x n → IsRemembered old x n ⊎ ((x ≡ sender) × HasNumber x n updates))
 
 -- these datagrams as they were sent, to whomever
 abbrev pub as_sent : List Datagram → List Out

@@ -1,16 +1,16 @@
 //! Looks at the datagrams of a real group, in the order in which they were sent, for the first that breaks the law.
 
-ghost use Rattle.std.specs.Prelude.{◌≡◌, ◌≢◌, ◌+◌, ◌<◌, ◌≤◌, ◌↔◌, ◌++◌, ◌∷◌, [], ℕ, List, length, vec_len, All, Any, Contains, IsTrue, IfSome, IfNone, IfErr, OnOk, OnErr};
-ghost use Rattle.std.specs.Vec.{vec_capacity};
+ghost use Rattle.std.specs.Prelude.{◌≡◌, ◌≤◌, ◌↔◌, ◌++◌, ◌∷◌, [], ℕ, List, All, Contains, IsTrue, IfSome, IfNone, IfErr, OnOk, OnErr};
 ghost use Rattle.swim_member.specs.declared.answer.Out.{Out};
-ghost use Rattle.swim_group.specs.Numbers.{HasNumber};
-ghost use Rattle.swim_group.specs.Checking.{MaySay, Breaks, MayFollow, KeepTheLaw, IsBroken, IsFirstBroken, Remembers, IsNoted, as_sent, datagrams_of};
+ghost use Rattle.swim_group.specs.Checking.{MaySay, Breaks, MayFollow, KeepTheLaw, IsBroken, IsFirstBroken, IsRemembered, Remembers, IsNoted, as_sent, datagrams_of};
 ghost use Rattle.swim_group.specs.Group.{Group, Move, Begins, IsRunOf, after_moves};
 ghost use Rattle.swim_group.specs.declared.checker.CheckFault.TheVariants.{NoMemory};
 
-use std::alloc::Global;
+use crate::numbers::Numbers;
+use std::alloc::{AllocError, Global};
+use std::collections::BTreeMap;
 use std::marker::Model;
-use swim_wire::{Datagram, Endpoint, UPDATES_MAX, Update};
+use swim_wire::{Datagram, Endpoint, Update};
 use thiserror::Error;
 
 /// How an update breaks the law.
@@ -36,72 +36,74 @@ pub enum CheckFault {
     NoMemory,
 }
 
+/// The numbers that each member told of itself.
+type Told = BTreeMap<Endpoint, Numbers>;
+
 /// What the members of a group told of themselves so far.
 #[derive(Drop)]
 pub struct Checker {
-    told: Vec<Update>,
+    told: Told,
+    alloc: Global,
 }
 
 impl Model for Checker {
-    ghost use Rattle.std.specs.Prelude.{List};
-    ghost use Rattle.swim_wire.specs.declared.update.Update.{Update};
+    ghost use Rattle.std.specs.Prelude.{List, ℕ};
 
-    ghost Value = { List Update };
+    ghost Value = { List (ℕ × List ℕ) };
 
-    ghost view = { λ c. c.told.items };
+    ghost view = { λ c. c.told.entries };
 }
 
 /// Whether a member told this number of itself.
-fn has_told(told: &[Update], who: Endpoint, number: u64) -> bool
-    ensures { IsTrue result ↔ Any (λ u. (u.who ≡ who) × (u.number ≡ number)) told.now }
+fn has_told(told: &Told, who: Endpoint, number: u64) -> bool
+    ensures { IsTrue result ↔ IsRemembered told.now.entries who number }
 {
-    told.iter()
-        .any(|update| update.who == who && update.number == number)
+    let Some(numbers) = told.get(&who) else {
+        return false;
+    };
+    numbers.has(number)
 }
 
-/// Whether all that a member told of itself is below this number.
-fn is_above(told: &[Update], who: Endpoint, number: u64) -> bool
-    ensures { IsTrue result ↔ All (λ u. u.who ≡ who → u.number < number) told.now }
+/// The greatest number that a member told of itself.
+fn greatest_told(told: &Told, who: Endpoint) -> Option<u64>
+    ensures some { IfSome result (λ n. IsRemembered told.now.entries who n
+        × ((m : ℕ) → IsRemembered told.now.entries who m → m ≤ n)) }
+    ensures none { IfNone result ((n : ℕ) → IsRemembered told.now.entries who n → ⊥) }
 {
-    told.iter()
-        .all(|update| update.who != who || update.number < number)
-}
-
-/// Whether a member told a number of itself above this one.
-fn is_below(told: &[Update], who: Endpoint, number: u64) -> bool
-    ensures { IsTrue result ↔ Any (λ u. (u.who ≡ who) × (number < u.number)) told.now }
-{
-    told.iter()
-        .any(|update| update.who == who && number < update.number)
+    let Some(numbers) = told.get(&who) else {
+        return None;
+    };
+    numbers.greatest()
 }
 
 /// How it breaks the law that this sender says this, if it does.
-fn breach_of(told: &[Update], sender: Endpoint, update: &Update) -> Option<Breach>
+fn breach_of(told: &Told, sender: Endpoint, update: &Update) -> Option<Breach>
     ensures some { IfSome result (λ breach.
-        Breaks (λ x n. HasNumber x n told.now) sender breach update.now) }
-    ensures none { IfNone result (MaySay (λ x n. HasNumber x n told.now) sender update.now) }
+        Breaks (IsRemembered told.now.entries) sender breach update.now) }
+    ensures none { IfNone result (MaySay (IsRemembered told.now.entries) sender update.now) }
 {
+    let greatest = greatest_told(told, update.who);
     if update.who == sender {
-        if is_below(told, sender, update.number) {
-            return Some(Breach::WentBack);
-        }
-        return None;
+        return match greatest {
+            Some(number) if update.number < number => Some(Breach::WentBack),
+            _ => None,
+        };
     }
     if has_told(told, update.who, update.number) {
         return None;
     }
-    if is_above(told, update.who, update.number) {
-        return Some(Breach::Passed);
+    match greatest {
+        Some(number) if update.number < number => Some(Breach::Invented),
+        _ => Some(Breach::Passed),
     }
-    Some(Breach::Invented)
 }
 
 /// The first of these updates by which this sender breaks the law, if there is one.
-fn first_breach(told: &[Update], sender: Endpoint, updates: &[Update]) -> Option<(Update, Breach)>
+fn first_breach(told: &Told, sender: Endpoint, updates: &[Update]) -> Option<(Update, Breach)>
     ensures some { IfSome result (λ found. Contains updates.now found.0
-        × Breaks (λ x n. HasNumber x n told.now) sender found.1 found.0) }
+        × Breaks (IsRemembered told.now.entries) sender found.1 found.0) }
     ensures none { IfNone result
-        (All (λ u. MaySay (λ x n. HasNumber x n told.now) sender u) updates.now) }
+        (All (λ u. MaySay (IsRemembered told.now.entries) sender u) updates.now) }
 {
     for i in 0..updates.len() {
         let update = &updates[i];
@@ -112,30 +114,24 @@ fn first_breach(told: &[Update], sender: Endpoint, updates: &[Update]) -> Option
     None
 }
 
-/// Remembers what this sender tells of itself in this update, if that is new.
-fn note(told: &mut Vec<Update>, sender: Endpoint, update: &Update)
-    requires { vec_len told.old < vec_capacity told.old }
-    ensures noted { IsNoted told.old.items sender (update.now ∷ []) told.new.items }
-    ensures few { vec_len told.new ≤ vec_len told.old + 1 }
-    ensures memory { vec_capacity told.new ≡ vec_capacity told.old }
+/// Remembers what this sender tells of itself in these updates, each number once. Err: there was no memory, and nothing
+/// more is remembered.
+fn note_all(
+    told: &mut Told,
+    alloc: Global,
+    sender: Endpoint,
+    updates: &[Update],
+) -> Result<(), AllocError>
+    ensures ok { OnOk result (IsNoted told.old.entries sender updates.now told.new.entries) }
+    ensures err { OnErr result (told.new.entries ≡ told.old.entries) }
 {
-    if update.who != sender {
-        return;
+    if let Some(numbers) = told.get_mut(&sender) {
+        return numbers.add_own(sender, updates);
     }
-    if has_told(told, sender, update.number) {
-        return;
-    }
-    told.push_reserved(*update);
-}
-
-/// Remembers what this sender tells of itself in these updates, each number once.
-fn note_all(told: &mut Vec<Update>, sender: Endpoint, updates: &[Update])
-    requires { vec_len told.old + length updates.now ≤ vec_capacity told.old }
-    ensures { IsNoted told.old.items sender updates.now told.new.items }
-{
-    for i in 0..updates.len() {
-        note(told, sender, &updates[i]);
-    }
+    let mut numbers = Numbers::new(alloc);
+    numbers.add_own(sender, updates)?;
+    told.insert(sender, numbers)?;
+    Ok(())
 }
 
 impl Checker {
@@ -144,7 +140,8 @@ impl Checker {
         ensures { Remembers result [] }
     {
         Checker {
-            told: Vec::new(alloc),
+            told: BTreeMap::new(alloc),
+            alloc,
         }
     }
 
@@ -161,14 +158,13 @@ impl Checker {
             → IsBroken sent datagram.now fault) }
         ensures err { OnErr result (self.new ≡ self.old) }
     {
-        if self.told.reserve(UPDATES_MAX).is_err() {
-            return Err(CheckFault::NoMemory);
-        }
         let updates = datagram.updates.as_slice();
         if let Some((update, breach)) = first_breach(&self.told, datagram.sender, updates) {
             return Err(CheckFault::Broken(update, breach));
         }
-        note_all(&mut self.told, datagram.sender, updates);
+        let Ok(()) = note_all(&mut self.told, self.alloc, datagram.sender, updates) else {
+            return Err(CheckFault::NoMemory);
+        };
         Ok(())
     }
 }

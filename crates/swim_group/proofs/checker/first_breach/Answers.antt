@@ -1,15 +1,14 @@
 use Rattle.std.proofs.Common.{rules, All, subst}
-use Rattle.swim_group.specs.Numbers.{HasNumber}
-use Rattle.swim_group.specs.Checking.{MaySay}
+use Rattle.swim_group.specs.Checking.{IsRemembered, MaySay}
 use Rattle.swim_group.proofs.Naming.{all-more}
 use Rattle.swim_group.proofs.Holding.{take-past}
 use Rattle.swim_group.proofs.checker.first_breach.Goals as goal
 
 pub loop-i-preserved : goal.loop-i-preserved
 loop-i-preserved c =
-    let may : MaySay (λ x n. HasNumber x n c.args.told.now) c.args.sender c.index-updates-i.result = search rules in
-    all-more (MaySay (λ x n. HasNumber x n c.args.told.now) c.args.sender) c.args.updates.now c.loop-i.i c.index-updates-i.result c.loop-i-test.true c.index-updates-i.is may c.loop-i.invariant
+    let may : MaySay (IsRemembered c.args.told.now.entries) c.args.sender c.index-updates-i.result = search rules in
+    all-more (MaySay (IsRemembered c.args.told.now.entries) c.args.sender) c.args.updates.now c.loop-i.i c.index-updates-i.result c.loop-i-test.true c.index-updates-i.is may c.loop-i.invariant
 
 pub returns-clause-none : goal.returns-clause-none
 returns-clause-none c =
-    subst (All (MaySay (λ x n. HasNumber x n c.args.told.now) c.args.sender)) (take-past c.args.updates.now c.loop-i.i c.loop-i-test.false) c.loop-i.invariant
+    subst (All (MaySay (IsRemembered c.args.told.now.entries) c.args.sender)) (take-past c.args.updates.now c.loop-i.i c.loop-i-test.false) c.loop-i.invariant
