@@ -1,0 +1,4 @@
+pub mod Accused
+pub mod Stopped
+pub mod Journals
+pub mod Eras

@@ -1,0 +1,4 @@
+pub mod Accusing
+pub mod Stopping
+pub mod Journals
+pub mod Eras
