@@ -8,7 +8,7 @@ use Rattle.swim_simulate.specs.declared.key.Key.TheVariants.{Helpers, Limit, Blo
 use Rattle.swim_simulate.specs.declared.key.Key.TheVariants.{Listed, Rejoin, Loss, Repeats}
 use Rattle.swim_simulate.specs.declared.key.Key.TheVariants.{Delay, Jitter, Kills, RestartAfter}
 use Rattle.swim_simulate.specs.declared.key.Key.TheVariants.{Dropped, Filled, OddClocks, ClockRate}
-use Rattle.swim_simulate.specs.declared.key.Key.TheVariants.{CutMembers, CutAt, CutFor}
+use Rattle.swim_simulate.specs.declared.key.Key.TheVariants.{CutMembers, CutAt, CutFor, Deaf, Mute}
 use Rattle.swim_simulate.specs.declared.key.Key.TheVariants.{Pauses, PauseFor, FailingSyncs}
 use Rattle.swim_wire.specs.declared.update.TheConstants.{MEMBERS_MAX}
 use Rattle.swim_member.specs.declared.settings.TheConstants.{HELPERS_MAX, BLOCK_MAX}
@@ -43,6 +43,8 @@ plan_key ClockRate = codes "clock_rate"
 plan_key CutMembers = codes "cut_members"
 plan_key CutAt = codes "cut_at"
 plan_key CutFor = codes "cut_for"
+plan_key Deaf = codes "deaf"
+plan_key Mute = codes "mute"
 plan_key Pauses = codes "pauses"
 plan_key PauseFor = codes "pause_for"
 plan_key FailingSyncs = codes "failing_syncs"
@@ -52,7 +54,7 @@ abbrev pub plan_keys : List Key
 plan_keys = Members ∷ Minutes ∷ TickMs ∷ Lambda ∷ Period ∷ Direct ∷ Suspect ∷ Forget ∷ Helpers
     ∷ Limit ∷ Block ∷ Rules ∷ Listed ∷ Rejoin ∷ Loss ∷ Repeats ∷ Delay ∷ Jitter ∷ Kills
     ∷ RestartAfter ∷ Dropped ∷ Filled ∷ OddClocks ∷ ClockRate ∷ CutMembers ∷ CutAt ∷ CutFor
-    ∷ Pauses ∷ PauseFor ∷ FailingSyncs ∷ []
+    ∷ Deaf ∷ Mute ∷ Pauses ∷ PauseFor ∷ FailingSyncs ∷ []
 
 -- a default, the least and the greatest
 abbrev pub within : ℕ → ℕ → ℕ → Range
@@ -87,6 +89,8 @@ range_of ClockRate = within 100 10 1000
 range_of CutMembers = within 0 0 MEMBERS_MAX
 range_of CutAt = within 60 0 86400
 range_of CutFor = within 60 0 86400
+range_of Deaf = within 0 0 MEMBERS_MAX
+range_of Mute = within 0 0 MEMBERS_MAX
 range_of Pauses = within 0 0 100
 range_of PauseFor = within 40 0 1000000
 range_of FailingSyncs = within 0 0 100
@@ -120,6 +124,8 @@ rank_of ClockRate = 23
 rank_of CutMembers = 24
 rank_of CutAt = 25
 rank_of CutFor = 26
-rank_of Pauses = 27
-rank_of PauseFor = 28
-rank_of FailingSyncs = 29
+rank_of Deaf = 27
+rank_of Mute = 28
+rank_of Pauses = 29
+rank_of PauseFor = 30
+rank_of FailingSyncs = 31

@@ -2,7 +2,7 @@
 use Rattle.std.specs.Prelude.{◌≡◌, ◌⊎◌, ◌+◌, ◌*◌, ◌%◌, ◌<◌, ◌≤◌, ℕ, List, Bool, nat_lt, cond}
 use Rattle.std.specs.Prelude.{◌||◌}
 use Rattle.swim_simulate.specs.declared.key.Key.TheVariants.{Loss, Repeats, Delay, Jitter}
-use Rattle.swim_simulate.specs.declared.key.Key.TheVariants.{CutMembers, CutAt, CutFor}
+use Rattle.swim_simulate.specs.declared.key.Key.TheVariants.{CutMembers, CutAt, CutFor, Deaf, Mute}
 use Rattle.swim_simulate.specs.declared.network.Draw.{Draw}
 use Rattle.swim_simulate.specs.declared.network.Fate.{Fate}
 use Rattle.swim_simulate.specs.declared.place.TheConstants.{FIRST, PORT}
@@ -17,11 +17,18 @@ endpoint_of place = (FIRST + place) * 65536 + PORT
 abbrev pub IsApart : ℕ → ℕ → ℕ → Type 0
 IsApart count m n = ((m < count) × (count ≤ n)) ⊎ ((n < count) × (count ≤ m))
 
--- in this second the plan has the two members in two parts
+-- nothing comes from this member to that one: they are in two parts,
+-- or that one is among those that hear nobody, or this one among those that nobody hears
+abbrev pub IsNoWay : List ℕ → ℕ → ℕ → Type 0
+IsNoWay plan from to =
+    IsApart (number_at CutMembers plan) from to
+    ⊎ ((to < number_at Deaf plan) ⊎ (from < number_at Mute plan))
+
+-- in this second nothing comes from this member to that one, by the cut of the plan
 pub record IsCutOff (plan : List ℕ) (second from to : ℕ) : Type 0 where
   pub begun : number_at CutAt plan ≤ second
   pub lasts : second < number_at CutAt plan + number_at CutFor plan
-  pub apart : IsApart (number_at CutMembers plan) from to
+  pub no_way : IsNoWay plan from to
 
 -- how many ticks a datagram takes
 abbrev pub delay_of : List ℕ → ℕ → ℕ
@@ -34,7 +41,7 @@ way_of plan draw =
     (ComesTwice (delay_of plan draw.delay) (delay_of plan draw.second))
     (Comes (delay_of plan draw.delay))
 
--- what becomes of a datagram. One to another part never comes
+-- what becomes of a datagram. One that is cut off never comes
 abbrev pub fate_of : List ℕ → Bool → Draw → Fate
 fate_of plan cut draw =
     cond (cut || nat_lt (draw.loss % 100) (number_at Loss plan)) Lost (way_of plan draw)

@@ -7,7 +7,7 @@ use std::fmt;
 use swim_words::{Word, named};
 
 /// How many keys there are.
-pub const KEYS: usize = 30;
+pub const KEYS: usize = 32;
 
 /// A key of a plan.
 #[derive(Clone, Copy, Debug, PartialEq, Eq)]
@@ -66,6 +66,10 @@ pub enum Key {
     CutAt,
     /// Seconds that it lasts.
     CutFor,
+    /// Members that hear nobody while the cut lasts, the first ones.
+    Deaf,
+    /// Members that nobody hears while the cut lasts, the first ones.
+    Mute,
     /// Members that are paused, one after the other.
     Pauses,
     /// Ticks that a pause lasts.
@@ -126,6 +130,8 @@ impl Key {
         Key::CutMembers,
         Key::CutAt,
         Key::CutFor,
+        Key::Deaf,
+        Key::Mute,
         Key::Pauses,
         Key::PauseFor,
         Key::FailingSyncs,
@@ -163,6 +169,8 @@ impl Key {
             Key::CutMembers => within(0, 0, 257),
             Key::CutAt => within(60, 0, 86_400),
             Key::CutFor => within(60, 0, 86_400),
+            Key::Deaf => within(0, 0, 257),
+            Key::Mute => within(0, 0, 257),
             Key::Pauses => within(0, 0, 100),
             Key::PauseFor => within(40, 0, 1_000_000),
             Key::FailingSyncs => within(0, 0, 100),
@@ -202,9 +210,11 @@ impl Key {
             Key::CutMembers => 24,
             Key::CutAt => 25,
             Key::CutFor => 26,
-            Key::Pauses => 27,
-            Key::PauseFor => 28,
-            Key::FailingSyncs => 29,
+            Key::Deaf => 27,
+            Key::Mute => 28,
+            Key::Pauses => 29,
+            Key::PauseFor => 30,
+            Key::FailingSyncs => 31,
         }
     }
 
@@ -250,6 +260,8 @@ impl Word for Key {
             Key::CutMembers => "cut_members",
             Key::CutAt => "cut_at",
             Key::CutFor => "cut_for",
+            Key::Deaf => "deaf",
+            Key::Mute => "mute",
             Key::Pauses => "pauses",
             Key::PauseFor => "pause_for",
             Key::FailingSyncs => "failing_syncs",

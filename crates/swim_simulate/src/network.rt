@@ -1,7 +1,7 @@
 //! The network: what becomes of a datagram, by the plan and by what is drawn for it.
 
 ghost use Rattle.std.specs.Prelude.{◌≡◌, ◌+◌, ◌*◌, ◌↔◌, length, IsTrue};
-ghost use Rattle.swim_simulate.specs.Network.{IsApart, IsCutOff, delay_of, fate_of};
+ghost use Rattle.swim_simulate.specs.Network.{IsApart, IsCutOff, IsNoWay, delay_of, fate_of};
 
 use crate::key::Key;
 use crate::plan::Plan;
@@ -45,14 +45,24 @@ fn is_apart(count: u64, m: u64, n: u64) -> bool
     (m < count && count <= n) || (n < count && count <= m)
 }
 
-/// Whether in this second the plan has the two members in two parts.
+/// Whether nothing comes from the one to the other while the cut lasts: they are in two parts, that one hears nobody, or nobody
+/// hears this one.
+fn is_no_way(plan: &Plan, from: u64, to: u64) -> bool
+    ensures { IsTrue result ↔ IsNoWay plan.now from to }
+{
+    is_apart(plan.get(Key::CutMembers), from, to)
+        || to < plan.get(Key::Deaf)
+        || from < plan.get(Key::Mute)
+}
+
+/// Whether in this second nothing comes from the one to the other, by the cut of the plan.
 pub fn is_cut(plan: &Plan, second: u64, from: usize, to: usize) -> bool
     ensures { IsTrue result ↔ IsCutOff plan.now second from to }
 {
     let begin = plan.get(Key::CutAt);
     begin <= second
         && second < begin + plan.get(Key::CutFor)
-        && is_apart(plan.get(Key::CutMembers), from as u64, to as u64)
+        && is_no_way(plan, from as u64, to as u64)
 }
 
 /// How many ticks a datagram takes.
@@ -62,7 +72,7 @@ fn delay(plan: &Plan, word: u32) -> u64
     plan.get(Key::Delay) + u64::from(word) % (plan.get(Key::Jitter) + 1)
 }
 
-/// What becomes of a datagram. One to another part never comes.
+/// What becomes of a datagram. One that is cut off never comes.
 pub fn fate_by(plan: &Plan, is_cut: bool, draw: Draw) -> Fate
     ensures { result ≡ fate_of plan.now is_cut draw }
 {

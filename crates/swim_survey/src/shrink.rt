@@ -11,13 +11,15 @@ const ROUNDS: u64 = 3;
 const HALVES: u64 = 32;
 
 /// The keys whose numbers are made smaller, those first that make a run short.
-const SHRUNK: [Key; 15] = [
+const SHRUNK: [Key; 17] = [
     Key::Minutes,
     Key::Members,
     Key::Kills,
     Key::Pauses,
     Key::CutMembers,
     Key::CutFor,
+    Key::Deaf,
+    Key::Mute,
     Key::OddClocks,
     Key::Repeats,
     Key::Loss,
