@@ -7,6 +7,8 @@ mod charts;
 #[cfg(test)]
 mod check;
 #[cfg(test)]
+mod detect;
+#[cfg(test)]
 mod group;
 #[cfg(test)]
 mod same;
