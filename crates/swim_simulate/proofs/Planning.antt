@@ -1,10 +1,9 @@
 -- Numbers of keys, filled in one after the other.
-use Rattle.std.proofs.Common.{◌≡◌, ◌≢◌, ℕ, ◌+◌, ◌<◌, ◌≤◌, ◌||◌, refl, sym, ◌∙◌, ap, subst, zero-add, cond, Bool, true, false, nat_lt, List, [], ◌∷◌, length, map, slice_index_or, slice_set, Option, Some, None, option_and_then, arith}
+use Rattle.std.proofs.Common.{◌≡◌, ◌≢◌, ℕ, ◌+◌, ◌<◌, ◌||◌, refl, sym, ◌∙◌, ap, subst, zero-add, cond, Bool, true, false, nat_lt, List, length, slice_index_or, slice_set, Option, Some, None, option_and_then, arith}
 use Rattle.std.proofs.lemmas.Bool.{ltb-false}
 use Rattle.std.proofs.lemmas.List.{get_or-map, get_or-set_same, get_or-set_other}
 use Rattle.std.proofs.Math.ListN.{length-set}
 use Rattle.std.proofs.lemmas.List.FromFn.{get_or-range_with_len}
-use Rattle.std.specs.List.{range_with_len}
 use borrow.Author.Count.{below_more}
 use Rattle.toml.specs.Data.{Data, Members as Table, as_integer}
 use Rattle.swim_settings.specs.Says.{natural_of}

@@ -1,5 +1,5 @@
 -- The network.
-use Rattle.std.specs.Prelude.{◌≡◌, ◌⊎◌, ◌+◌, ◌*◌, ◌%◌, ◌<◌, ◌≤◌, ℕ, List, Bool, nat_lt, cond}
+use Rattle.std.specs.Prelude.{◌⊎◌, ◌+◌, ◌*◌, ◌%◌, ◌<◌, ◌≤◌, ℕ, List, Bool, nat_lt, cond}
 use Rattle.std.specs.Prelude.{◌||◌}
 use Rattle.swim_simulate.specs.declared.key.Key.TheVariants.{Loss, Repeats, Delay, Jitter}
 use Rattle.swim_simulate.specs.declared.key.Key.TheVariants.{CutMembers, CutAt, CutFor, Deaf, Mute}

@@ -1,4 +1,4 @@
-use Rattle.std.proofs.Common.{◌≡◌, ℕ, ap, arith}
+use Rattle.std.proofs.Common.{◌≡◌, ℕ, ap}
 use Rattle.swim_simulate.specs.declared.key.Key.{Key}
 use Rattle.swim_simulate.specs.Keys.{range_of}
 use Rattle.swim_simulate.proofs.Planning.{fill-next}
