@@ -12,6 +12,7 @@ from lib.processes import PLACE, Ran, start, swim
 from lib.trials import PATIENCE, expect, expect_true, wait_for
 
 PORTS = range(15000, 32000)
+ERA_FULL = "error 5 era full\n"
 PAGE_ROWS = 30  # as many rows as one answer to `members` has at most
 COUNTERS = (
     "eras number_saves peer_saves peer_saves_failed entries ticks joins datagrams_received receive_failures datagrams_sent datagrams_lost refutations"
@@ -107,11 +108,16 @@ class Member:
         """What it holds of each member, itself among them, by the endpoint: the kind and the number."""
         rows, line = {}, "members"
         while line:
-            answer = self.ask(line).splitlines()
+            answer = wait_for(f"{line} finds an era that is not full", lambda line=line: self.unless_full(line)).splitlines()
             expect_true(answer and answer[0] == f"ok {len(answer) - 1}", f"{line} answers {answer}")
             rows |= {who: (kind, int(number)) for kind, who, number in map(str.split, answer[1:])}
             line = f"members {answer[-1].split()[1]}" if len(answer) > PAGE_ROWS else None
         return rows
+
+    def unless_full(self, line):
+        """The answer; none where the era was full, which says to send the line again."""
+        answer = self.ask(line)
+        return None if answer == ERA_FULL else answer
 
     def holds(self, other):
         return self.rows().get(str(other.me), ("nothing", 0))

@@ -3,7 +3,7 @@ use Rattle.std.proofs.Common.{◌≡◌, ◌≢◌, ◌⊎◌, inl, inr, ℕ, �
 use Rattle.std.proofs.lemmas.List.{append-nil}
 use Rattle.swim_wire.specs.declared.update.Update.{Update}
 use Rattle.swim_wire.specs.declared.update.UpdateKind.TheVariants.{Confirm}
-use Rattle.std.specs.Prelude.{Option, Some, None, Result, Ok, Err, IfSome, IfOk, IfErr}
+use Rattle.std.specs.Prelude.{Option, Some, None, Result, Ok, Err, IfOk, IfErr, OnOk}
 use Rattle.swim_member.specs.declared.event.Event.{Event}
 use Rattle.swim_member.specs.declared.event.Event.TheVariants.{Join, Members}
 use Rattle.std.proofs.lemmas.Bool.Decides.{nat_tests}
@@ -16,7 +16,8 @@ use Rattle.swim_node.specs.declared.entry.Reply.{Reply}
 use Rattle.swim_shell.specs.declared.caller.Refusal.{Refusal}
 use Rattle.swim_shell.specs.Calls.{CallerView, events_of, NewCall, Refuses}
 use Rattle.swim_shell.specs.Joins.{JoinerView, IsNext, IsPeer, IsEligibleIn, IsDrawnFrom, IsAsked, AreAsked, Asks, AsksInVain, pages_of, AreWhole, AreFull, AreConsecutive, AreAllPages, AreLooks, Looks, LooksAll, LooksInVain, ReadsPage, place_after}
-use Rattle.swim_shell.specs.Turns.{JoinsIf}
+use Rattle.swim_shell.specs.declared.paces.Moment.{Moment}
+use Rattle.swim_shell.specs.Turns.{JoinsIf, JoinsPeer, LooksRound, TellsDue, after_look, joined_drawn, joined_drawn_by}
 use Rattle.swim_shell.proofs.News.{assoc, events_of-append, no_gain, more_gains}
 
 -- Rows.
@@ -58,80 +59,116 @@ looks_asked j rows (e ∷ es) l = (subst (λ w. IsAsked j rows w) (sym l.0.1) tt
 pub asks_nothing : (j : JoinerView) (p : CallerView) → Asks j p p
 asks_nothing j p = record { entries = []; gains = no_gain p; asked = sym (append-nil p.asked); are_asked = tt }
 
-asks_one : (j : JoinerView) (p q : CallerView) (x : ℕ) (reply : Reply) → IsPeer j.peers.list x ⊎ IsDrawnFrom j.me [] x → NewCall p q (Join x) reply → Asks j p q
+asks_one : (j : JoinerView) (p q : CallerView) (x : ℕ) (reply : Reply) → IsAsked j j.looked (Join x) → NewCall p q (Join x) reply → Asks j p q
 asks_one j p q x reply known n = record {
   entries = n.entry ∷ [];
   gains = n.gains;
   asked = n.asked ∙ ap (λ e. p.asked ++ e ∷ []) (sym n.event_is);
-  are_asked = (subst (λ w. IsAsked j [] w) (sym n.event_is) known, tt);
+  are_asked = (subst (λ w. IsAsked j j.looked w) (sym n.event_is) known, tt);
 }
+
+one_in_vain : (limit : ℕ) (why : Refusal) (j : JoinerView) (p q : CallerView) (x : ℕ) → ((rows : List Update) → IsAsked j rows (Join x)) → Refuses limit why p q (Join x) → AsksInVain limit why j p q
+one_in_vain limit why j p q x known refused = let asks = asks_nothing j p in record { between = p; asks = asks; last = Join x; is_asked = known (j.looked ++ pages_of asks.entries); refused = refused }
 
 -- the peer that comes next
 pub asks_next : (j : JoinerView) (p q : CallerView) (x : ℕ) (reply : Reply) → IsNext j.peers x → NewCall p q (Join x) reply → Asks j p q
 asks_next j p q x reply is n = asks_one j p q x reply (inl (j.peers.next, is)) n
 
 pub asks_next_in_vain : (limit : ℕ) (why : Refusal) (j : JoinerView) (p q : CallerView) (x : ℕ) → IsNext j.peers x → Refuses limit why p q (Join x) → AsksInVain limit why j p q
-asks_next_in_vain limit why j p q x is refused = record { between = p; asks = asks_nothing j p; last = Join x; is_asked = inl (j.peers.next, is); refused = refused }
+asks_next_in_vain limit why j p q x is refused = one_in_vain limit why j p q x (λ rows. inl (j.peers.next, is)) refused
 
-pub asks_looks : (j : JoinerView) (p q : CallerView) (rows : List Update) → Looks p q rows → Asks j p q
-asks_looks j p q rows l = record { entries = l.entries; gains = l.gains; asked = l.asked; are_asked = looks_asked j [] l.entries l.looks }
+-- the drawn member whose join is due
+pub asks_drawn : (j : JoinerView) (p q : CallerView) (x : ℕ) (reply : Reply) → j.drawn ≡ Some x → NewCall p q (Join x) reply → Asks j p q
+asks_drawn j p q x reply is n = asks_one j p q x reply (inr (inr is)) n
 
-pub looks_in_vain : (limit : ℕ) (why : Refusal) (j : JoinerView) (p q : CallerView) → LooksInVain limit why p q → AsksInVain limit why j p q
-looks_in_vain limit why j p q l = record { between = l.between; asks = asks_looks j p l.between l.rows l.looks; last = Members (place_after l.rows); is_asked = tt; refused = l.refused }
+pub asks_drawn_in_vain : (limit : ℕ) (why : Refusal) (j : JoinerView) (p q : CallerView) (x : ℕ) → j.drawn ≡ Some x → Refuses limit why p q (Join x) → AsksInVain limit why j p q
+asks_drawn_in_vain limit why j p q x is refused = one_in_vain limit why j p q x (λ rows. inr (inr is)) refused
 
--- a peer of the list, or another member that a page showed
-shown : (j : JoinerView) (p q : CallerView) (rows : List Update) (x : ℕ) → (l : Looks p q rows) → IsNext j.peers x ⊎ IsDrawnFrom j.me rows x → IsPeer j.peers.list x ⊎ IsDrawnFrom j.me (pages_of l.entries) x
-shown j p q rows x l (inl a) = inl (j.peers.next, a)
-shown j p q rows x l (inr b) = inr (l.read x b.0, b.1)
+-- a look
+pub asks_looks : (j : JoinerView) (p q : CallerView) (rows : List Update) → Looks j.looked p q rows → Asks j p q
+asks_looks j p q rows l = record { entries = l.entries; gains = l.gains; asked = l.asked; are_asked = looks_asked j j.looked l.entries l.looks }
+
+pub looks_in_vain : (limit : ℕ) (why : Refusal) (j : JoinerView) (p q : CallerView) (rows : List Update) → LooksInVain limit why j.looked p q rows → AsksInVain limit why j p q
+looks_in_vain limit why j p q rows l = record { between = l.between; asks = asks_looks j p l.between rows l.looks; last = Members (place_after rows); is_asked = tt; refused = l.refused }
+
+-- who may be joined after a look: the drawn member whose join is due, the peer that comes next, or another member of the rows
+abbrev pub IsKnown : JoinerView → List Update → ℕ → Type 0
+IsKnown j rows x = (j.drawn ≡ Some x) ⊎ (IsNext j.peers x ⊎ IsDrawnFrom j.me rows x)
+
+seen_or_read : (j : JoinerView) (p q : CallerView) (rows : List Update) (x : ℕ) → (l : Looks j.looked p q rows) → IsEligibleIn rows x → IsEligibleIn (j.looked ++ pages_of l.entries) x
+seen_or_read j p q rows x l is = elim (l.read x is) [ inl a ↦ eligible-left j.looked (pages_of l.entries) x a | inr b ↦ eligible-right j.looked (pages_of l.entries) x b ]
+
+shown : (j : JoinerView) (p q : CallerView) (rows : List Update) (x : ℕ) → (l : Looks j.looked p q rows) → IsKnown j rows x → IsAsked j (j.looked ++ pages_of l.entries) (Join x)
+shown j p q rows x l (inl due) = inr (inr due)
+shown j p q rows x l (inr (inl next)) = inl (j.peers.next, next)
+shown j p q rows x l (inr (inr drawn)) = inr (inl (seen_or_read j p q rows x l drawn.0, drawn.1))
 
 -- a look, and a join that was answered or refused
-asks_drawn : (j : JoinerView) (p q r : CallerView) (rows : List Update) (x : ℕ) (reply : Reply) → Looks p q rows → IsNext j.peers x ⊎ IsDrawnFrom j.me rows x → NewCall q r (Join x) reply → Asks j p r
-asks_drawn j p q r rows x reply l known n = record {
+look_joins : (j : JoinerView) (p q r : CallerView) (rows : List Update) (x : ℕ) (reply : Reply) → Looks j.looked p q rows → IsKnown j rows x → NewCall q r (Join x) reply → Asks j p r
+look_joins j p q r rows x reply l known n = record {
   entries = l.entries ++ n.entry ∷ [];
   gains = more_gains p q r l.entries (n.entry ∷ []) l.gains n.gains;
   asked = n.asked ∙ (ap (λ w. w ++ Join x ∷ []) l.asked ∙ (assoc p.asked (events_of l.entries) (Join x ∷ []) ∙ ap (λ w. p.asked ++ w) (ap (λ e. events_of l.entries ++ e ∷ []) (sym n.event_is) ∙ sym (events_of-append l.entries (n.entry ∷ [])))));
-  are_asked = asked_append j [] l.entries (n.entry ∷ []) (looks_asked j [] l.entries l.looks) (subst (λ w. IsAsked j (pages_of l.entries) w) (sym n.event_is) (shown j p q rows x l known), tt);
+  are_asked = asked_append j j.looked l.entries (n.entry ∷ []) (looks_asked j j.looked l.entries l.looks) (subst (λ w. IsAsked j (j.looked ++ pages_of l.entries) w) (sym n.event_is) (shown j p q rows x l known), tt);
 }
 
-pub asks_drawn_if : (j : JoinerView) (p q r : CallerView) (rows : List Update) (peer : Option ℕ) → Looks p q rows → IfSome peer (λ x. IsNext j.peers x ⊎ IsDrawnFrom j.me rows x) → JoinsIf q r peer → Asks j p r
-asks_drawn_if j p q r rows None l known same = subst (λ w. Asks j p w) (sym same) (asks_looks j p q rows l)
-asks_drawn_if j p q r rows (Some x) l known joins = asks_drawn j p q r rows x joins.0 l known joins.1
-
-drawn_in_vain : (limit : ℕ) (why : Refusal) (j : JoinerView) (p q r : CallerView) (rows : List Update) (x : ℕ) → Looks p q rows → IsNext j.peers x ⊎ IsDrawnFrom j.me rows x → Refuses limit why q r (Join x) → AsksInVain limit why j p r
+look_in_vain : (limit : ℕ) (why : Refusal) (j : JoinerView) (p q r : CallerView) (rows : List Update) (x : ℕ) → Looks j.looked p q rows → IsKnown j rows x → Refuses limit why q r (Join x) → AsksInVain limit why j p r
 unfolding asks_looks
-drawn_in_vain limit why j p q r rows x l known refused = record { between = q; asks = asks_looks j p q rows l; last = Join x; is_asked = shown j p q rows x l known; refused = refused }
+look_in_vain limit why j p q r rows x l known refused = record { between = q; asks = asks_looks j p q rows l; last = Join x; is_asked = shown j p q rows x l known; refused = refused }
 
-pub drawn_if_in_vain : (limit : ℕ) (why : Refusal) (j : JoinerView) (p q r : CallerView) (rows : List Update) (peer : Option ℕ) → Looks p q rows → IfSome peer (λ x. IsNext j.peers x ⊎ IsDrawnFrom j.me rows x) → (last : ℕ) × (peer ≡ Some last) × Refuses limit why q r (Join last) → AsksInVain limit why j p r
-drawn_if_in_vain limit why j p q r rows None l known (last, is, refused) = absurd (cc)
-drawn_if_in_vain limit why j p q r rows (Some x) l known (last, is, refused) =
-    let same : last ≡ x = cc in
-    drawn_in_vain limit why j p q r rows x l known (subst (λ y. Refuses limit why q r (Join y)) same refused)
+-- the joiner whose look is over is the same but for the rows
+pub looked_then : (result : Result (Unit {0}) Refusal) (j i : JoinerView) (p q r : CallerView) (x : ℕ) → LooksAll j.looked p q i.looked → i ≡ record j { looked = i.looked } → IsKnown i i.looked x → OnOk result (JoinsPeer q r x) → IfOk result (λ _. Asks j p r)
+looked_then (Ok u) j i p q r x l same known joins = look_joins j p q r i.looked x joins.0 l.looks (subst (λ w. IsKnown w i.looked x) same known) joins.1
+looked_then (Err why) j i p q r x l same known joins = tt
 
--- Of another joiner that has the same peers and is of the same member.
+pub looked_in_vain : (result : Result (Unit {0}) Refusal) (limit : ℕ) (j i : JoinerView) (p q r : CallerView) (x : ℕ) → LooksAll j.looked p q i.looked → i ≡ record j { looked = i.looked } → IsKnown i i.looked x → IfErr result (λ why. Refuses limit why q r (Join x)) → IfErr result (λ why. AsksInVain limit why j p r)
+looked_in_vain (Ok u) limit j i p q r x l same known refused = tt
+looked_in_vain (Err why) limit j i p q r x l same known refused = look_in_vain limit why j p q r i.looked x l.looks (subst (λ w. IsKnown w i.looked x) same known) refused
 
-pub is_asked_same : (j k : JoinerView) (rows : List Update) (e : Event) → k.me ≡ j.me → k.peers.list ≡ j.peers.list → IsAsked k rows e → IsAsked j rows e
-is_asked_same j k rows (Members after) m l is = tt
-is_asked_same j k rows (Join x) m l (inl is) = inl (subst (λ peers. IsPeer peers x) l is)
-is_asked_same j k rows (Join x) m l (inr is) = inr (subst (λ me. IsDrawnFrom me rows x) m is)
-is_asked_same j k rows _ m l is = absurd is
+told_then : (j i k : JoinerView) (at : Moment) → i ≡ record j { looked = i.looked } → TellsDue (after_look i at i.looked) at i.looked k → TellsDue (after_look j at i.looked) at i.looked k
+told_then j i k at same told = subst (λ w. TellsDue (after_look w at i.looked) at i.looked k) same told
 
-pub are_asked_same : (j k : JoinerView) (rows : List Update) (es : List Entry) → k.me ≡ j.me → k.peers.list ≡ j.peers.list → AreAsked k rows es → AreAsked j rows es
-are_asked_same j k rows [] m l a = tt
-are_asked_same j k rows (e ∷ es) m l a = (is_asked_same j k rows e.event m l a.0, are_asked_same j k (rows ++ e.reply.page.items) es m l a.1)
+-- a look round, with a join and without one
+pub round_joined : (result : Result (Unit {0}) Refusal) (j i k m : JoinerView) (at : Moment) (p q r : CallerView) (x : ℕ) → LooksAll j.looked p q i.looked → i ≡ record j { looked = i.looked } → TellsDue (after_look i at i.looked) at i.looked k → k.drawn ≡ Some x → OnOk result (JoinsPeer q r x) → OnOk result (m ≡ joined_drawn at.now k) → OnOk result (LooksRound j at p m r)
+round_joined (Ok u) j i k m at p q r x l same told is joins over = record { rows = i.looked; between = q; looks = l; telling = k; told = told_then j i k at same told; joins = subst (JoinsIf q r) (sym is) joins; over = over }
+round_joined (Err why) j i k m at p q r x l same told is joins over = tt
 
-abbrev pub asks_of : (j k : JoinerView) (p q : CallerView) → k.me ≡ j.me → k.peers.list ≡ j.peers.list → Asks k p q → Asks j p q
-asks_of j k p q m l a = record { entries = a.entries; gains = a.gains; asked = a.asked; are_asked = are_asked_same j k [] a.entries m l a.are_asked }
+pub round_alone : (j i k : JoinerView) (at : Moment) (p q : CallerView) → LooksAll j.looked p q i.looked → i ≡ record j { looked = i.looked } → TellsDue (after_look i at i.looked) at i.looked k → k.drawn ≡ None → LooksRound j at p k q
+round_alone j i k at p q l same told is = record { rows = i.looked; between = q; looks = l; telling = k; told = told_then j i k at same told; joins = subst (JoinsIf q q) (sym is) refl; over = sym (ap (λ d. joined_drawn_by d at.now k) is) }
 
-pub asks_same : (result : Result (Unit {0}) Refusal) (j k : JoinerView) (p q : CallerView) → k.me ≡ j.me → k.peers.list ≡ j.peers.list → IfOk result (λ _. Asks k p q) → IfOk result (λ _. Asks j p q)
-asks_same (Ok u) j k p q m l a = asks_of j k p q m l a
-asks_same (Err why) j k p q m l a = tt
+-- Of another joiner that is of the same member, and has the same peers, rows and drawn member.
 
-abbrev pub in_vain_of : (limit : ℕ) (why : Refusal) (j k : JoinerView) (p q : CallerView) → k.me ≡ j.me → k.peers.list ≡ j.peers.list → AsksInVain limit why k p q → AsksInVain limit why j p q
-in_vain_of limit why j k p q m l a = record { between = a.between; asks = asks_of j k p a.between m l a.asks; last = a.last; is_asked = is_asked_same j k (pages_of a.asks.entries) a.last m l a.is_asked; refused = a.refused }
+pub record IsAlike (j k : JoinerView) : Type 0 where
+  pub me : k.me ≡ j.me
+  pub list : k.peers.list ≡ j.peers.list
+  pub looked : k.looked ≡ j.looked
+  pub drawn : k.drawn ≡ j.drawn
 
-pub in_vain_same : (result : Result (Unit {0}) Refusal) (limit : ℕ) (j k : JoinerView) (p q : CallerView) → k.me ≡ j.me → k.peers.list ≡ j.peers.list → IfErr result (λ why. AsksInVain limit why k p q) → IfErr result (λ why. AsksInVain limit why j p q)
-in_vain_same (Ok u) limit j k p q m l a = tt
-in_vain_same (Err why) limit j k p q m l a = in_vain_of limit why j k p q m l a
+is_asked_same : (j k : JoinerView) (rows : List Update) (e : Event) → IsAlike j k → IsAsked k rows e → IsAsked j rows e
+is_asked_same j k rows (Members after) s is = tt
+is_asked_same j k rows (Join x) s (inl is) = inl (subst (λ peers. IsPeer peers x) s.list is)
+is_asked_same j k rows (Join x) s (inr (inl is)) = inr (inl (subst (λ me. IsDrawnFrom me rows x) s.me is))
+is_asked_same j k rows (Join x) s (inr (inr is)) = inr (inr (sym s.drawn ∙ is))
+is_asked_same j k rows _ s is = absurd is
+
+are_asked_same : (j k : JoinerView) (rows : List Update) (es : List Entry) → IsAlike j k → AreAsked k rows es → AreAsked j rows es
+are_asked_same j k rows [] s a = tt
+are_asked_same j k rows (e ∷ es) s a = (is_asked_same j k rows e.event s a.0, are_asked_same j k (rows ++ e.reply.page.items) es s a.1)
+
+asks_of : (j k : JoinerView) (p q : CallerView) → IsAlike j k → Asks k p q → Asks j p q
+asks_of j k p q s a = record { entries = a.entries; gains = a.gains; asked = a.asked; are_asked = subst (λ w. AreAsked j w a.entries) s.looked (are_asked_same j k k.looked a.entries s a.are_asked) }
+
+in_vain_of : (limit : ℕ) (why : Refusal) (j k : JoinerView) (p q : CallerView) → IsAlike j k → AsksInVain limit why k p q → AsksInVain limit why j p q
+unfolding asks_of
+in_vain_of limit why j k p q s a = record { between = a.between; asks = asks_of j k p a.between s a.asks; last = a.last; is_asked = subst (λ w. IsAsked j (w ++ pages_of a.asks.entries) a.last) s.looked (is_asked_same j k (k.looked ++ pages_of a.asks.entries) a.last s a.is_asked); refused = a.refused }
+
+pub asks_same : (result : Result (Unit {0}) Refusal) (j k : JoinerView) (p q : CallerView) → IsAlike j k → IfOk result (λ _. Asks k p q) → IfOk result (λ _. Asks j p q)
+asks_same (Ok u) j k p q s a = asks_of j k p q s a
+asks_same (Err why) j k p q s a = tt
+
+pub in_vain_same : (result : Result (Unit {0}) Refusal) (limit : ℕ) (j k : JoinerView) (p q : CallerView) → IsAlike j k → IfErr result (λ why. AsksInVain limit why k p q) → IfErr result (λ why. AsksInVain limit why j p q)
+in_vain_same (Ok u) limit j k p q s a = tt
+in_vain_same (Err why) limit j k p q s a = in_vain_of limit why j k p q s a
 
 -- Pages.
 
@@ -155,21 +192,21 @@ all_added old rows new page i row added so_far more fits next whole =
 
 -- Looks.
 
--- so many full pages so far
-pub record LooksSoFar (p q : CallerView) (rows : List Update) (pages : ℕ) : Type 0 where
-  pub looks : Looks p q rows
+-- so many full pages so far, after the rows that were seen
+pub record LooksSoFar (seen : List Update) (p q : CallerView) (rows : List Update) (pages : ℕ) : Type 0 where
+  pub looks : Looks seen p q rows
   pub full : AreFull looks.entries
   pub count : length looks.entries ≡ pages
 
-pub looks_none : (p : CallerView) → LooksSoFar p p [] 0
-looks_none p = record {
-  looks = record { entries = []; gains = no_gain p; asked = sym (append-nil p.asked); looks = tt; read = λ x is. absurd is; all = λ _. (refl, tt) };
+pub looks_none : (seen : List Update) (p : CallerView) → LooksSoFar seen p p seen 0
+looks_none seen p = record {
+  looks = record { entries = []; gains = no_gain p; asked = sym (append-nil p.asked); looks = tt; read = λ x is. inl is; all = λ _. (sym (append-nil seen), tt) };
   full = tt;
   count = refl;
 }
 
-pub looks_refused : (limit : ℕ) (why : Refusal) (p q r : CallerView) (rows : List Update) (pages : ℕ) → LooksSoFar p q rows pages → pages < PAGES_MAX → Refuses limit why q r (Members (place_after rows)) → LooksInVain limit why p r
-looks_refused limit why p q r rows pages l less refused = record { between = q; rows = rows; looks = l.looks; full = l.full; fewer = omega (arith, l.count, less); refused = refused }
+pub looks_refused : (limit : ℕ) (why : Refusal) (seen : List Update) (p q r : CallerView) (rows : List Update) (pages : ℕ) → LooksSoFar seen p q rows pages → pages < PAGES_MAX → Refuses limit why q r (Members (place_after rows)) → LooksInVain limit why seen p r rows
+looks_refused limit why seen p q r rows pages l less refused = record { between = q; looks = l.looks; full = l.full; fewer = omega (arith, l.count, less); refused = refused }
 
 looks_append : (es : List Entry) (e : Entry) (after : ℕ) → AreLooks es → e.event ≡ Members after → AreLooks (es ++ e ∷ [])
 looks_append [] e after l is = ((after, is), tt)
@@ -187,23 +224,36 @@ pages_append : (es : List Entry) (e : Entry) → pages_of (es ++ e ∷ []) ≡ p
 pages_append [] e = append-nil e.reply.page.items
 pages_append (f ∷ es) e = ap (λ w. f.reply.page.items ++ w) (pages_append es e) ∙ sym (assoc f.reply.page.items (pages_of es) e.reply.page.items)
 
--- the rows of one page more, where all are in order
-all_more : (es : List Entry) (e : Entry) (rows new : List Update) → (AreWhole (pages_of es) → (rows ≡ pages_of es) × AreConsecutive [] es) → e.event ≡ Members (place_after rows) → (AreWhole (rows ++ e.reply.page.items) → new ≡ rows ++ e.reply.page.items) → AreWhole (pages_of (es ++ e ∷ [])) → (new ≡ pages_of (es ++ e ∷ [])) × AreConsecutive [] (es ++ e ∷ [])
-all_more es e rows new so_far is add whole =
-    let all : AreWhole (pages_of es ++ e.reply.page.items) = subst AreWhole (pages_append es e) whole in
-    let before = so_far (whole-left (pages_of es) e.reply.page.items all) in
-    let same : rows ≡ pages_of es = before.0 in
-    let now : AreWhole (rows ++ e.reply.page.items) = subst (λ w. AreWhole (w ++ e.reply.page.items)) (sym same) all in
-    (add now ∙ (ap (λ w. w ++ e.reply.page.items) same ∙ sym (pages_append es e)), turn_append [] es e before.1 (is ∙ ap (λ w. Members (place_after w)) same))
+pages_after : (seen : List Update) (es : List Entry) (e : Entry) → seen ++ pages_of (es ++ e ∷ []) ≡ (seen ++ pages_of es) ++ e.reply.page.items
+pages_after seen es e = ap (λ w. seen ++ w) (pages_append es e) ∙ sym (assoc seen (pages_of es) e.reply.page.items)
 
-abbrev looks_more : (p q r : CallerView) (rows more : List Update) (full : Bool) → Looks p q rows → ReadsPage q r rows more full → Looks p r more
-looks_more p q r rows more full l n = let after = place_after rows in record {
+-- the rows of one page more, where all are in order
+all_more : (seen : List Update) (es : List Entry) (e : Entry) (rows new : List Update) → (AreWhole (seen ++ pages_of es) → (rows ≡ seen ++ pages_of es) × AreConsecutive seen es) → e.event ≡ Members (place_after rows) → (AreWhole (rows ++ e.reply.page.items) → new ≡ rows ++ e.reply.page.items) → AreWhole (seen ++ pages_of (es ++ e ∷ [])) → (new ≡ seen ++ pages_of (es ++ e ∷ [])) × AreConsecutive seen (es ++ e ∷ [])
+all_more seen es e rows new so_far is add whole =
+    let all : AreWhole ((seen ++ pages_of es) ++ e.reply.page.items) = subst AreWhole (pages_after seen es e) whole in
+    let before = so_far (whole-left (seen ++ pages_of es) e.reply.page.items all) in
+    let same : rows ≡ seen ++ pages_of es = before.0 in
+    let now : AreWhole (rows ++ e.reply.page.items) = subst (λ w. AreWhole (w ++ e.reply.page.items)) (sym same) all in
+    (add now ∙ (ap (λ w. w ++ e.reply.page.items) same ∙ sym (pages_after seen es e)), turn_append seen es e before.1 (is ∙ ap (λ w. Members (place_after w)) same))
+
+-- a row of one page more was seen, or stands in a page
+read_more : (seen : List Update) (p q r : CallerView) (rows more : List Update) (full : Bool) (l : Looks seen p q rows) (n : ReadsPage q r rows more full) (x : ℕ) → IsEligibleIn more x → IsEligibleIn seen x ⊎ IsEligibleIn (pages_of (l.entries ++ n.call.entry ∷ [])) x
+read_more seen p q r rows more full l n x is =
+    let page = n.call.entry.reply.page.items in
+    let grown = sym (pages_append l.entries n.call.entry) in
+    elim (n.shown x is) [
+      | inl a ↦ elim (l.read x a) [ inl s ↦ inl s | inr t ↦ inr (subst (λ w. IsEligibleIn w x) grown (eligible-left (pages_of l.entries) page x t)) ]
+      | inr b ↦ inr (subst (λ w. IsEligibleIn w x) grown (eligible-right (pages_of l.entries) page x (subst (λ w. IsEligibleIn w.page.items x) (sym n.call.reply_is) b)))
+    ]
+
+abbrev looks_more : (seen : List Update) (p q r : CallerView) (rows more : List Update) (full : Bool) → Looks seen p q rows → ReadsPage q r rows more full → Looks seen p r more
+looks_more seen p q r rows more full l n = let after = place_after rows in record {
   entries = l.entries ++ n.call.entry ∷ [];
   gains = more_gains p q r l.entries (n.call.entry ∷ []) l.gains n.call.gains;
   asked = n.call.asked ∙ (ap (λ w. w ++ Members after ∷ []) l.asked ∙ (assoc p.asked (events_of l.entries) (Members after ∷ []) ∙ ap (λ w. p.asked ++ w) (ap (λ e. events_of l.entries ++ e ∷ []) (sym n.call.event_is) ∙ sym (events_of-append l.entries (n.call.entry ∷ [])))));
   looks = looks_append l.entries n.call.entry after l.looks n.call.event_is;
-  read = λ x is. subst (λ w. IsEligibleIn w x) (sym (pages_append l.entries n.call.entry)) (elim (n.shown x is) [ inl a ↦ eligible-left (pages_of l.entries) n.call.entry.reply.page.items x (l.read x a) | inr b ↦ eligible-right (pages_of l.entries) n.call.entry.reply.page.items x (subst (λ w. IsEligibleIn w.page.items x) (sym n.call.reply_is) b) ]);
-  all = all_more l.entries n.call.entry rows more l.all n.call.event_is (subst (λ w. AreWhole (rows ++ w.page.items) → more ≡ rows ++ w.page.items) (sym n.call.reply_is) n.all);
+  read = read_more seen p q r rows more full l n;
+  all = all_more seen l.entries n.call.entry rows more l.all n.call.event_is (subst (λ w. AreWhole (rows ++ w.page.items) → more ≡ rows ++ w.page.items) (sym n.call.reply_is) n.all);
 }
 
 counted : (es : List Entry) (e : Entry) (pages : ℕ) → length es ≡ pages → length (es ++ e ∷ []) ≡ pages + 1
@@ -213,9 +263,9 @@ full_size : (n : ℕ) → true ≡ (n == UPDATES_MAX) → n ≡ UPDATES_MAX
 full_size n is = search (rules, tests)
 
 -- one more full page
-pub looks_on : (p q r : CallerView) (rows more : List Update) (pages : ℕ) → LooksSoFar p q rows pages → ReadsPage q r rows more true → LooksSoFar p r more (pages + 1)
-looks_on p q r rows more pages l n = record {
-  looks = looks_more p q r rows more true l.looks n;
+pub looks_on : (seen : List Update) (p q r : CallerView) (rows more : List Update) (pages : ℕ) → LooksSoFar seen p q rows pages → ReadsPage q r rows more true → LooksSoFar seen p r more (pages + 1)
+looks_on seen p q r rows more pages l n = record {
+  looks = looks_more seen p q r rows more true l.looks n;
   full = full_append l.looks.entries n.call.entry l.full (ap (λ (w : Reply). length w.page.items) n.call.reply_is ∙ full_size (length n.reply.page.items) n.full_is);
   count = counted l.looks.entries n.call.entry pages l.count;
 }
@@ -232,12 +282,12 @@ short_size : (n : ℕ) → n ≤ UPDATES_MAX → false ≡ (n == UPDATES_MAX) �
 short_size n most is = grind (arith, nat_tests)
 
 -- the last page
-pub looks_short : (p q r : CallerView) (rows more : List Update) (pages : ℕ) → LooksSoFar p q rows pages → pages < PAGES_MAX → ReadsPage q r rows more false → LooksAll p r more
-looks_short p q r rows more pages l less n = record {
-  looks = looks_more p q r rows more false l.looks n;
+pub looks_short : (seen : List Update) (p q r : CallerView) (rows more : List Update) (pages : ℕ) → LooksSoFar seen p q rows pages → pages < PAGES_MAX → ReadsPage q r rows more false → LooksAll seen p r more
+looks_short seen p q r rows more pages l less n = record {
+  looks = looks_more seen p q r rows more false l.looks n;
   pages = ends_short PAGES_MAX l.looks.entries n.call.entry l.full (omega (arith, l.count, less)) (subst (λ (w : Reply). length w.page.items < UPDATES_MAX) (sym n.call.reply_is) (short_size (length n.reply.page.items) n.most n.full_is));
 }
 
 -- as many as there can be
-pub looks_whole : (p q : CallerView) (rows : List Update) → LooksSoFar p q rows PAGES_MAX → LooksAll p q rows
-looks_whole p q rows l = record { looks = l.looks; pages = ends_whole PAGES_MAX l.looks.entries l.full l.count }
+pub looks_whole : (seen : List Update) (p q : CallerView) (rows : List Update) → LooksSoFar seen p q rows PAGES_MAX → LooksAll seen p q rows
+looks_whole seen p q rows l = record { looks = l.looks; pages = ends_whole PAGES_MAX l.looks.entries l.full l.count }

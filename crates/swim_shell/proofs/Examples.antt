@@ -37,21 +37,25 @@ after_none : place_after [] ≡ 0
 after_none = refl
 
 -- no list: of two that may be drawn a word of 3 draws the second, and itself is left out
-draws : due_by 1 rows None 3 false ≡ Some 10995116415832
+draws : due_by 1 rows None 3 false true ≡ Some 10995116415832
 draws = refl
 
-draws_other : due_by 10995116415832 rows None 3 false ≡ Some 10995116350296
+draws_other : due_by 10995116415832 rows None 3 false true ≡ Some 10995116350296
 draws_other = refl
 
 -- a peer that no row shows is joined, and one that a row shows at the list's turn alone
-asks_missing : due_by 1 rows (Some 7) 3 false ≡ Some 7
+asks_missing : due_by 1 rows (Some 7) 3 false true ≡ Some 7
 asks_missing = refl
 
-asks_drawn_one : due_by 1 rows (Some 10995116481368) 3 false ≡ Some 10995116415832
+asks_drawn_one : due_by 1 rows (Some 10995116481368) 3 false true ≡ Some 10995116415832
 asks_drawn_one = refl
 
-asks_in_turn : due_by 1 rows (Some 10995116481368) 3 true ≡ Some 10995116481368
+asks_in_turn : due_by 1 rows (Some 10995116481368) 3 true true ≡ Some 10995116481368
 asks_in_turn = refl
+
+-- but one that may not be asked yet is not
+waits_for_all : due_by 1 rows (Some 7) 3 false false ≡ Some 10995116415832
+waits_for_all = refl
 
 -- ---- counters
 

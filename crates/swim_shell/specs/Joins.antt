@@ -6,6 +6,7 @@ use Rattle.std.specs.Prelude.{List, [], ◌∷◌, ◌++◌, length, slice_get}
 use Rattle.std.specs.Option.{option_map}
 use Rattle.std.specs.List.{filter, list_any}
 use Rattle.swim_wire.specs.declared.rules.Rules.{Rules}
+use Rattle.swim_wire.specs.declared.rules.Rules.TheVariants.{One, Two}
 use Rattle.swim_wire.specs.declared.update.Update.{Update}
 use Rattle.swim_wire.specs.declared.update.UpdateKind.{UpdateKind}
 use Rattle.swim_wire.specs.declared.update.UpdateKind.TheVariants.{Confirm}
@@ -23,30 +24,38 @@ use Rattle.rand_chacha.specs.ChaCha.{ChaCha}
 use Rattle.std.specs.declared.time.Instant.{Instant}
 use Rattle.swim_shell.specs.declared.paces.Paces.{Paces}
 use Rattle.swim_shell.specs.declared.paces.TheConstants.{ALONE_PERIODS, EARLY_JOINS}
-use Rattle.swim_shell.specs.Moments.{NewsView}
+use Rattle.swim_shell.specs.Moments.{NewsView, has_passed}
 use Rattle.swim_shell.specs.Calls.{CallerView, events_of, Gains, NewCall, Refuses}
 
 -- what a contract sees of peers: the list, the place of the one that comes next, and whether each
--- was joined once
+-- was joined once; which of them the rows showed last, and when one was gone from the rows that
+-- they had shown before
 pub record PeersView : Type 0 where
   pub list : List ℕ
   pub next : ℕ
   pub were_all : Bool
+  pub shown : List ℕ
+  pub gone : Option Instant
 
 -- after the peer that came next was joined: the first one follows the last
 abbrev pub stepped : PeersView → PeersView
 stepped p =
     if nat_lt (p.next + 1) (length p.list)
-    then record { list = p.list; next = p.next + 1; were_all = p.were_all }
-    else record { list = p.list; next = 0; were_all = true }
+    then record p { next = p.next + 1 }
+    else record p { next = 0; were_all = true }
+
+-- the list begins again
+abbrev pub begun_again : PeersView → PeersView
+begun_again p = record p { next = 0; were_all = length p.list == 0 }
 
 -- it is the peer that comes next
 abbrev pub IsNext : PeersView → ℕ → Type 0
 IsNext p x = slice_get p.list p.next ≡ Some x
 
 -- what a contract sees of a joiner: whose it is, by which rules that one lives, and its paces; its
--- peers, and what draws others; how many peers were joined, when the last join was, and of which
--- peer it said that it is not known; and its news
+-- peers, and what draws others; how many peers were joined, how many of them since somebody was
+-- known last, and when the last join was; the rows of a look that was cut off, and the drawn member
+-- whose join is still due; of which peer it said that it is not known; and its news
 pub record JoinerView : Type 0 where
   pub me : ℕ
   pub rules : Rules
@@ -54,17 +63,22 @@ pub record JoinerView : Type 0 where
   pub peers : PeersView
   pub rng : ChaCha
   pub joins : ℕ
+  pub unanswered : ℕ
   pub joined : Option Instant
+  pub looked : List Update
+  pub drawn : Option ℕ
   pub missing : List ℕ
   pub news : NewsView
 
--- these peers are joined from now on, by these paces: the list begins anew, and all else is the
--- same
+-- these peers are joined from now on, by these paces: the list begins anew, no join of a drawn
+-- member is due, and all else is the same
 pub record IsRelisted (peers : List ℕ) (paces : Paces) (j k : JoinerView) : Type 0 where
   pub list : k.peers.list ≡ peers
   pub first : k.peers.next ≡ 0
   pub all : (k.peers.were_all ≡ true) ↔ (peers ≡ [])
-  pub rest : k ≡ record j { peers = k.peers; paces = paces }
+  pub shown : k.peers.shown ≡ j.peers.shown
+  pub gone : k.peers.gone ≡ j.peers.gone
+  pub rest : k ≡ record j { peers = k.peers; paces = paces; drawn = None }
 
 -- how long after so many joins the next peer is joined, if it is, by whether all were and whether
 -- the member is alone
@@ -119,18 +133,39 @@ IsDrawnFrom me rows x = IsEligibleIn rows x × (x ≢ me)
 abbrev pub has_row : List Update → ℕ → Bool
 has_row rows x = list_any (λ (r : Update). r.who == x) rows
 
+-- the rows do not show one of these members any more
+abbrev pub has_gone : List Update → List ℕ → Bool
+has_gone rows shown = list_any (λ (x : ℕ). not (has_row rows x)) shown
+
+-- the rows were read at this time
+abbrev pub watched : List Update → Option Instant → PeersView → PeersView
+watched rows now p = record p {
+  shown = filter (has_row rows) p.list;
+  gone = if has_gone rows p.shown then now else p.gone;
+}
+
+-- a peer that no row shows may be asked: by rules 2 at any time, and by rules 1 once those that
+-- were the last to confirm one have forgotten it too, since who still holds this member for failed
+-- expels it
+abbrev pub may_ask : Rules → Paces → PeersView → Option Instant → Bool
+may_ask One paces p now = has_passed now p.gone (as_nanos paces.forget)
+may_ask Two paces p now = true
+
 -- who is joined where a member is to be drawn: the peer of the list that comes next, if no row
--- shows it or it is the list's turn; and else the member that a word draws, if there is one
-abbrev pub due_by : ℕ → List Update → Option ℕ → ℕ → Bool → Option ℕ
-due_by me rows None word turn = drawn_by me rows word
-due_by me rows (Some peer) word turn =
-    Some (chosen (drawn_by me rows word) peer (if has_row rows peer then not turn else false))
+-- shows it and it may be asked, or if a row shows it at the list's turn; and else the member that a
+-- word draws, if there is one
+abbrev pub due_by : ℕ → List Update → Option ℕ → ℕ → (turn may : Bool) → Option ℕ
+due_by me rows None word turn may = drawn_by me rows word
+due_by me rows (Some peer) word turn may =
+    if has_row rows peer then Some (chosen (drawn_by me rows word) peer (not turn))
+    else (if may then Some peer else drawn_by me rows word)
 
 -- a call asks for members, or it joins a peer of the list, or another member that is eligible by
--- these rows
+-- these rows, or the drawn member whose join is still due
 abbrev pub IsAsked : JoinerView → List Update → Event → Type 0
 IsAsked j rows (Members after) = Unit {0}
-IsAsked j rows (Join x) = IsPeer j.peers.list x ⊎ IsDrawnFrom j.me rows x
+IsAsked j rows (Join x) =
+    IsPeer j.peers.list x ⊎ (IsDrawnFrom j.me rows x ⊎ (j.drawn ≡ Some x))
 IsAsked j rows _ = ⊥
 
 -- each call is such by the rows of the pages that were read before it
@@ -143,19 +178,19 @@ abbrev pub pages_of : List Entry → List Update
 pages_of [] = []
 pages_of (e ∷ es) = e.reply.page.items ++ pages_of es
 
--- the new calls of a caller are such, and no rows were read before them
+-- the new calls of a caller are such, by the rows of the look that was cut off and of their pages
 pub record Asks (j : JoinerView) (p q : CallerView) : Type 0 where
   pub entries : List Entry
   pub gains : Gains p q entries
   pub asked : q.asked ≡ p.asked ++ events_of entries
-  pub are_asked : AreAsked j [] entries
+  pub are_asked : AreAsked j j.looked entries
 
 -- the same, and then one that was refused
 pub record AsksInVain (limit : ℕ) (why : Refusal) (j : JoinerView) (p q : CallerView) : Type 0 where
   pub between : CallerView
   pub asks : Asks j p between
   pub last : Event
-  pub is_asked : IsAsked j (pages_of asks.entries) last
+  pub is_asked : IsAsked j (j.looked ++ pages_of asks.entries) last
   pub refused : Refuses limit why between q last
 
 -- the rows are in order, and no more than there can be
@@ -199,26 +234,30 @@ pub record ReadsPage (p q : CallerView) (old new : List Update) (full : Bool) : 
   pub most : length reply.page.items ≤ UPDATES_MAX
   pub full_is : full ≡ (length reply.page.items == UPDATES_MAX)
 
--- the new calls ask for members; the rows show no member as eligible that a page did not, and are
--- those of the pages where these are in order, each asked for after the one before
-pub record Looks (p q : CallerView) (rows : List Update) : Type 0 where
+-- the new calls ask for members, and go on after the rows that were seen; the rows show no member
+-- as eligible that those or a page did not, and are those of the pages after them where these are
+-- in order, each asked for after the one before
+pub record Looks (seen : List Update) (p q : CallerView) (rows : List Update) : Type 0 where
   pub entries : List Entry
   pub gains : Gains p q entries
   pub asked : q.asked ≡ p.asked ++ events_of entries
   pub looks : AreLooks entries
-  pub read : (x : ℕ) → IsEligibleIn rows x → IsEligibleIn (pages_of entries) x
-  pub all : AreWhole (pages_of entries) → (rows ≡ pages_of entries) × AreConsecutive [] entries
+  pub read : (x : ℕ) → IsEligibleIn rows x
+      → IsEligibleIn seen x ⊎ IsEligibleIn (pages_of entries) x
+  pub all : AreWhole (seen ++ pages_of entries)
+      → (rows ≡ seen ++ pages_of entries) × AreConsecutive seen entries
 
 -- the same of all pages
-pub record LooksAll (p q : CallerView) (rows : List Update) : Type 0 where
-  pub looks : Looks p q rows
+pub record LooksAll (seen : List Update) (p q : CallerView) (rows : List Update) : Type 0 where
+  pub looks : Looks seen p q rows
   pub pages : AreAllPages PAGES_MAX looks.entries
 
 -- the same of pages that were all full, and then a call for the next that was refused
-pub record LooksInVain (limit : ℕ) (why : Refusal) (p q : CallerView) : Type 0 where
+pub record LooksInVain (limit : ℕ) (why : Refusal) (seen : List Update) (p q : CallerView)
+    (rows : List Update)
+    : Type 0 where
   pub between : CallerView
-  pub rows : List Update
-  pub looks : Looks p between rows
+  pub looks : Looks seen p between rows
   pub full : AreFull looks.entries
   pub fewer : length looks.entries < PAGES_MAX
   pub refused : Refuses limit why between q (Members (place_after rows))

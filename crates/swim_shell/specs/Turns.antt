@@ -1,5 +1,6 @@
 -- What a turn of a joiner does, and when.
-use Rattle.std.specs.Prelude.{◌≡◌, ◌⊎◌, ℕ, ◌+◌, ◌-◌, ◌^◌, ◌%◌, ◌==◌, ◌||◌, min, Bool, true, false}
+use Rattle.std.specs.Prelude.{◌≡◌, ◌⊎◌, ℕ, ◌+◌, ◌-◌, ◌^◌, ◌%◌, ◌==◌, ◌||◌, min, nat_lt}
+use Rattle.std.specs.Prelude.{Bool, true, false, not, length}
 use Rattle.std.specs.Prelude.{if◌then◌else◌, List, [], ◌∷◌, slice_get, Option, Some, None}
 use Rattle.std.specs.Option.{option_or}
 use Rattle.std.specs.Duration.{as_nanos}
@@ -18,8 +19,8 @@ use Rattle.swim_shell.specs.declared.caller.Refusal.{Refusal}
 use Rattle.swim_shell.specs.declared.paces.Moment.{Moment}
 use Rattle.swim_shell.specs.Calls.{CallerView, NewCall, Refuses}
 use Rattle.swim_shell.specs.Moments.{NewsView, TellsNews, has_passed}
-use Rattle.swim_shell.specs.Joins.{JoinerView, stepped, rest_after, has_row, due_by}
-use Rattle.swim_shell.specs.Joins.{LooksAll, LooksInVain}
+use Rattle.swim_shell.specs.Joins.{JoinerView, stepped, begun_again, watched, may_ask}
+use Rattle.swim_shell.specs.Joins.{rest_after, has_row, due_by, LooksAll, LooksInVain}
 
 -- ---- what is due
 
@@ -71,41 +72,54 @@ abbrev pub drawing : JoinerView → ℕ × ChaCha
 drawing j = next_draw (list_turn j.rules j.rng).1
 
 -- who is joined where one is to be drawn
-abbrev pub drawn_for : JoinerView → List Update → Option ℕ
-drawn_for j rows =
+abbrev pub drawn_for : JoinerView → List Update → Option Instant → Option ℕ
+drawn_for j rows now =
     due_by j.me rows (slice_get j.peers.list j.peers.next) (drawing j).0
-    (list_turn j.rules j.rng).0
+    (list_turn j.rules j.rng).0 (may_ask j.rules j.paces j.peers now)
 
 -- of whom it was said that it is not known, once it is said of this one, unless it was of another
 abbrev pub told_missing : List ℕ → ℕ → List ℕ
 told_missing [] peer = peer ∷ []
 told_missing told peer = told
 
--- the peer of the list that came next had its turn; it is told if no row shows it
-abbrev pub with_turn : JoinerView → List Update → Option ℕ → JoinerView
-with_turn j rows None = j
-with_turn j rows (Some peer) = record j {
+-- the peer of the list that came next had its turn; it is told if it is asked since no row shows it
+abbrev pub with_turn : JoinerView → List Update → Option Instant → Option ℕ → JoinerView
+with_turn j rows now None = j
+with_turn j rows now (Some peer) = record j {
   peers = stepped j.peers;
-  missing = if has_row rows peer then j.missing else told_missing j.missing peer;
+  missing = if has_row rows peer then j.missing
+      else (if may_ask j.rules j.paces j.peers now then told_missing j.missing peer
+      else j.missing);
 }
 
 -- after a draw
-abbrev pub with_draw : JoinerView → List Update → JoinerView
-with_draw j rows =
-    with_turn (record j { rng = (drawing j).1 }) rows (slice_get j.peers.list j.peers.next)
+abbrev pub with_draw : JoinerView → List Update → Option Instant → JoinerView
+with_draw j rows now =
+    with_turn (record j { rng = (drawing j).1 }) rows now (slice_get j.peers.list j.peers.next)
 
--- who is joined, if a draw is due, and how the joiner is then
-abbrev pub due_member : JoinerView → Moment → List Update → Option ℕ
-due_member j at rows =
-    if is_draw_due j.paces.rejoin j.joined at.now then drawn_for j rows else None
+-- the join of the member that was drawn is due; if nobody was, the time runs to the next draw
+abbrev pub with_drawn : Option ℕ → Option Instant → JoinerView → JoinerView
+with_drawn None now j = record j { drawn = None; joined = now }
+with_drawn (Some x) now j = record j { drawn = Some x }
 
+-- a member was drawn, if that was due
 abbrev pub after_draw : JoinerView → Moment → List Update → JoinerView
 after_draw j at rows =
-    if is_draw_due j.paces.rejoin j.joined at.now then with_draw j rows else j
+    if is_draw_due j.paces.rejoin j.joined at.now
+    then with_drawn (drawn_for j rows at.now) at.now (with_draw j rows at.now) else j
 
--- a draw that was due is over: from now on the time runs to the next one
-abbrev pub with_draw_over : Bool → Option Instant → JoinerView → JoinerView
-with_draw_over is_due now j = if is_due then record j { joined = now } else j
+-- the look that read these rows is over
+abbrev pub after_look : JoinerView → Moment → List Update → JoinerView
+after_look j at rows =
+    after_draw (record j { looked = []; peers = watched rows at.now j.peers }) at rows
+
+-- the drawn member was joined, if there was one: from now on the time runs to the next draw
+abbrev pub joined_drawn_by : Option ℕ → Option Instant → JoinerView → JoinerView
+joined_drawn_by None now j = j
+joined_drawn_by (Some x) now j = record j { drawn = None; joined = now }
+
+abbrev pub joined_drawn : Option Instant → JoinerView → JoinerView
+joined_drawn now j = joined_drawn_by j.drawn now j
 
 -- ---- what is done
 
@@ -115,7 +129,17 @@ joined_listed now j = record j {
   joined = now;
   peers = stepped j.peers;
   joins = min (j.joins + 1) (2 ^ 32 - 1);
+  unanswered = min (j.unanswered + 1) (2 ^ 32 - 1);
 }
+
+-- if somebody is known again after more than one peer was joined, an earlier one than the last may
+-- have answered late, whose pages the later join ended: so the list begins again
+abbrev pub with_answer : Moment → JoinerView → JoinerView
+with_answer at j =
+    if at.is_alone then j else record j {
+      unanswered = 0;
+      peers = if nat_lt 1 j.unanswered then begun_again j.peers else j.peers;
+    }
 
 -- the time from which the first draw is due is noted
 abbrev pub with_start : Option Instant → JoinerView → JoinerView
@@ -140,63 +164,84 @@ abbrev pub JoinsIf : CallerView → CallerView → Option ℕ → Type 0
 JoinsIf p q None = q ≡ p
 JoinsIf p q (Some x) = JoinsPeer p q x
 
--- all rows were read; their news were told and a drawn member was joined, if these were due; and
--- then the draw is over
+-- all rows were read, those that were not read before; their news were told and a member was drawn,
+-- if these were due; and then that one was joined, if there is one
 pub record LooksRound (j : JoinerView) (at : Moment) (p : CallerView) (k : JoinerView)
     (q : CallerView)
     : Type 0 where
   pub rows : List Update
   pub between : CallerView
-  pub looks : LooksAll p between rows
+  pub looks : LooksAll j.looked p between rows
   pub telling : JoinerView
-  pub told : TellsDue (after_draw j at rows) at rows telling
-  pub joins : JoinsIf between q (due_member j at rows)
-  pub over : k ≡ with_draw_over (is_draw_due j.paces.rejoin j.joined at.now) at.now telling
+  pub told : TellsDue (after_look j at rows) at rows telling
+  pub joins : JoinsIf between q telling.drawn
+  pub over : k ≡ joined_drawn at.now telling
 
--- all rows were read, and their news told if due; and then the join that was due was refused, and
--- so a draw is still due
+-- the same, but that the join was refused, and so is still due
 pub record JoinsInVain (limit : ℕ) (why : Refusal) (j : JoinerView) (at : Moment) (p : CallerView)
     (k : JoinerView) (q : CallerView)
     : Type 0 where
   pub rows : List Update
   pub between : CallerView
-  pub looks : LooksAll p between rows
-  pub told : TellsDue (after_draw j at rows) at rows k
+  pub looks : LooksAll j.looked p between rows
+  pub told : TellsDue (after_look j at rows) at rows k
   pub last : ℕ
-  pub is_due : due_member j at rows ≡ Some last
+  pub is_due : k.drawn ≡ Some last
   pub refused : Refuses limit why between q (Join last)
+
+-- a page was refused: the next look goes on after the rows that were read
+pub record CutsOff (limit : ℕ) (why : Refusal) (j : JoinerView) (p : CallerView) (k : JoinerView)
+    (q : CallerView)
+    : Type 0 where
+  pub looks : LooksInVain limit why j.looked p q k.looked
+  pub same : k ≡ record j { looked = k.looked }
 
 -- a page was refused, or the join that was due after them
 abbrev pub LooksRoundInVain : ℕ → Refusal → JoinerView → Moment → CallerView → JoinerView
     → CallerView → Type 0
 LooksRoundInVain limit why j at p k q =
-    (LooksInVain limit why p q × (k ≡ j)) ⊎ JoinsInVain limit why j at p k q
+    CutsOff limit why j p k q ⊎ JoinsInVain limit why j at p k q
 
--- the peer that is due is joined; else all rows are read, if a draw or news are due; else nothing
-abbrev pub DoesDue : Option ℕ → Bool → JoinerView → Moment → CallerView → JoinerView → CallerView
+-- the drawn member whose join is due is joined; else all rows are read, if that is due; else
+-- nothing
+abbrev pub DoesRest : Option ℕ → Bool → JoinerView → Moment → CallerView → JoinerView → CallerView
     → Type 0
-DoesDue (Some peer) due j at p k q = JoinsPeer p q peer × (k ≡ joined_listed at.now j)
-DoesDue None true j at p k q = LooksRound (with_start at.now j) at p k q
-DoesDue None false j at p k q = (q ≡ p) × (k ≡ with_start at.now j)
+DoesRest (Some drawn) due j at p k q = JoinsPeer p q drawn × (k ≡ joined_drawn at.now j)
+DoesRest None true j at p k q = LooksRound j at p k q
+DoesRest None false j at p k q = (q ≡ p) × (k ≡ j)
 
--- a draw or news are due
+-- a draw or news are due, or a look was cut off
 abbrev pub is_look_due : JoinerView → Moment → Bool
-is_look_due j at = is_draw_due j.paces.rejoin j.joined at.now || are_news_due j at
+is_look_due j at =
+    is_draw_due j.paces.rejoin j.joined at.now || (are_news_due j at || not (length j.looked == 0))
+
+-- the peer of the list that is due is joined, or else the rest is done
+abbrev pub DoesDue : Option ℕ → JoinerView → Moment → CallerView → JoinerView → CallerView → Type 0
+DoesDue (Some peer) j at p k q = JoinsPeer p q peer × (k ≡ joined_listed at.now j)
+DoesDue None j at p k q = let i = with_start at.now j in
+    DoesRest i.drawn (is_look_due i at) i at p k q
 
 abbrev pub DoesTurn : JoinerView → Moment → CallerView → JoinerView → CallerView → Type 0
-DoesTurn j at p k q = DoesDue (due_peer j at) (is_look_due (with_start at.now j) at) j at p k q
+DoesTurn j at p k q = let i = with_answer at j in DoesDue (due_peer i at) i at p k q
 
--- the call for the peer that is due was refused, or one of a look that is due
-abbrev pub DueInVain : ℕ → Refusal → Option ℕ → Bool → JoinerView → Moment → CallerView
+-- the join that was due was refused, or a call of a look
+abbrev pub RestInVain : ℕ → Refusal → Option ℕ → Bool → JoinerView → Moment → CallerView
     → JoinerView → CallerView → Type 0
-DueInVain limit why (Some peer) due j at p k q = Refuses limit why p q (Join peer) × (k ≡ j)
-DueInVain limit why None true j at p k q = LooksRoundInVain limit why (with_start at.now j) at p k q
-DueInVain limit why None false j at p k q = ⊥
+RestInVain limit why (Some drawn) due j at p k q = Refuses limit why p q (Join drawn) × (k ≡ j)
+RestInVain limit why None true j at p k q = LooksRoundInVain limit why j at p k q
+RestInVain limit why None false j at p k q = ⊥
+
+-- the call for the peer of the list that is due was refused, or one of the rest
+abbrev pub DueInVain : ℕ → Refusal → Option ℕ → JoinerView → Moment → CallerView → JoinerView
+    → CallerView → Type 0
+DueInVain limit why (Some peer) j at p k q = Refuses limit why p q (Join peer) × (k ≡ j)
+DueInVain limit why None j at p k q = let i = with_start at.now j in
+    RestInVain limit why i.drawn (is_look_due i at) i at p k q
 
 abbrev pub DoesTurnInVain : ℕ → Refusal → JoinerView → Moment → CallerView → JoinerView → CallerView
     → Type 0
 DoesTurnInVain limit why j at p k q =
-    DueInVain limit why (due_peer j at) (is_look_due (with_start at.now j) at) j at p k q
+    let i = with_answer at j in DueInVain limit why (due_peer i at) i at p k q
 
 -- a turn did what was due by what was read as it began
 pub record Turned (j : JoinerView) (p : CallerView) (k : JoinerView) (q : CallerView)

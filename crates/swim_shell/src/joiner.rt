@@ -4,30 +4,32 @@ ghost use Rattle.std.specs.Prelude.{◌≡◌, ◌⊎◌, ◌↔◌, ℕ, [], So
 ghost use Rattle.std.specs.Prelude.{IsTrue, IfSome, IfOk, IfErr, OnOk, OnErr};
 ghost use Rattle.swim_member.specs.declared.event.Event.TheVariants.{Join};
 ghost use Rattle.swim_shell.specs.Calls.{Refuses};
-ghost use Rattle.swim_shell.specs.Joins.{Asks, AsksInVain, IsDrawnFrom, IsNext, IsRelisted, chosen, has_row};
-ghost use Rattle.swim_shell.specs.Turns.{DoesTurn, DoesTurnInVain, JoinsIf, JoinsPeer, LooksRound, LooksRoundInVain, TellsDue, Turned, TurnedInVain, after_draw, are_news_due, with_start, drawn_for, due_member, due_peer, is_alone, is_draw_due, joined_listed, list_turn, next_draw, told_missing, with_draw, with_draw_over, with_turn};
+ghost use Rattle.swim_shell.specs.Joins.{Asks, AsksInVain, IsDrawnFrom, IsNext, IsRelisted, LooksAll, LooksInVain, chosen, may_ask};
+ghost use Rattle.swim_shell.specs.Turns.{DoesRest, DoesTurn, DoesTurnInVain, JoinsPeer, LooksRound, LooksRoundInVain, RestInVain, TellsDue, Turned, TurnedInVain, after_draw, after_look, are_news_due, drawn_for, due_peer, is_alone, is_draw_due, is_look_due, joined_drawn, joined_listed, list_turn, next_draw, told_missing, with_answer, with_draw, with_start};
 
 use crate::caller::{Caller, Observer, Refusal};
 use crate::draw::draw;
 use crate::look::look;
 use crate::news_log::{News, are_shown};
 use crate::paces::{Moment, Paces, has_passed};
-use crate::peers::{LIST_MAX, Peers};
+use crate::peers::{LIST_MAX, Peers, has_row};
 use arrayvec::ArrayVec;
 use log::{Log, error};
 use rand_chacha::ChaCha20Rng;
 use rand_core::utils::NextWord;
 use std::marker::Model;
+use std::mem;
 use std::time::{Clock, Instant};
 use swim_member::{Event, Phase};
 use swim_news::Rows;
 use swim_node::Status;
 use swim_trace::Trace;
-use swim_wire::{Endpoint, Rules, Update};
+use swim_wire::{Endpoint, Rules};
 
 /// Whom a member joins, and when: all peers of its list in order, one after the other; one of them every few periods while
 /// it holds nobody for alive or suspected, since a lost join would leave it alone for ever; and now and then a member that
-/// it draws, since gossip or a page that was lost leaves a hole for ever. Contracts see it as `JoinerView`.
+/// it draws, since gossip or a page that was lost leaves a hole for ever. What a full era cuts off goes on in the next one, so that an
+/// era of any size ends. Contracts see it as `JoinerView`.
 #[derive(Drop)]
 pub struct Joiner {
     me: Endpoint,
@@ -38,8 +40,14 @@ pub struct Joiner {
     rng: ChaCha20Rng,
     /// How many peers of the list were joined.
     joins: u32,
+    /// How many of them since somebody was known last.
+    unanswered: u32,
     /// When the turn of the last join began, or that in which a member was to be drawn.
     joined: Option<Instant>,
+    /// The rows that a look had read when it was cut off.
+    looked: Rows,
+    /// The drawn member whose join is due.
+    drawn: Option<Endpoint>,
     news: News,
     /// Whether it was said that a listed member is not known.
     has_told: bool,
@@ -61,7 +69,10 @@ impl Model for Joiner {
       peers = j.peers;
       rng = j.rng;
       joins = j.joins;
+      unanswered = j.unanswered;
       joined = j.joined;
+      looked = j.looked;
+      drawn = j.drawn;
       missing = j.missing;
       news = j.news;
     } };
@@ -77,13 +88,6 @@ fn is_alone(status: Option<Status>) -> bool
         }
         None => false,
     }
-}
-
-/// Whether a row shows the member.
-fn has_row(rows: &[Update], who: Endpoint) -> bool
-    ensures { result ≡ has_row rows.now who }
-{
-    rows.iter().any(|row| row.who == who)
 }
 
 /// Which of the two is joined: the drawn one, if there is one and it may be, or the peer of the list.
@@ -116,19 +120,6 @@ fn is_list_turn(rules: Rules, rng: &mut ChaCha20Rng) -> bool
     }
 }
 
-/// Joins this member, if there is one.
-fn join_if<C: Caller>(caller: &mut C, peer: Option<Endpoint>) -> Result<(), Refusal>
-    ensures joins { OnOk result (JoinsIf (C.known caller.old) (C.known caller.new) peer) }
-    ensures refused { IfErr result (λ why. (last : ℕ) × (peer ≡ Some last)
-        × Refuses C.limit why (C.known caller.old) (C.known caller.new) (Join last)) }
-{
-    let Some(peer) = peer else {
-        return Ok(());
-    };
-    caller.call(Event::Join { peer })?;
-    Ok(())
-}
-
 impl Joiner {
     /// A joiner of these peers and of members that the generator draws, for the member `me` of a group that lives by these
     /// rules. It never draws that member itself.
@@ -141,7 +132,10 @@ impl Joiner {
     ) -> Joiner
         ensures me { result.me ≡ me }
         ensures by { (result.rules ≡ rules) × (result.paces ≡ paces) × (result.rng ≡ rng) }
-        ensures first { (result.joins ≡ 0) × (result.joined ≡ None) × (result.missing ≡ []) }
+        ensures first { (result.joins ≡ 0) × (result.joined ≡ None) × (result.missing ≡ [])
+            × (result.unanswered ≡ 0) }
+        ensures nothing { (result.looked ≡ []) × (result.drawn ≡ None) }
+        ensures shown { (result.peers.shown ≡ []) × (result.peers.gone ≡ None) }
         ensures news { (result.news.rows ≡ []) × (result.news.compared ≡ None) }
         ensures list { (result.peers.list ≡ peers.items) × (result.peers.next ≡ 0) }
         ensures all { IsTrue result.peers.were_all ↔ (peers.items ≡ []) }
@@ -153,7 +147,10 @@ impl Joiner {
             paces,
             rng,
             joins: 0,
+            unanswered: 0,
             joined: None,
+            looked: Rows::new(),
+            drawn: None,
             news: News::new(),
             has_told: false,
             missing: Trace::new(),
@@ -164,8 +161,27 @@ impl Joiner {
     pub fn relist(&mut self, peers: ArrayVec<Endpoint, LIST_MAX>, paces: Paces)
         ensures { IsRelisted peers.items paces self.old self.new }
     {
-        self.peers = Peers::new(peers);
+        self.peers.relist(peers);
         self.paces = paces;
+        self.drawn = None;
+    }
+
+    /// Somebody is known again. If more than one peer was joined since somebody was, an earlier one than the last may have
+    /// answered late, and the later join ended its pages: then the list begins again.
+    fn hear(&mut self, at: Moment)
+        ensures then { self.new ≡ with_answer at self.old }
+        ensures me { self.new.me ≡ self.old.me }
+        ensures list { self.new.peers.list ≡ self.old.peers.list }
+        ensures looked { (self.new.looked ≡ self.old.looked)
+            × (self.new.drawn ≡ self.old.drawn) }
+    {
+        if at.is_alone {
+            return;
+        }
+        if self.unanswered > 1 {
+            self.peers.begin_again();
+        }
+        self.unanswered = 0;
     }
 
     /// The peer of the list to join now: one that was not joined yet, or the next one while the member is alone.
@@ -219,25 +235,23 @@ impl Joiner {
         error!(rt; "listed {peer} is not known here: it is asked again, in case the group is in two parts");
     }
 
-    /// The peer of the list that comes next has its turn. Says whether a row shows it, and logs once that none does.
-    fn pass_listed<W: Log>(&mut self, rt: &W, rows: &Rows, peer: Endpoint) -> bool
-        ensures known { result ≡ has_row rows.now peer }
-        ensures then { self.new ≡ with_turn self.old rows.now (Some peer) }
+    /// Whether a peer that no row shows may be asked: by rules 1 only once all have forgotten it, since who holds this member for
+    /// failed yet would expel it.
+    fn may_ask(&self, now: Option<Instant>) -> bool
+        ensures { result ≡ may_ask self.now.rules self.now.paces self.now.peers now }
     {
-        self.peers.step();
-        if has_row(rows.as_slice(), peer) {
-            return true;
+        match self.rules {
+            Rules::One => has_passed(now, self.peers.gone(), self.paces.forget),
+            Rules::Two => true,
         }
-        self.tell_missing(rt, peer);
-        false
     }
 
     /// The member to join where one is to be drawn: one that the generator draws from the rows, or the next of the list. That
     /// one is asked where the rows show nobody to draw, or not itself: a part of the group that was cut off for long is
     /// forgotten, and only the list has it still.
-    fn draw<W: Log>(&mut self, rt: &W, rows: &Rows) -> Option<Endpoint>
-        ensures value { result ≡ drawn_for self.old rows.now }
-        ensures then { self.new ≡ with_draw self.old rows.now }
+    fn draw<W: Log>(&mut self, rt: &W, rows: &Rows, now: Option<Instant>) -> Option<Endpoint>
+        ensures value { result ≡ drawn_for self.old rows.now now }
+        ensures then { self.new ≡ with_draw self.old rows.now now }
         ensures known { IfSome result (λ peer. IsNext self.old.peers peer
             ⊎ IsDrawnFrom self.old.me rows.now peer) }
         ensures me { self.new.me ≡ self.old.me }
@@ -249,31 +263,32 @@ impl Joiner {
         let Some(peer) = self.peers.next() else {
             return drawn;
         };
-        let is_known = self.pass_listed(rt, rows, peer);
-        Some(chosen(drawn, peer, is_known && !is_list_turn))
+        let may_ask = self.may_ask(now);
+        self.peers.step();
+        if has_row(rows.as_slice(), peer) {
+            return Some(chosen(drawn, peer, !is_list_turn));
+        }
+        if !may_ask {
+            return drawn;
+        }
+        self.tell_missing(rt, peer);
+        Some(peer)
     }
 
-    /// The same, if it is time. It is due until its join was answered.
-    fn draw_due<W: Log>(&mut self, rt: &W, at: Moment, rows: &Rows) -> Option<Endpoint>
-        ensures value { result ≡ due_member self.old at rows.now }
+    /// The same, if it is time: the join of the drawn member is due then.
+    fn draw_due<W: Log>(&mut self, rt: &W, at: Moment, rows: &Rows)
         ensures then { self.new ≡ after_draw self.old at rows.now }
-        ensures known { IfSome result (λ peer. IsNext self.old.peers peer
-            ⊎ IsDrawnFrom self.old.me rows.now peer) }
+        ensures known { IfSome self.new.drawn (λ peer. (self.old.drawn ≡ Some peer)
+            ⊎ (IsNext self.old.peers peer ⊎ IsDrawnFrom self.old.me rows.now peer)) }
         ensures me { self.new.me ≡ self.old.me }
         ensures list { self.new.peers.list ≡ self.old.peers.list }
     {
         if !self.is_draw_due(at.now) {
-            return None;
+            return;
         }
-        self.draw(rt, rows)
-    }
-
-    /// A draw that was due is over: its join was answered, or there was nobody to join.
-    fn end_draw(&mut self, is_due: bool, now: Option<Instant>)
-        ensures { self.new ≡ with_draw_over is_due now self.old }
-    {
-        if is_due {
-            self.joined = now;
+        self.drawn = self.draw(rt, rows, at.now);
+        if self.drawn.is_none() {
+            self.joined = at.now;
         }
     }
 
@@ -310,11 +325,65 @@ impl Joiner {
         self.joined = now;
         self.peers.step();
         self.joins = self.joins.saturating_add(1);
+        self.unanswered = self.unanswered.saturating_add(1);
         Ok(())
     }
 
-    /// Reads all rows, tells their news if these are due, and joins a drawn member if that is due.
-    #[tactic(auto, using(crate::proofs::Asking::looks_in_vain))]
+    /// Joins the drawn member, whose join is due until it was answered.
+    #[tactic(auto, using(crate::proofs::Asking::asks_drawn, crate::proofs::Asking::asks_drawn_in_vain))]
+    fn join_drawn<C: Caller>(
+        &mut self,
+        caller: &mut C,
+        now: Option<Instant>,
+        peer: Endpoint,
+    ) -> Result<(), Refusal>
+        requires { self.old.drawn ≡ Some peer }
+        ensures asks { IfOk result (λ _. Asks self.old (C.known caller.old)
+            (C.known caller.new)) }
+        ensures in_vain { IfErr result (λ why. AsksInVain C.limit why self.old
+            (C.known caller.old) (C.known caller.new)) }
+        ensures me { self.new.me ≡ self.old.me }
+        ensures list { self.new.peers.list ≡ self.old.peers.list }
+
+        ensures joins { OnOk result (JoinsPeer (C.known caller.old) (C.known caller.new) peer) }
+        ensures then { OnOk result (self.new ≡ joined_drawn now self.old) }
+        ensures refused { IfErr result (λ why. Refuses C.limit why (C.known caller.old)
+            (C.known caller.new) (Join peer)) }
+        ensures same { OnErr result (self.new ≡ self.old) }
+    {
+        caller.call(Event::Join { peer })?;
+        self.drawn = None;
+        self.joined = now;
+        Ok(())
+    }
+
+    /// All rows were read: a member is drawn and the news are told, if these are due.
+    fn end_look<W: Log>(&mut self, rt: &W, at: Moment)
+        ensures told { TellsDue (after_look self.old at self.old.looked) at self.old.looked
+            self.new }
+        ensures known { IfSome self.new.drawn (λ peer. (self.old.drawn ≡ Some peer)
+            ⊎ (IsNext self.old.peers peer ⊎ IsDrawnFrom self.old.me self.old.looked peer)) }
+        ensures me { self.new.me ≡ self.old.me }
+        ensures list { self.new.peers.list ≡ self.old.peers.list }
+    {
+        let rows = mem::replace(&mut self.looked, Rows::new());
+        self.peers.watch(rows.as_slice(), at.now);
+        self.draw_due(rt, at, &rows);
+        self.tell_due(rt, at, rows);
+    }
+
+    /// Reads all rows that were not read yet.
+    fn look_on<C: Caller>(&mut self, caller: &mut C) -> Result<(), Refusal>
+        ensures looks { OnOk result (LooksAll self.old.looked (C.known caller.old)
+            (C.known caller.new) self.new.looked) }
+        ensures in_vain { IfErr result (λ why. LooksInVain C.limit why self.old.looked
+            (C.known caller.old) (C.known caller.new) self.new.looked) }
+        ensures same { self.new ≡ record self.old { looked = self.new.looked } }
+    {
+        look(caller, &mut self.looked)
+    }
+
+    /// Reads all rows that were not read yet, tells their news if these are due, and joins a drawn member if that is due.
     fn look_round<C: Caller, W: Log>(
         &mut self,
         rt: &W,
@@ -333,18 +402,46 @@ impl Joiner {
         ensures refused { IfErr result (λ why. LooksRoundInVain C.limit why self.old at
             (C.known caller.old) self.new (C.known caller.new)) }
     {
-        let mut rows = Rows::new();
-        look(caller, &mut rows)?;
-        let is_due = self.is_draw_due(at.now);
-        let peer = self.draw_due(rt, at, &rows);
-        self.tell_due(rt, at, rows);
-        join_if(caller, peer)?;
-        self.end_draw(is_due, at.now);
+        self.look_on(caller)?;
+        self.end_look(rt, at);
+        match self.drawn {
+            Some(peer) => self.join_drawn(caller, at.now, peer),
+            None => Ok(()),
+        }
+    }
+
+    /// What a turn does that joins no peer of the list.
+    #[tactic(auto, using(crate::proofs::Asking::asks_nothing))]
+    fn do_rest<C: Caller, W: Log>(
+        &mut self,
+        rt: &W,
+        caller: &mut C,
+        at: Moment,
+    ) -> Result<(), Refusal>
+        ensures asks { IfOk result (λ _. Asks self.old (C.known caller.old)
+            (C.known caller.new)) }
+        ensures in_vain { IfErr result (λ why. AsksInVain C.limit why self.old
+            (C.known caller.old) (C.known caller.new)) }
+        ensures me { self.new.me ≡ self.old.me }
+        ensures list { self.new.peers.list ≡ self.old.peers.list }
+
+        ensures does { OnOk result (DoesRest self.old.drawn (is_look_due self.old at) self.old at
+            (C.known caller.old) self.new (C.known caller.new)) }
+        ensures refused { IfErr result (λ why. RestInVain C.limit why self.old.drawn
+            (is_look_due self.old at) self.old at (C.known caller.old) self.new
+            (C.known caller.new)) }
+    {
+        if let Some(peer) = self.drawn {
+            return self.join_drawn(caller, at.now, peer);
+        }
+        let is_cut = !self.looked.as_slice().is_empty();
+        if self.is_draw_due(at.now) || self.are_news_due(at) || is_cut {
+            return self.look_round(rt, caller, at);
+        }
         Ok(())
     }
 
     /// One turn, by what was read as it began.
-    #[tactic(auto, using(crate::proofs::Asking::asks_nothing))]
     fn turn_at<C: Caller, W: Log>(
         &mut self,
         rt: &W,
@@ -363,19 +460,18 @@ impl Joiner {
         ensures refused { IfErr result (λ why. DoesTurnInVain C.limit why self.old at
             (C.known caller.old) self.new (C.known caller.new)) }
     {
+        self.hear(at);
         if let Some(peer) = self.due_peer(at) {
             return self.join_listed(caller, at.now, peer);
         }
         self.begin(at.now);
-        if self.is_draw_due(at.now) || self.are_news_due(at) {
-            return self.look_round(rt, caller, at);
-        }
-        Ok(())
+        self.do_rest(rt, caller, at)
     }
 
     /// One turn. Joins a peer of the list or a drawn member, if one is due, and logs at level info what changed of the rows
     /// since the last comparison, if that is due and the level is shown. The rows are read page by page. It is refused as its
-    /// last call was, and does the rest at its next turn. The clock is read once, as the turn begins.
+    /// last call was, and its next turn goes on there: no page is read again that was read, and nobody drawn anew. The clock is
+    /// read once, as the turn begins.
     pub fn turn<C: Observer, W: Log + Clock>(
         &mut self,
         rt: &W,

@@ -1,6 +1,6 @@
 //! All rows, page by page.
 
-ghost use Rattle.std.specs.Prelude.{◌≡◌, ◌↔◌, ◌⊎◌, ◌++◌, ℕ, [], length, IsTrue, IfOk, IfErr};
+ghost use Rattle.std.specs.Prelude.{◌≡◌, ◌↔◌, ◌⊎◌, ◌++◌, ℕ, length, IsTrue, IfOk, IfErr, OnErr};
 ghost use Rattle.swim_member.specs.declared.event.Event.TheVariants.{Members};
 ghost use Rattle.swim_shell.specs.Calls.{Refuses};
 ghost use Rattle.swim_shell.specs.Joins.{AreWhole, IsEligibleIn, LooksAll, LooksInVain, ReadsPage, place_after};
@@ -27,6 +27,7 @@ fn read_page<C: Caller>(caller: &mut C, rows: &mut Rows) -> Result<bool, Refusal
         rows.new) }
     ensures err { IfErr result (λ why. Refuses C.limit why (C.known caller.old)
         (C.known caller.new) (Members (place_after rows.old))) }
+    ensures same { OnErr result (rows.new ≡ rows.old) }
 {
     let after = match rows.last() {
         Some(last) => Cursor::at(last),
@@ -41,14 +42,14 @@ fn read_page<C: Caller>(caller: &mut C, rows: &mut Rows) -> Result<bool, Refusal
     }
 }
 
-/// Reads all rows, page by page, in the place of what was there. What changes meanwhile may be seen or not. A refused call
-/// ends it, with the rows that were read.
+/// Reads all rows after those that are there, page by page. What changes meanwhile may be seen or not. A refused call ends it, with
+/// the rows that were read, and it may be gone on with by another caller.
 #[tactic(auto, using(crate::proofs::Asking::looks_none))]
 pub(crate) fn look<C: Caller>(caller: &mut C, rows: &mut Rows) -> Result<(), Refusal>
-    requires { rows.old ≡ [] }
-    ensures ok { IfOk result (λ _. LooksAll (C.known caller.old) (C.known caller.new) rows.new) }
-    ensures err { IfErr result (λ why. LooksInVain C.limit why (C.known caller.old)
-        (C.known caller.new)) }
+    ensures ok { IfOk result (λ _. LooksAll rows.old (C.known caller.old) (C.known caller.new)
+        rows.new) }
+    ensures err { IfErr result (λ why. LooksInVain C.limit why rows.old (C.known caller.old)
+        (C.known caller.new) rows.new) }
 {
     for _ in 0..PAGES_MAX {
         if !read_page(caller, rows)? {

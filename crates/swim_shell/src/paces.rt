@@ -24,6 +24,9 @@ pub struct Paces {
     pub period: Duration,
     /// From one join of a drawn member to the next; none for never.
     pub rejoin: Option<Duration>,
+    /// How long a confirmed member is remembered. By rules 1 so much more time passes until a listed one is asked that is gone from
+    /// the rows.
+    pub forget: Duration,
 }
 
 impl Paces {

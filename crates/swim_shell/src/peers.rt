@@ -1,11 +1,13 @@
 //! The peers that a member is told to join, and those that its state file kept.
 
-ghost use Rattle.std.specs.Prelude.{◌≡◌, ◌↔◌, [], IfSome, IsTrue, slice_get};
-ghost use Rattle.swim_shell.specs.Joins.{IsNext, stepped};
+ghost use Rattle.std.specs.Prelude.{◌≡◌, ◌≤◌, ◌↔◌, [], None, IfSome, IsTrue, length, slice_get};
+ghost use Rattle.std.specs.List.{filter};
+ghost use Rattle.swim_shell.specs.Joins.{IsNext, begun_again, has_gone, has_row, stepped, watched};
 
 use arrayvec::ArrayVec;
 use std::marker::Model;
-use swim_wire::Endpoint;
+use std::time::Instant;
+use swim_wire::{Endpoint, Update};
 
 /// The most peers of a list: eight of the settings, and eight of the state file.
 pub const LIST_MAX: usize = 16;
@@ -18,6 +20,10 @@ pub(crate) struct Peers {
     next: usize,
     /// Whether each was joined once.
     was_all: bool,
+    /// Those that the rows showed when they were read last.
+    shown: ArrayVec<Endpoint, LIST_MAX>,
+    /// When one was gone from the rows that they had shown before.
+    gone: Option<Instant>,
 }
 
 impl Model for Peers {
@@ -25,7 +31,41 @@ impl Model for Peers {
 
     ghost Value = { PeersView };
 
-    ghost view = { λ p. record { list = p.list.items; next = p.next; were_all = p.was_all } };
+    ghost view = { λ p. record {
+      list = p.list.items;
+      next = p.next;
+      were_all = p.was_all;
+      shown = p.shown.items;
+      gone = p.gone;
+    } };
+}
+
+/// Whether a row shows the member.
+pub(crate) fn has_row(rows: &[Update], who: Endpoint) -> bool
+    ensures { result ≡ has_row rows.now who }
+{
+    rows.iter().any(|row| row.who == who)
+}
+
+/// Whether the rows do not show one of these members.
+fn has_gone(rows: &[Update], shown: &[Endpoint]) -> bool
+    ensures { result ≡ has_gone rows.now shown.now }
+{
+    shown.iter().any(|peer| !has_row(rows, *peer))
+}
+
+/// Those of these peers that the rows show, in their order.
+fn shown_in(rows: &[Update], peers: &[Endpoint]) -> ArrayVec<Endpoint, LIST_MAX>
+    requires { length peers.now ≤ LIST_MAX }
+    ensures { result.items ≡ filter (has_row rows.now) peers.now }
+{
+    let mut shown = ArrayVec::new();
+    for peer in peers {
+        if has_row(rows, *peer) {
+            shown.push(*peer);
+        }
+    }
+    shown
 }
 
 impl Peers {
@@ -34,13 +74,54 @@ impl Peers {
         ensures list { result.list ≡ list.items }
         ensures first { result.next ≡ 0 }
         ensures all { IsTrue result.were_all ↔ (list.items ≡ []) }
+        ensures shown { (result.shown ≡ []) × (result.gone ≡ None) }
     {
         let was_all = list.is_empty();
         Peers {
             list,
             next: 0,
             was_all,
+            shown: ArrayVec::new(),
+            gone: None,
         }
+    }
+
+    /// These are the peers from now on, none of which was joined.
+    pub(crate) fn relist(&mut self, list: ArrayVec<Endpoint, LIST_MAX>)
+        ensures list { self.new.list ≡ list.items }
+        ensures first { self.new.next ≡ 0 }
+        ensures all { IsTrue self.new.were_all ↔ (list.items ≡ []) }
+        ensures shown { self.new.shown ≡ self.old.shown }
+        ensures gone { self.new.gone ≡ self.old.gone }
+    {
+        self.was_all = list.is_empty();
+        self.next = 0;
+        self.list = list;
+    }
+
+    /// The list begins again, as if none was joined.
+    pub(crate) fn begin_again(&mut self)
+        ensures { self.new ≡ begun_again self.old }
+    {
+        self.next = 0;
+        self.was_all = self.list.is_empty();
+    }
+
+    /// All rows were read, which is noted with the time, if one that they had shown is gone.
+    pub(crate) fn watch(&mut self, rows: &[Update], now: Option<Instant>)
+        ensures { self.new ≡ watched rows.now now self.old }
+    {
+        if has_gone(rows, self.shown.as_slice()) {
+            self.gone = now;
+        }
+        self.shown = shown_in(rows, self.list.as_slice());
+    }
+
+    /// When a peer was gone from the rows that they had shown before, the last time; none if that never was.
+    pub(crate) fn gone(&self) -> Option<Instant>
+        ensures { result ≡ self.now.gone }
+    {
+        self.gone
     }
 
     /// Whether each was joined once.

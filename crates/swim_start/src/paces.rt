@@ -28,6 +28,7 @@ pub fn paces_of(settings: &Settings, rejoin: u64, tick_ms: u64) -> Paces
     ensures period { as_nanos result.period ≡ lasting settings.now.period tick_ms }
     ensures rejoin { option_map as_nanos result.rejoin
         ≡ (if rejoin == 0 then None else Some (lasting rejoin tick_ms)) }
+    ensures forget { as_nanos result.forget ≡ lasting settings.now.forget tick_ms }
 {
     Paces {
         answer: lasting(settings.direct, tick_ms),
@@ -37,5 +38,6 @@ pub fn paces_of(settings: &Settings, rejoin: u64, tick_ms: u64) -> Paces
         } else {
             Some(lasting(rejoin, tick_ms))
         },
+        forget: lasting(settings.forget, tick_ms),
     }
 }

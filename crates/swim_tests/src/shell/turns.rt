@@ -122,6 +122,7 @@ fn joiner_of(peers: ArrayVec<Endpoint, LIST_MAX>) -> Result<Joiner, Fail> {
         answer: Duration::from_millis(300),
         period: Duration::from_secs(1),
         rejoin: Some(Duration::from_secs(10)),
+        forget: Duration::from_secs(600),
     };
     let me = endpoint(1).ok_or("an endpoint")?;
     let rng = ChaCha20Rng::from_seed(KEY);
@@ -160,7 +161,7 @@ fn turns_by_the_clock(rt: HostRuntime) -> Result<(), Fail> {
     Ok(())
 }
 
-/// A drawn member whose join meets a full era is joined in the next one.
+/// A drawn member whose join meets a full era is joined in the next one, and nothing is read again for it.
 #[test]
 fn draws_again_in_the_next_era(rt: HostRuntime) -> Result<(), Fail> {
     let mut joiner = joiner_of(ArrayVec::new())?;
@@ -179,7 +180,7 @@ fn draws_again_in_the_next_era(rt: HostRuntime) -> Result<(), Fail> {
     same(
         &rt,
         turn(&desk, &mut joiner, &mut caller)?,
-        (1, endpoint(3)),
+        (0, endpoint(3)),
     );
     Ok(())
 }

@@ -116,6 +116,7 @@ fn joins_listed_and_drawn(rt: HostRuntime) -> Result<(), Fail> {
             answer: Duration::from_millis(300),
             period: Duration::from_secs(1),
             rejoin,
+            forget: Duration::from_secs(600),
         };
         let mut joiner = Joiner::new(me, rules, peers, paces, ChaCha20Rng::from_seed(KEY));
         same(&rt, joiner.turn(&rt, &mut caller), Ok(()));
@@ -147,6 +148,7 @@ fn waits_between_joins(rt: HostRuntime) -> Result<(), Fail> {
         answer: Duration::from_millis(300),
         period: Duration::from_secs(1),
         rejoin: None,
+        forget: Duration::from_secs(600),
     };
     for (joins, were_all, is_alone, millis) in [
         (0, false, true, Some(300)),
