@@ -8,6 +8,8 @@ mod live_settings;
 mod looking_doors;
 mod lookup;
 mod reading;
+mod reading_doors;
+mod rereading;
 mod running;
 mod sockets;
 mod state_file;

@@ -1,6 +1,7 @@
 //! The settings of a running member.
 
-ghost use Rattle.std.specs.Prelude.{◌≡◌, ◌≤◌, ◌==◌, ℕ, List, None, Some, cond, length, option_map};
+ghost use Rattle.std.specs.Prelude.{◌≡◌, ◌≤◌, ◌==◌, ℕ, List, None, Some, cond, length};
+ghost use Rattle.std.specs.Prelude.{option_map, IfOk};
 ghost use Rattle.std.specs.Duration.{as_nanos};
 ghost use Rattle.swim_settings.specs.Ranges.{AreInRange};
 ghost use Rattle.swim_settings.specs.Reloads.{taken_anew};
@@ -8,12 +9,14 @@ ghost use Rattle.swim_start.specs.Starting.{lasting, peers_to_join};
 
 use crate::listing::Listing;
 use crate::reading::settings_at;
+use crate::reading_doors::Reread;
 use arrayvec::ArrayString;
 use log::{LevelFilter, Log, info, warn};
 use std::fmt::{self, Display, Formatter, Write};
 use std::sync::{Mutex, Wait};
 use std::thread::Threads;
 use std::time::Clock;
+use swim_ending::Ending;
 use swim_log::LogLevel;
 use swim_node::Room;
 use swim_recorder::{Finished, Keeper};
@@ -90,13 +93,14 @@ pub(crate) struct LiveSettings<'a, T> {
     told: RunSettings,
     scribe: Scribe<'a, T>,
     listing: &'a Mutex<Listing>,
+    reread: &'a Mutex<Reread>,
     ghost range: { AreInRange told },
 }
 
 impl<'a, T: Threads + Wait + Log + Clock> LiveSettings<'a, T> {
     ghost use Rattle.std.specs.Prelude.{◌≡◌};
 
-    /// These settings, which the file at this path said, with the list of whom it names to join.
+    /// These settings, which the file at this path said, with the list of whom it names to join, and with what is read of it again.
     pub(crate) fn new(
         rt: HostRuntime,
         logged: &'a T,
@@ -104,6 +108,7 @@ impl<'a, T: Threads + Wait + Log + Clock> LiveSettings<'a, T> {
         config: &'a str,
         told: RunSettings,
         listing: &'a Mutex<Listing>,
+        reread: &'a Mutex<Reread>,
     ) -> LiveSettings<'a, T>
         requires { AreInRange told }
     {
@@ -116,6 +121,7 @@ impl<'a, T: Threads + Wait + Log + Clock> LiveSettings<'a, T> {
             told,
             scribe,
             listing,
+            reread,
         }
     }
 
@@ -161,6 +167,17 @@ impl<'a, T: Threads + Wait + Log + Clock> LiveSettings<'a, T> {
         reloaded(keys.as_slice())
     }
 
+    /// What the settings file says now. The desk has read it when it heard the line `reload`.
+    fn read_again(&self) -> Result<RunSettings, Ending>
+        ensures { IfOk result AreInRange }
+    {
+        let read = self.reread.lock(self.logged).take();
+        match read {
+            Some(read) => read,
+            None => settings_at(&self.rt, self.config),
+        }
+    }
+
     /// Waits until all eras that are to be recorded are.
     pub(crate) fn finish(self) {
         self.scribe.finish();
@@ -187,7 +204,7 @@ impl<'a, T: Threads + Wait + Log + Clock> Host for LiveSettings<'a, T> {
     ghost relists = { Unit {0} };
 
     fn reload(&mut self) -> Answer {
-        match settings_at(&self.rt, self.config) {
+        match self.read_again() {
             Ok(then) => self.take(then),
             Err(ending) => {
                 warn!(self.logged; "the settings were not read again, and stay as they are: {ending}");

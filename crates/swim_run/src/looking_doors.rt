@@ -148,4 +148,8 @@ impl<'a, O: Doors, T: Threads + Wait + Log + Clock> Doors for LookingDoors<'a, O
         self.doors.wait();
         self.look();
     }
+
+    fn prepare_reload(&mut self) -> bool {
+        self.doors.prepare_reload()
+    }
 }

@@ -52,4 +52,8 @@ impl<O: Doors, R: Files<File = File> + Copy, W: Log> Doors for WatchedDoors<O, R
         self.doors.wait();
         self.look();
     }
+
+    fn prepare_reload(&mut self) -> bool {
+        self.doors.prepare_reload()
+    }
 }

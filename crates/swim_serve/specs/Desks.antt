@@ -6,7 +6,8 @@ use Rattle.swim_shell.specs.declared.conversation.ControlEnd.{ControlEnd}
 use Rattle.swim_shell.specs.declared.conversation.ControlEnd.TheVariants as ends
 use Rattle.swim_shell.specs.Calls.{CallerView}
 use Rattle.swim_shell.specs.declared.paces.Paces.{Paces}
-use Rattle.swim_shell.specs.Joins.{JoinerView, Asks, AsksInVain, IsRelisted}
+use Rattle.swim_shell.specs.Joins.{JoinerView, IsRelisted}
+use Rattle.swim_shell.specs.Turns.{Turned, TurnedInVain}
 use Rattle.swim_shell.specs.Views.{ConversationView, view_of}
 use Rattle.swim_shell.specs.Control.{Converses, ConversedBy, IsTold}
 use Rattle.swim_serve.specs.Works.{Worked}
@@ -23,10 +24,11 @@ abbrev pub desk_of : {S : Type 0} → JoinerView → Option S → List S → Des
 desk_of joiner conversation others =
     record { joiner = joiner; conversation = conversation; others = others }
 
--- what a desk does next: its joiner asks; a conversation is opened, or the next one goes on; and
--- the one that has the turns stands aside after so many of them, or comes to its end
+-- what a desk does next: its joiner has a turn, after which it is so; a conversation is opened, or
+-- the next one goes on; and the one that has the turns stands aside after so many of them, or comes
+-- to its end
 pub data Step (S : Type 0) : Type 0 where
-  Asking : Step S
+  Joining : JoinerView → Step S
   Opening : S → Step S
   Resuming : S → Step S
   Pausing : S → (turns : ℕ) → Step S
@@ -59,24 +61,24 @@ IsTurnIn fresh c os us = (fresh c × (us ≡ os)) ⊎ (os ≡ c ∷ us)
 -- conversations begin so, and have turns and ends so
 module _ {S : Type 0} (fresh : S → Type 0) (worked : S → CallerView → S → CallerView → ℕ → Type 0)
     (ended : ControlEnd → S → CallerView → S → CallerView → ℕ → Type 0) (limit : ℕ) where
-  -- these steps, one after another, from this conversation and these others: the joiner asks, and a
-  -- conversation is opened or goes on, only where none has the turns; one that stands aside is the
-  -- last of the others, as it is then
-  abbrev pub Steps : JoinerView → Option S → List S → CallerView → List (Step S) → Option S
-      → List S → CallerView → Type 0
-  Steps j from os p [] to us q = (to ≡ from) × (us ≡ os) × (q ≡ p)
-  Steps j from os p (Asking ∷ ss) to us q =
-      (from ≡ None) × (then : CallerView) × Asks j p then × Steps j None os then ss to us q
-  Steps j from os p (Opening c ∷ ss) to us q =
-      (from ≡ None) × fresh c × Steps j (Some c) os p ss to us q
-  Steps j from os p (Resuming c ∷ ss) to us q =
-      (from ≡ None) × (rest : List S) × (os ≡ c ∷ rest) × Steps j (Some c) rest p ss to us q
-  Steps j from os p (Pausing d n ∷ ss) to us q =
+  -- these steps, one after another, from this joiner, this conversation and these others: the
+  -- joiner has a turn, and a conversation is opened or goes on, only where none has the turns; one
+  -- that stands aside is the last of the others, as it is then
+  abbrev pub Steps : JoinerView → Option S → List S → CallerView → List (Step S) → JoinerView
+      → Option S → List S → CallerView → Type 0
+  Steps j from os p [] k to us q = (k ≡ j) × (to ≡ from) × (us ≡ os) × (q ≡ p)
+  Steps j from os p (Joining i ∷ ss) k to us q =
+      (from ≡ None) × (then : CallerView) × Turned j p i then × Steps i None os then ss k to us q
+  Steps j from os p (Opening c ∷ ss) k to us q =
+      (from ≡ None) × fresh c × Steps j (Some c) os p ss k to us q
+  Steps j from os p (Resuming c ∷ ss) k to us q =
+      (from ≡ None) × (rest : List S) × (os ≡ c ∷ rest) × Steps j (Some c) rest p ss k to us q
+  Steps j from os p (Pausing d n ∷ ss) k to us q =
       (c : S) × (then : CallerView) × (from ≡ Some c) × worked c p d then n
-      × Steps j None (os ++ d ∷ []) then ss to us q
-  Steps j from os p (Ending d end n ∷ ss) to us q =
+      × Steps j None (os ++ d ∷ []) then ss k to us q
+  Steps j from os p (Ending d end n ∷ ss) k to us q =
       (c : S) × (then : CallerView) × (from ≡ Some c) × OfConnection end × ended end c p d then n
-      × Steps j None os then ss to us q
+      × Steps j None os then ss k to us q
 
   -- the conversation that got the turns has had some since
   abbrev pub IsOpen : Option S → CallerView → Option S → CallerView → Type 0
@@ -91,30 +93,27 @@ module _ {S : Type 0} (fresh : S → Type 0) (worked : S → CallerView → S �
     pub steps : List (Step S)
     pub since : Option S
     pub then : CallerView
-    pub done : Steps a.joiner a.conversation a.others p steps since b.others then
+    pub done : Steps a.joiner a.conversation a.others p steps b.joiner since b.others then
     pub goes_on : IsOpen since then b.conversation q
-    pub me : b.joiner.me ≡ a.joiner.me
-    pub list : b.joiner.peers.list ≡ a.joiner.peers.list
 
   -- how a desk ends: a call of its joiner was refused, or the open conversation ended so
-  abbrev pub EndsDesk : ControlEnd → JoinerView → Option S → CallerView → Option S
+  abbrev pub EndsDesk : ControlEnd → JoinerView → Option S → CallerView → JoinerView → Option S
       → CallerView → Type 0
-  EndsDesk end j None then now q =
-      (why : Refusal) × (now ≡ None) × (end ≡ ends.Refused why) × AsksInVain limit why j then q
-  EndsDesk end j (Some c) then now q =
-      (d : S) × (n : ℕ) × (now ≡ Some d) × OfMember end × ended end c then d q n
+  EndsDesk end j None then k now q =
+      (why : Refusal) × (now ≡ None) × (end ≡ ends.Refused why) × TurnedInVain limit why j then k q
+  EndsDesk end j (Some c) then k now q =
+      (k ≡ j) × (d : S) × (n : ℕ) × (now ≡ Some d) × OfMember end × ended end c then d q n
 
   -- the turns of a desk that ended so; the conversation that ended it keeps the turns
   pub record TendedBy (end : ControlEnd) (a : DeskView S) (p : CallerView) (b : DeskView S)
       (q : CallerView) (turns : ℕ)
       : Type 0 where
     pub steps : List (Step S)
+    pub joiner : JoinerView
     pub since : Option S
     pub then : CallerView
-    pub done : Steps a.joiner a.conversation a.others p steps since b.others then
-    pub ends_by : EndsDesk end a.joiner since then b.conversation q
-    pub me : b.joiner.me ≡ a.joiner.me
-    pub list : b.joiner.peers.list ≡ a.joiner.peers.list
+    pub done : Steps a.joiner a.conversation a.others p steps joiner since b.others then
+    pub ends_by : EndsDesk end joiner since then b.joiner b.conversation q
 
   -- ---- parts of a turn
 

@@ -3,7 +3,8 @@
 ghost use Rattle.std.specs.Prelude.{◌≡◌, ◌<◌, ◌≤◌, [], ◌∷◌, ◌++◌, None, IfNone, IfSome, IfOk, IfErr};
 ghost use Rattle.std.specs.Prelude.{OnErr, OnOk, IsSome, IsTrue, false, ◌+◌, length, option_to_list, min, if◌then◌else◌};
 ghost use Rattle.swim_serve.specs.declared.aside.TheConstants.{OPEN_MAX};
-ghost use Rattle.swim_shell.specs.Joins.{Asks, AsksInVain, IsRelisted};
+ghost use Rattle.swim_shell.specs.Joins.{IsRelisted};
+ghost use Rattle.swim_shell.specs.Turns.{Turned, TurnedInVain};
 ghost use Rattle.swim_shell.specs.Calls.{CallerView};
 ghost use Rattle.swim_serve.specs.Desks.{TalkGoes};
 ghost use Rattle.swim_serve.specs.Desks.{HasAnswer, OfConnection, OfMember, Opens};
@@ -146,17 +147,15 @@ impl<W: Log + Clock + Drop, O: Doors + Drop> Desk<W, O> {
     /// Lets the joiner ask, and gives the turns to the next conversation, if there is one.
     fn stand_by<C: Observer>(&mut self, caller: &mut C) -> Result<(), Refusal>
         requires { self.old.conversation ≡ None }
-        ensures asks { IfOk result (λ _. Asks self.old.joiner (C.known caller.old)
-            (C.known caller.new)) }
+        ensures turned { IfOk result (λ _. Turned self.old.joiner (C.known caller.old)
+            self.new.joiner (C.known caller.new)) }
         ensures opens { IfOk result (λ _. Opens O.Reader.remaining O.Writer.contents C.limit
             (C.known caller.new) self.old.others self.new.conversation
             self.new.others) }
-        ensures in_vain { IfErr result (λ why. AsksInVain C.limit why self.old.joiner
-            (C.known caller.old) (C.known caller.new)) }
-        ensures me { self.new.joiner.me ≡ self.old.joiner.me }
+        ensures in_vain { IfErr result (λ why. TurnedInVain C.limit why self.old.joiner
+            (C.known caller.old) self.new.joiner (C.known caller.new)) }
         ensures nobody { OnErr result ((self.new.conversation ≡ None)
             × (self.new.others ≡ self.old.others)) }
-        ensures list { self.new.joiner.peers.list ≡ self.old.joiner.peers.list }
 
         // Nobody gets the turns only where nothing had come to any of the others.
         ensures silent { OnOk result (self.new.conversation ≡ None
@@ -197,7 +196,7 @@ impl<C: Observer, W: Log + Clock + Drop, O: Doors + Drop> Worker<C> for Desk<W, 
         }
     }
 
-    #[tactic(auto, using(crate::proofs::Tending::tending_asked, crate::proofs::Tending::tending_refused))]
+    #[tactic(auto, using(crate::proofs::Tending::tending_joined, crate::proofs::Tending::tending_refused))]
     fn turn(&mut self, caller: &mut C) -> Option<ControlEnd> {
         let Some(mut conversation) = self.conversation.take() else {
             return match self.stand_by(caller) {
@@ -208,6 +207,11 @@ impl<C: Observer, W: Log + Clock + Drop, O: Doors + Drop> Worker<C> for Desk<W, 
         match conversation.turn(caller) {
             Some(end) if is_of_connection(end) => None,
             None if !conversation.is_waiting() => {
+                self.set_aside(conversation);
+                None
+            }
+            Some(ControlEnd::Reloading) if !self.doors.prepare_reload() => {
+                conversation.hold();
                 self.set_aside(conversation);
                 None
             }

@@ -165,7 +165,8 @@ fn carried(due: Option<LineEnd>) -> Option<LineEnd>
 }
 
 impl<Rd: Read + Drop, Wr: Write + Drop> Conversation<Rd, Wr> {
-    ghost use Rattle.std.specs.Prelude.{◌≡◌, ◌≢◌, false, [], None, OnOk, OnErr, IfErr};
+    ghost use Rattle.std.specs.Prelude.{◌≡◌, ◌≢◌, true, false, [], None, Some, OnOk, OnErr, IfErr};
+    ghost use Rattle.swim_shell.specs.declared.conversation.LineEnd.TheVariants as line_end;
     ghost use Rattle.swim_shell.specs.Views.{left_of, view_of};
     ghost use Rattle.swim_shell.specs.Control.{HearsLine, HearsNone, IsTold, Sends, is_not_yet};
 
@@ -214,6 +215,19 @@ impl<Rd: Read + Drop, Wr: Write + Drop> Conversation<Rd, Wr> {
         if self.answers.has_written() {
             self.answers.put(answer);
         }
+    }
+
+    /// It has ended by the line `reload`, for which nothing is ready yet: it ends so again in a later turn, and is silent until then.
+    pub fn hold(&mut self)
+        ensures due { view_of Rd.remaining Wr.contents self.new
+            ≡ record (view_of Rd.remaining Wr.contents self.old) {
+              due = Some line_end.Reloading;
+              waits = true;
+            } }
+        ensures silent { self.new.is_silent ≡ true }
+    {
+        self.due = Some(LineEnd::Reloading);
+        self.is_silent = true;
     }
 
     /// Hears the next line, and has its answer to write.
