@@ -93,6 +93,15 @@ HINTS = (
         " with a port too, such as db1.example:7001",
     ),
     (
+        r"threads refused",
+        "a running member has four threads: look at `TasksMax` of its unit, the pids limit of its container, and `ulimit -u` of its"
+        " user, which other programs may have used up; its state file is good for the next start",
+    ),
+    (
+        r"era refused",
+        "this is a fault of the program, which ends before it goes on: please report it; its state file is good for the next start",
+    ),
+    (
         r"host refused",
         "the system knows no IPv4 address of this host, or did not say within 5 seconds: `getent ahostsv4 NAME` asks it the same",
     ),

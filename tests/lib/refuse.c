@@ -3,6 +3,7 @@
    REFUSE_AT=N      refuses the N-th allocation, and that one alone
    REFUSE_FROM=N    refuses the N-th allocation and each one after it
    REFUSE_THREAD=N  refuses the N-th thread, and that one alone
+   REFUSE_THREADS=N refuses the N-th thread and each one after it
    REFUSE_TOLD=FD   writes one byte to this descriptor at the first refusal */
 
 #define _GNU_SOURCE
@@ -85,7 +86,8 @@ typedef int begin(pthread_t *, const pthread_attr_t *, void *(*)(void *), void *
 
 int pthread_create(pthread_t *thread, const pthread_attr_t *shape, void *(*run)(void *), void *with)
 {
-    if (++begun == number_in("REFUSE_THREAD")) {
+    long number = ++begun, from = number_in("REFUSE_THREADS");
+    if (number == number_in("REFUSE_THREAD") || (from && number >= from)) {
         tell(number_in("REFUSE_TOLD"));
         return EAGAIN;
     }

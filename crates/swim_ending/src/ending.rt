@@ -79,6 +79,12 @@ pub enum Ending {
     /// There is no memory.
     #[error("memory")]
     Memory,
+    /// The system had no thread for a worker, for some seconds.
+    #[error("threads refused")]
+    Threads,
+    /// The journal of an era did not have the calls of a worker as that one knew them.
+    #[error("era refused")]
+    Odd,
     /// An endpoint among the words is none.
     #[error("address refused")]
     Address,
@@ -155,6 +161,14 @@ impl From<InputFault> for Ending {
     }
 }
 
+/// What else to say where there was no thread.
+const THREADS: &str =
+    "a running member has four threads: look at `TasksMax` of its unit, the pids limit of its container, and `ulimit -u` of its user, which other programs may have used up; its state file is good for the next start";
+
+/// What else to say where an era was refused.
+const ODD: &str =
+    "this is a fault of the program, which ends before it goes on: please report it; its state file is good for the next start";
+
 impl Ending {
     ghost use Rattle.std.specs.Prelude.{◌≡◌, ◌↔◌, IsTrue};
     ghost use Rattle.std.specs.IoError.{error_kind, raw_os_error};
@@ -178,6 +192,8 @@ impl Ending {
             Ending::Host => Some(HOST),
             Ending::NotEnded => Some(NOT_ENDED),
             Ending::Address => Some(ADDRESS),
+            Ending::Threads => Some(THREADS),
+            Ending::Odd => Some(ODD),
             _ => None,
         }
     }

@@ -10,11 +10,15 @@ use swim_serve::{Fault, MemberEnd};
 /// The ending of a member that a fault ended.
 fn ending_of(fault: Fault) -> Ending
     ensures memory { fault ≡ Fault.Memory → result ≡ Ending.Memory }
+    ensures threads { fault ≡ Fault.Threads → result ≡ Ending.Threads }
+    ensures odd { fault ≡ Fault.Odd → result ≡ Ending.Odd }
     ensures worker { (end : _) → fault ≡ Fault.Worker end → result ≡ Ending.Worker end }
     ensures unexpelled { result ≢ Ending.Expelled }
 {
     match fault {
         Fault::Memory => Ending::Memory,
+        Fault::Threads => Ending::Threads,
+        Fault::Odd => Ending::Odd,
         Fault::Worker(end) => Ending::Worker(end),
     }
 }

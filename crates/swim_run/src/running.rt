@@ -1,5 +1,6 @@
 //! `swim run`.
 
+ghost use Rattle.std.specs.Prelude.{◌≡◌, ◌+◌, Some, None, if◌then◌else◌};
 ghost use Rattle.swim_settings.specs.Ranges.{AreInRange};
 
 use crate::ended::ended_by;
@@ -7,6 +8,7 @@ use crate::listing::Listing;
 use crate::live_settings::{LiveSettings, log_from};
 use crate::looking_doors::LookingDoors;
 use crate::reading::settings_at;
+use crate::reading_doors::{ReadingDoors, Reread};
 use crate::sockets::{Sockets, waits};
 use crate::state_file::{StateFile, open_node};
 use crate::watched_doors::WatchedDoors;
@@ -45,6 +47,21 @@ fn beat_of(told: &RunSettings) -> Beat {
     )
 }
 
+/// How many ticks an expelled member waits before it ends; none if it is to stay. A member that hears last of the Confirm does so within
+/// the time of a suspicion, and forgets it `forget` ticks later.
+fn expelled_wait(told: &RunSettings) -> Option<u64>
+    requires { AreInRange told.now }
+    ensures { result ≡ (if told.now.ends_expelled
+        then Some (told.now.settings.forget + told.now.settings.suspect) else None) }
+{
+    let settings = &told.settings;
+    if told.ends_expelled {
+        Some(settings.forget + settings.suspect)
+    } else {
+        None
+    }
+}
+
 /// Takes a number above all that the member may have used, and serves era after era.
 fn live<'a, T: Threads + Wait + Log + Clock + Send + Sync + Copy + Drop>(
     rt: &HostRuntime,
@@ -53,6 +70,7 @@ fn live<'a, T: Threads + Wait + Log + Clock + Send + Sync + Copy + Drop>(
     config: &'a str,
     told: RunSettings,
     listing: &'a Mutex<Listing>,
+    reread: &'a Mutex<Reread>,
     key: [u8; 32],
     held: StateFile,
     sockets: Sockets<'a, T>,
@@ -65,8 +83,8 @@ fn live<'a, T: Threads + Wait + Log + Clock + Send + Sync + Copy + Drop>(
     info!(logged; "up with number {number}, at {}, control at {}", settings.me, told.control);
     let (rng, draws) = generators(key);
     let beat = beat_of(&told);
-    let ends_expelled = told.ends_expelled;
-    let mut host = LiveSettings::new(*rt, logged, level, config, told, listing);
+    let expelled_ends = expelled_wait(&told);
+    let mut host = LiveSettings::new(*rt, logged, level, config, told, listing, reread);
     let joins = host.joins_with(&node.peers());
     let joiner = Joiner::new(
         settings.me,
@@ -77,6 +95,7 @@ fn live<'a, T: Threads + Wait + Log + Clock + Send + Sync + Copy + Drop>(
     );
     let doors = LookingDoors::new(sockets.doors, *rt, logged, listing);
     let doors = WatchedDoors::new(doors, held.own, *logged);
+    let doors = ReadingDoors::new(doors, *rt, logged, config, reread);
     let desk = Desk::new(rt.alloc(), *logged, joiner, doors).map_err(|_| Ending::Memory)?;
     let outside = Outside {
         receiver: Receiver::new(sockets.inbound),
@@ -94,7 +113,7 @@ fn live<'a, T: Threads + Wait + Log + Clock + Send + Sync + Copy + Drop>(
         node,
         outside,
         &alarms,
-        ends_expelled,
+        expelled_ends,
         &mut host,
     );
     host.finish();
@@ -120,7 +139,8 @@ pub fn run<T: Threads + Wait + Log + Clock + Send + Sync + Copy + Drop>(
     // The control socket stays open until all else is closed: who finds it closed may start the next life at once.
     let (sockets, _control) = Sockets::bind(rt, logged, &waits, connections, &told)?;
     let listing = Mutex::new(Listing::new(told.join.as_slice()));
+    let reread = Mutex::new(Reread::new());
     live(
-        rt, logged, level, config, told, &listing, key, held, sockets,
+        rt, logged, level, config, told, &listing, &reread, key, held, sockets,
     )
 }

@@ -2,7 +2,7 @@
 use Rattle.std.proofs.Common.{◌≡◌, ℕ, ◌+◌, ◌==◌, ◌&&◌, ◌||◌, leb, Bool, true, false, true≢false, List, [], ◌∷◌, ◌++◌, length, refl, ap, sym, subst, ◌∙◌, arith, inl, inr, ⊎_elim, length-append}
 use Rattle.std.proofs.lemmas.List.{append-nil}
 use Rattle.std.proofs.lemmas.Bool.Decides.{nat_tests}
-use Rattle.std.specs.Prelude.{Option, Some, None, IfSome, IsSomeAnd, Result, Ok, Err, IfOk}
+use Rattle.std.specs.Prelude.{Option, Some, IsSomeAnd}
 use mathlib.Core.List.{IsPrefix}
 use Rattle.swim_member.specs.declared.event.Event.{Event}
 use Rattle.swim_node.specs.declared.entry.Entry.{Entry}
@@ -19,25 +19,8 @@ use Rattle.swim_serve.specs.Views.{view_of}
 use Rattle.swim_serve.specs.Works.{Sent}
 use Rattle.swim_serve.proofs.Fitting.{Fits}
 
-pub of_some : {A : Type 0} (P : A → Type 0) (o : Option A) (x : A) → o ≡ Some x → IfSome o P → P x
-of_some P o x is h = subst (λ w. IfSome w P) is h
-
-pub there : {A : Type 0} (P : A → Type 0) (o : Option A) (x : A) → o ≡ Some x → P x → IsSomeAnd o P
-there P o x is h = subst (λ w. IsSomeAnd w P) (sym is) h
-
--- what is there has both
-pub record Both {A : Type 0} (P Q : A → Type 0) : Type 0 where
-  pub left : A
-  pub took : P left
-  pub did : Q left
-
-pub found : {A : Type 0} (P Q : A → Type 0) (o : Option A) → IsSomeAnd o P → IfSome o Q → Both P Q
-found P Q (Some x) p q = record { left = x; took = p; did = q }
-found P Q None p q = absurd p
-
-pub if_ok : {A E : Type 0} (P Q : A → Type 0) (r : Result A E) → ((x : A) → P x → Q x) → IfOk r P → IfOk r Q
-if_ok P Q (Ok x) step h = step x h
-if_ok P Q (Err e) step h = tt
+pub of_some : {A : Type 0} (P : A → Type 0) (o : Option A) (x : A) → o ≡ Some x → IsSomeAnd o P → P x
+of_some P o x is h = subst (λ w. IsSomeAnd w P) is h
 
 both : (a b : Bool) → (a && b) ≡ true → b ≡ true
 both true b h = h
@@ -85,16 +68,16 @@ module _ {S E : Type 0} (does : S → CallerView → S → CallerView → Option
   by_pass base a b c p s asked pass back end ends did is same ended ok =
       record { spent = s; asked = asked; did = subst (λ w. does a p c (view_of w s asked) ends) (sym same) (subst (λ w. does a p c (view_of pass s asked) w) (sym ended) (subst (λ w. does a p w (view_of pass s asked) end) (sym is) did)); is_pass = ok }
 
-  pub served : (base : Base) (a b : S) (p : CallerView) (pass : PassView) (end : Option E) (odd : ℕ) (journal : List Entry) → ByPass does base a p b pass end → (odd ≡ 0 → Fits journal pass) → Served does a p b end odd journal
-  served base a b p pass end odd journal by fits = record { then = view_of pass by.spent by.asked; did = by.did; knows = λ none. knows base pass by.spent by.asked journal by.is_pass (fits none) }
+  pub served : (base : Base) (a b : S) (p : CallerView) (pass : PassView) (end : Option E) (journal : List Entry) → ByPass does base a p b pass end → Fits journal pass → Served does a p b end journal
+  served base a b p pass end journal by fits = record { then = view_of pass by.spent by.asked; did = by.did; knows = knows base pass by.spent by.asked journal by.is_pass fits }
 
 module _ {M : Type 0} (tells : Type 0) (took : M → List (ℕ × List ℕ)) (failures : M → ℕ) where
-  pub sends : (base : Base) (owed : ℕ) (ring turned : SenderView) (link after last : M) (pass : PassView) (end : Option Refusal) (odd owes : ℕ) (journal : List Entry) → SendsBy tells took failures base owed ring link turned after pass end → (odd ≡ 0 → Fits journal pass) → HandedOn tells took failures turned.got (taken_of journal) after last → owes ≡ owed_after turned.owed (failures after) (failures last) → Sends tells took failures base.limit owed ring link last end odd owes journal
-  sends base owed ring turned link after last pass end odd owes journal by fits handed owe = record {
+  pub sends : (base : Base) (owed : ℕ) (ring turned : SenderView) (link after last : M) (pass : PassView) (end : Option Refusal) (owes : ℕ) (journal : List Entry) → SendsBy tells took failures base owed ring link turned after pass end → Fits journal pass → HandedOn tells took failures turned.got (taken_of journal) after last → owes ≡ owed_after turned.owed (failures after) (failures last) → Sends tells took failures base.limit owed ring link last end owes journal
+  sends base owed ring turned link after last pass end owes journal by fits handed owe = record {
     first = by.first;
     told = by.told;
     then = outgoing_of took failures by.turns turned after;
-    served = served (Sent tells base.limit) base (outgoing_of took failures 0 ring link) (outgoing_of took failures by.turns turned after) by.first pass end odd journal by.by fits;
+    served = served (Sent tells base.limit) base (outgoing_of took failures 0 ring link) (outgoing_of took failures by.turns turned after) by.first pass end journal by.by fits;
     fates = handed.fates;
     rest = record { out = handed.out_is; took = handed.took_is; lost = handed.failures_is };
     owes_are = owe;

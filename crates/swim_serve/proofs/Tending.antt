@@ -1,5 +1,5 @@
 -- Turns of a desk, put together.
-use Rattle.std.proofs.Common.{◌≡◌, ◌≢◌, Bool, true, ◌⊎◌, ℕ, ◌+◌, List, [], ◌∷◌, ◌++◌, refl, ap, sym, subst, ◌∙◌, inl, inr, true≢false}
+use Rattle.std.proofs.Common.{◌≡◌, ◌≢◌, Bool, true, ◌⊎◌, ℕ, ◌+◌, List, [], ◌∷◌, ◌++◌, refl, sym, subst, ◌∙◌, inl, inr, true≢false}
 use Rattle.std.specs.Prelude.{Option, Some, None, IfSome, IsSome}
 use Rattle.swim_shell.specs.declared.caller.Refusal.{Refusal}
 use Rattle.swim_shell.specs.declared.conversation.Conversation.{Conversation}
@@ -8,7 +8,7 @@ use Rattle.swim_shell.specs.declared.conversation.ControlEnd.TheVariants as ends
 use Rattle.swim_shell.specs.declared.conversation.LineEnd.{LineEnd}
 use Rattle.swim_shell.specs.declared.conversation.LineEnd.TheVariants as line_end
 use Rattle.swim_shell.specs.Calls.{CallerView}
-use Rattle.swim_shell.specs.Control.{Converses, DueAfter, HadToWrite, Heard, carried}
+use Rattle.swim_shell.specs.Control.{Converses, DueAfter, Heard, carried}
 use Rattle.swim_shell.specs.Views.{is_out, is_waiting, view_of}
 use Rattle.swim_shell.specs.Joins.{JoinerView}
 use Rattle.swim_shell.specs.Turns.{Turned, TurnedInVain}
@@ -107,3 +107,10 @@ held_goes remaining contents limit c d e p q n t is = subst (λ w. Converses lim
   talks = record { lines = t.talks.lines; took = t.talks.took; wrote = t.talks.wrote; ends = t.talks.ends };
   waits = λ _. had_to_write c.due (is_out c.answers) t.heard t.talks.ends;
 })
+
+-- a turn that ended so, after which the conversation is held
+pub held_from : {Rd Wr : Type 0} (remaining : Rd → Option (List ℕ)) (contents : Wr → Option (List ℕ)) (limit : ℕ) (turn : Option ControlEnd) (a d e : Conversation Rd Wr) (p q : CallerView) → turn ≡ Some ends.Reloading → IfSome turn (λ end. Goes (TalkGoes remaining contents limit) (TalkEnds remaining contents limit end) a p d q) → view_of remaining contents e ≡ record (view_of remaining contents d) { due = Some line_end.Reloading; waits = true } → Goes (TalkGoes remaining contents limit) (TalkGoes remaining contents limit) a p e q
+held_from remaining contents limit None a d e p q is goes same = absurd cc
+held_from remaining contents limit (Some end) a d e p q is goes same =
+    let reloading : end ≡ ends.Reloading = cc in
+    λ s r n w. held_goes remaining contents limit s d e r q (n + 1) (subst (λ x. TalkEnds remaining contents limit x s r d q (n + 1)) reloading (goes s r n w)) same

@@ -45,13 +45,12 @@ module _ {S E : Type 0} (does : S → CallerView → S → CallerView → Option
     pub did : does a p b (view_of pass spent asked) end
     pub is_pass : IsPass base pass
 
-  -- a worker did so in an era that left this journal, which has its calls if no pass is odd
-  pub record Served (a : S) (p : CallerView) (b : S) (end : Option E) (odd : ℕ)
-      (journal : List Entry)
+  -- a worker did so in an era that left this journal, which has its calls
+  pub record Served (a : S) (p : CallerView) (b : S) (end : Option E) (journal : List Entry)
       : Type 0 where
     pub then : CallerView
     pub did : does a p b then end
-    pub knows : odd ≡ 0 → Knows journal then
+    pub knows : Knows journal then
 
 module _ {M : Type 0} (took : M → List (ℕ × List ℕ)) (failures : M → ℕ) where
   -- what a contract sees of a ring and its link, after so many turns
@@ -79,13 +78,13 @@ module _ {M : Type 0} (tells : Type 0) (took : M → List (ℕ × List ℕ)) (fa
   -- the same in an era that left this journal: all that its calls took for sending went to the
   -- link in order, what was left at the end too; and so many losses are owed now
   pub record Sends (limit : ℕ) (owed : ℕ) (ring : SenderView) (link after : M)
-      (end : Option Refusal) (odd owes : ℕ) (journal : List Entry)
+      (end : Option Refusal) (owes : ℕ) (journal : List Entry)
       : Type 0 where
     pub first : CallerView
     pub told : NewCalls (new_caller 2) first (owed_first owed)
     pub then : OutgoingView
     pub served : Served (Sent tells limit) (outgoing_of took failures 0 ring link) first then
-        end odd journal
+        end journal
     pub fates : List Fate
     pub rest : Handed tells then (record {
       turns = then.turns;
@@ -97,19 +96,18 @@ module _ {M : Type 0} (tells : Type 0) (took : M → List (ℕ × List ℕ)) (fa
     pub owes_are : owes ≡ owed_after then.owed then.lost (failures after)
 
   -- the same by a new ring
-  abbrev pub SendsAll : (limit owed owes : ℕ) → M → M → Option Refusal → ℕ → List Entry → Type 0
-  SendsAll limit owed owes link after end odd journal =
-      (ring : SenderView) × (ring.got ≡ []) × Sends limit owed ring link after end odd owes journal
+  abbrev pub SendsAll : (limit owed owes : ℕ) → M → M → Option Refusal → List Entry → Type 0
+  SendsAll limit owed owes link after end journal =
+      (ring : SenderView) × (ring.got ≡ []) × Sends limit owed ring link after end owes journal
 
 -- one era of a member from this base on: its journal is a legal history, which each worker's calls
 -- are of; and where the next era begins
-pub record EraOf (base next : Base) (receives ticks sends serves : ℕ → List Entry → Type 0)
+pub record EraOf (base next : Base) (receives ticks sends serves : List Entry → Type 0)
     : Type 0 where
-  pub odd : ℕ
   pub journal : List Entry
   pub legal : IsLegal base journal
-  pub receiver : receives odd journal
-  pub ticker : ticks odd journal
-  pub sender : sends odd journal
-  pub control : serves odd journal
+  pub receiver : receives journal
+  pub ticker : ticks journal
+  pub sender : sends journal
+  pub control : serves journal
   pub goes_on : IsRaised (next_base base journal) next

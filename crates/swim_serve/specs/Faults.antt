@@ -9,12 +9,16 @@ use Rattle.swim_shell.specs.declared.worker.WorkerEnd.TheVariants as worker
 use Rattle.swim_serve.specs.declared.serving.Fault.{Fault}
 use Rattle.swim_serve.specs.declared.serving.Fault.TheVariants as fault
 use Rattle.swim_serve.specs.declared.era.EraEnds.{EraEnds}
+use Rattle.swim_serve.specs.declared.era.EraFault.{EraFault}
+use Rattle.swim_serve.specs.declared.era.EraFault.TheVariants as era
 
--- an era could not begin: for want of memory, or as a call was refused
-abbrev pub fault_by : Refusal → Fault
-fault_by refusal.Memory = fault.Memory
-fault_by refusal.EraFull = fault.Worker (worker.Refused refusal.EraFull)
-fault_by refusal.Unread = fault.Worker (worker.Refused refusal.Unread)
+-- an era could not be: for want of memory, as its first call was refused, or since its journal does
+-- not have the calls of a worker as that one knows them
+abbrev pub fault_by : EraFault → Fault
+fault_by (era.Refused refusal.Memory) = fault.Memory
+fault_by (era.Refused refusal.EraFull) = fault.Worker (worker.Refused refusal.EraFull)
+fault_by (era.Refused refusal.Unread) = fault.Worker (worker.Refused refusal.Unread)
+fault_by era.Odd = fault.Odd
 
 -- a refused call ends the member, but where the era is full
 abbrev pub by_refusal : Option Refusal → Option Fault

@@ -1,5 +1,5 @@
 -- A member from one era to the next.
-use Rattle.std.specs.Prelude.{◌≡◌, ℕ, List, Bool, true, Option, Some, None}
+use Rattle.std.specs.Prelude.{◌≡◌, ℕ, List, Bool, true, IsTrue, Option, Some, None, IsSome}
 use Rattle.rand_core.specs.Stream.{Stream}
 use Rattle.swim_member.specs.declared.state.Phase.{Phase}
 use Rattle.swim_member.specs.declared.state.Phase.TheVariants as phases
@@ -38,15 +38,15 @@ member_of base receiver deals link owed desk = record {
   desk = desk;
 }
 
--- one that is to end if it is expelled does so
+-- an expelled member ends once its wait is over
 abbrev pub end_by_phase : Phase → Bool → Option MemberEnd
 end_by_phase phases.Expelled true = Some member.Expelled
 end_by_phase _ _ = None
 
 -- how the member ends after an era, if it does: told by the line `stop`, or else expelled
 abbrev pub member_end : Option ControlEnd → Phase → Bool → Option MemberEnd
-member_end (Some control.Asked) now ends_expelled = Some member.Stopped
-member_end _ now ends_expelled = end_by_phase now ends_expelled
+member_end (Some control.Asked) now is_over = Some member.Stopped
+member_end _ now is_over = end_by_phase now is_over
 
 -- eras one after another, each of which takes a member so from one view to the next; and what
 -- happens to it after each of them
@@ -74,9 +74,10 @@ module _ {M Rd Wr : Type 0} (came : Type 0) (tells : Type 0) (took : M → List 
     pub desk : IsHosted remaining contents relists ends.control a.desk b.desk
     pub rest : b ≡ record a { desk = b.desk }
 
-  -- eras took it from this view to one in which it ends so; the last of them ended so. After each
-  -- other one its host was asked, which ever changes whom it joins, or never
-  pub record LivedBy (relists : Type 0) (ends_expelled : Bool)
+  -- eras took it from this view to one in which it ends so; the last of them ended so, and the wait
+  -- of an expelled one, if it waits for an end, was over or not. After each other era its host was
+  -- asked, which ever changes whom it joins, or never
+  pub record LivedBy (relists : Type 0) (expelled_ends : Option ℕ)
       (first : MemberView M (Conversation Rd Wr)) (end : MemberEnd)
       : Type 0 where
     pub before : MemberView M (Conversation Rd Wr)
@@ -84,8 +85,10 @@ module _ {M Rd Wr : Type 0} (came : Type 0) (tells : Type 0) (took : M → List 
     pub ends : EraEnds
     pub eras : Eras Era (Hosts relists) first before
     pub era : Era before last ends
-    pub end_is : member_end ends.control last.base.state.phase ends_expelled ≡ Some end
+    pub is_over : Bool
+    pub waited : IsTrue is_over → IsSome expelled_ends
+    pub end_is : member_end ends.control last.base.state.phase is_over ≡ Some end
 
   -- the same of one whose host never changes that
-  abbrev pub Lived : Bool → MemberView M (Conversation Rd Wr) → MemberEnd → Type 0
+  abbrev pub Lived : Option ℕ → MemberView M (Conversation Rd Wr) → MemberEnd → Type 0
   Lived = LivedBy ⊥

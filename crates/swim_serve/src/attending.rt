@@ -1,6 +1,6 @@
 //! The workers of one era, whoever they call by.
 
-ghost use Rattle.std.specs.Prelude.{IfSome};
+ghost use Rattle.std.specs.Prelude.{IsSomeAnd};
 ghost use Rattle.swim_shell.specs.Ticks.{answers};
 ghost use Rattle.swim_serve.specs.Works.{Received, Sent, Ticked, receiver_of};
 
@@ -64,13 +64,14 @@ pub fn attend<
     workers: Workers<I, O>,
     control: J,
 ) -> Attended<'x, C, T, I, O, J::Done>
-    ensures receiver { IfSome result.receiver (λ left. Received I.tells C.limit
+    ensures receiver { IsSomeAnd result.receiver (λ left. Received I.tells C.limit
         (receiver_of I.came I.failures workers.receiver)
         (C.known callers.entry.receiver.caller)
         (receiver_of I.came I.failures left.worker) (C.known left.caller.caller) left.end) }
-    ensures ticker { IfSome result.ticker (λ left. Ticked C.limit (answers workers.ticker.rng)
-        (C.known callers.entry.ticker) (answers left.worker.rng) (C.known left.caller) left.end) }
-    ensures sender { IfSome result.sender (λ left. Sent O.tells C.limit
+    ensures ticker { IsSomeAnd result.ticker (λ left. Ticked C.limit
+        (answers workers.ticker.rng) (C.known callers.entry.ticker)
+        (answers left.worker.rng) (C.known left.caller) left.end) }
+    ensures sender { IsSomeAnd result.sender (λ left. Sent O.tells C.limit
         (O.handed workers.sender.outgoing) (C.known callers.entry.sender)
         (O.handed left.worker.outgoing) (C.known left.caller) left.end) }
     ensures control { J.does control result.control }

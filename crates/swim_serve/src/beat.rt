@@ -65,6 +65,20 @@ impl Beat {
         true
     }
 
+    /// How many ticks were made.
+    pub(crate) fn made(&self) -> u64
+        ensures { result ≡ self.now.made }
+    {
+        self.made
+    }
+
+    /// The present era ends when so many ticks were made, if not before.
+    pub(crate) fn end_era_by(&mut self, made: u64)
+        ensures { self.new ≡ record self.old { end_at = min self.old.end_at made } }
+    {
+        self.end_at = self.end_at.min(made);
+    }
+
     /// How long it is from now until a tick is due. The first one is due after a tick.
     fn left_at(&mut self, now: Duration) -> Duration
         ensures left { IfSome self.new.due (λ due. as_nanos result

@@ -1,6 +1,6 @@
 //! All workers at once.
 
-ghost use Rattle.std.specs.Prelude.{◌≡◌, IfSome, IsSome};
+ghost use Rattle.std.specs.Prelude.{◌≡◌, IfNone, IfSome, IsSomeAnd};
 
 use crate::ending::Ending;
 use std::snapshot::Snapshot;
@@ -44,7 +44,7 @@ pub struct Crew<A: Work + Drop, B: Work + Drop, S: Work + Drop, C: Work + Drop> 
     pub control: C,
 }
 
-/// What came back of each worker; none of one that got no thread.
+/// What came back of each worker.
 #[derive(Drop)]
 pub struct Ends<A: Drop, B: Drop, S: Drop, C: Drop> {
     /// The worker that hands datagrams in.
@@ -55,38 +55,50 @@ pub struct Ends<A: Drop, B: Drop, S: Drop, C: Drop> {
     pub sender: Option<S>,
     /// The worker that answers control lines, and joins members.
     pub control: C,
+    /// Whether the system had a thread for each that was to get one.
+    pub had_threads: bool,
 }
 
-/// Starts work in a thread of its own. If the system has none, all workers are to end.
+/// A thread that does some work.
+type Thread<K> = PromisedHandle<<K as Work>::Done, Does<K>>;
+
+/// Starts some work in a thread of its own. If the system has none, all workers are to end, and the work is done at once, which stops
+/// before its first turn: so what it works with comes back, to stand here.
 fn start<'s, X, K: Work<Done: Send + Drop + 's> + Send + Drop + 's, M: Alarm>(
     scope: &Scope<'s, X>,
     ending: &Ending<M>,
+    spare: &mut Option<K::Done>,
     work: K,
-) -> Option<PromisedHandle<K::Done, Does<K>>>
-    ensures { IfSome result (λ thread. thread.promise.work.value ≡ work) }
+) -> Option<Thread<K>>
+    ensures thread { IfSome result (λ thread. thread.promise.work.value ≡ work) }
+    ensures done { IfNone result (IsSomeAnd spare.new (K.does work)) }
 {
     let promise = Does {
         work: Snapshot::of(&work),
     };
     match scope.spawn_with(promise, move || work.work()) {
         Ok(thread) => Some(thread),
-        Err(_) => {
+        Err(refused) => {
             ending.end();
+            *spare = Some((refused.value)());
             None
         }
     }
 }
 
-/// What comes back of the thread of some work, if there is one.
+/// What comes of some work, once its thread has ended, if it got one; else what stands here.
 fn end_of<T: Threads, K: Work<Done: Send + Drop> + Drop>(
     rt: &T,
-    thread: Option<PromisedHandle<K::Done, Does<K>>>,
+    thread: Option<Thread<K>>,
+    spare: &mut Option<K::Done>,
 ) -> Option<K::Done>
-    ensures done { (work : K) → IfSome thread (λ thread. thread.promise.work.value ≡ work)
-        → IfSome result (K.does work) }
-    ensures some { IfSome thread (λ _. IsSome result) }
+    ensures { (work : K) → IfSome thread (λ thread. thread.promise.work.value ≡ work)
+        → (IfNone thread (IsSomeAnd spare.old (K.does work))) → IsSomeAnd result (K.does work) }
 {
-    Some(thread?.join(rt))
+    match thread {
+        Some(thread) => Some(thread.join(rt)),
+        None => spare.take(),
+    }
 }
 
 /// Runs the workers until one of them has ended and the others have stopped. Each ends all by this `ending`.
@@ -98,9 +110,9 @@ pub fn serve<
     S: Work<Done: Send + Drop> + Send + Drop,
     C: Work<Done: Drop> + Drop,
 >(rt: &T, ending: &Ending<M>, crew: Crew<A, B, S, C>) -> Ends<A::Done, B::Done, S::Done, C::Done>
-    ensures receiver { IfSome result.receiver (A.does crew.receiver) }
-    ensures ticker { IfSome result.ticker (B.does crew.ticker) }
-    ensures sender { IfSome result.sender (S.does crew.sender) }
+    ensures receiver { IsSomeAnd result.receiver (A.does crew.receiver) }
+    ensures ticker { IsSomeAnd result.ticker (B.does crew.ticker) }
+    ensures sender { IsSomeAnd result.sender (S.does crew.sender) }
     ensures control { C.does crew.control result.control }
 {
     let Crew {
@@ -113,20 +125,23 @@ pub fn serve<
         thread::scope_env(),
         rt,
         move |scope| -> Ends<A::Done, B::Done, S::Done, C::Done>
-            ensures receiver { IfSome result.receiver (A.does receiver) }
-            ensures ticker { IfSome result.ticker (B.does ticker) }
-            ensures sender { IfSome result.sender (S.does sender) }
+            ensures receiver { IsSomeAnd result.receiver (A.does receiver) }
+            ensures ticker { IsSomeAnd result.ticker (B.does ticker) }
+            ensures sender { IsSomeAnd result.sender (S.does sender) }
             ensures control { C.does control result.control }
         {
-            let receiver = start(scope, ending, receiver);
-            let ticker = start(scope, ending, ticker);
-            let sender = start(scope, ending, sender);
+            let mut spare = (None, None, None);
+            let receiver = start(scope, ending, &mut spare.0, receiver);
+            let ticker = start(scope, ending, &mut spare.1, ticker);
+            let sender = start(scope, ending, &mut spare.2, sender);
+            let had_threads = receiver.is_some() && ticker.is_some() && sender.is_some();
             let control = control.work();
             Ends {
-                receiver: end_of(rt, receiver),
-                ticker: end_of(rt, ticker),
-                sender: end_of(rt, sender),
+                receiver: end_of(rt, receiver, &mut spare.0),
+                ticker: end_of(rt, ticker, &mut spare.1),
+                sender: end_of(rt, sender, &mut spare.2),
                 control,
+                had_threads,
             }
         },
     )

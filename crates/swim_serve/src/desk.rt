@@ -1,10 +1,11 @@
 //! The worker that answers control lines and joins members.
 
-ghost use Rattle.std.specs.Prelude.{◌≡◌, ◌<◌, ◌≤◌, [], ◌∷◌, ◌++◌, None, IfNone, IfSome, IfOk, IfErr};
+ghost use Rattle.std.specs.Prelude.{◌≡◌, ◌<◌, ◌≤◌, [], ◌∷◌, ◌++◌, None, Some, IfNone, IfSome, IfOk, IfErr};
 ghost use Rattle.std.specs.Prelude.{OnErr, OnOk, IsSome, IsTrue, false, ◌+◌, length, option_to_list, min, if◌then◌else◌};
 ghost use Rattle.swim_serve.specs.declared.aside.TheConstants.{OPEN_MAX};
 ghost use Rattle.swim_shell.specs.Joins.{IsRelisted};
 ghost use Rattle.swim_shell.specs.Turns.{Turned, TurnedInVain};
+ghost use Rattle.swim_shell.specs.declared.conversation.ControlEnd.TheVariants as ends;
 ghost use Rattle.swim_shell.specs.Calls.{CallerView};
 ghost use Rattle.swim_serve.specs.Desks.{TalkGoes};
 ghost use Rattle.swim_serve.specs.Desks.{HasAnswer, OfConnection, OfMember, Opens};
@@ -144,6 +145,19 @@ impl<W: Log + Clock + Drop, O: Doors + Drop> Desk<W, O> {
         self.conversation = Some(conversation);
     }
 
+    /// Whether a turn heard `reload`, and what it asks for is not ready yet.
+    fn must_hold(&mut self, turn: Option<ControlEnd>) -> bool
+        ensures reloading { IsTrue result → turn ≡ Some ends.Reloading }
+        ensures joiner { self.new.joiner ≡ self.old.joiner }
+        ensures conversation { self.new.conversation ≡ self.old.conversation }
+        ensures others { self.new.others ≡ self.old.others }
+    {
+        match turn {
+            Some(ControlEnd::Reloading) => !self.doors.prepare_reload(),
+            _ => false,
+        }
+    }
+
     /// Lets the joiner ask, and gives the turns to the next conversation, if there is one.
     fn stand_by<C: Observer>(&mut self, caller: &mut C) -> Result<(), Refusal>
         requires { self.old.conversation ≡ None }
@@ -204,14 +218,15 @@ impl<C: Observer, W: Log + Clock + Drop, O: Doors + Drop> Worker<C> for Desk<W, 
                 Err(refusal) => Some(ControlEnd::Refused(refusal)),
             };
         };
-        match conversation.turn(caller) {
+        let turn = conversation.turn(caller);
+        if self.must_hold(turn) {
+            conversation.hold();
+            self.set_aside(conversation);
+            return None;
+        }
+        match turn {
             Some(end) if is_of_connection(end) => None,
             None if !conversation.is_waiting() => {
-                self.set_aside(conversation);
-                None
-            }
-            Some(ControlEnd::Reloading) if !self.doors.prepare_reload() => {
-                conversation.hold();
                 self.set_aside(conversation);
                 None
             }

@@ -218,6 +218,8 @@ struct Back<N: Name, I: Inbound + Drop, M: Link + Drop, R: Log + Clock + Drop, O
     ring: RingSender<N>,
     outside: Outside<I, M, R, O>,
     ends: EraEnds,
+    /// Whether the system had a thread for each worker.
+    had_threads: bool,
 }
 
 /// What comes back of the receiver of a shared member.
@@ -243,6 +245,7 @@ fn take_apart<
     ticker: Left<Share<'x, N, D, R>, Ticker>,
     sender: SenderLeft<'x, N, D, R, M>,
     control: DeskLeft<'x, N, D, R, O>,
+    had_threads: bool,
     eras: EraCounts,
     beat: Beat,
     room: Vec<Pass<N>>,
@@ -260,7 +263,7 @@ fn take_apart<
     ensures control { (result.outside.desk ≡ control.entry.worker)
         × (result.passes.control ≡ control.entry.caller.handle.pass)
         × (result.ends.control ≡ control.entry.end) × IsPass N.base result.passes.control }
-    ensures room { result.room ≡ room }
+    ensures room { (result.room ≡ room) × (result.had_threads ≡ had_threads) }
     ensures logs { result.outside.logs ≡ record {
       numbers = receiver.entry.caller.numbers;
       receiver = receiver.entry.caller.caller.log;
@@ -308,45 +311,8 @@ fn take_apart<
             sender: sender.end,
             control: control.end,
         },
+        had_threads,
     }
-}
-
-/// Takes apart what came back of all workers. An error is Memory where the system had no thread for one of them.
-fn together<
-    'x,
-    N: Name,
-    D: Disk,
-    R: Wait + Log + Clock + Drop,
-    I: Inbound + Drop,
-    M: Link + Drop,
-    O: Doors + Drop,
->(
-    ends: SharedEnds<'x, N, D, R, I, M, DeskLeft<'x, N, D, R, O>>,
-    eras: EraCounts,
-    beat: Beat,
-    room: Vec<Pass<N>>,
-) -> Result<Back<N, I, M, R, O>, Refusal>
-    ensures receiver { IfOk result (λ back. IsSomeAnd ends.entry.receiver (λ left.
-        (back.outside.receiver ≡ left.worker)
-        × (back.passes.receiver ≡ left.caller.caller.pass)
-        × (back.ends.receiver ≡ left.end) × IsPass N.base back.passes.receiver)) }
-    ensures ticker { IfOk result (λ back. IsSomeAnd ends.entry.ticker (λ left.
-        (back.outside.ticker ≡ left.worker) × (back.passes.ticker ≡ left.caller.pass)
-        × (back.ends.ticker ≡ left.end) × IsPass N.base back.passes.ticker)) }
-    ensures sender { IfOk result (λ back. IsSomeAnd ends.entry.sender (λ left.
-        (back.ring ≡ left.worker.outgoing.ring) × (back.outside.link ≡ left.worker.outgoing.link)
-        × (back.passes.sender ≡ left.caller.pass)
-        × (back.ends.sender ≡ left.end) × IsPass N.base back.passes.sender)) }
-    ensures control { IfOk result (λ back. (back.outside.desk ≡ ends.entry.control.worker)
-        × (back.passes.control ≡ ends.entry.control.caller.handle.pass)
-        × (back.ends.control ≡ ends.entry.control.end) × IsPass N.base back.passes.control) }
-    ensures room { IfOk result (λ back. back.room ≡ room) }
-    ensures eras { IfOk result (λ back. back.outside.logs.eras ≡ eras) }
-{
-    let receiver = ends.receiver.ok_or(Refusal::Memory)?;
-    let ticker = ends.ticker.ok_or(Refusal::Memory)?;
-    let sender = ends.sender.ok_or(Refusal::Memory)?;
-    Ok(take_apart(receiver, ticker, sender, ends.control, eras, beat, room))
 }
 
 /// Runs the workers of a shared member, and control beside them.
@@ -366,14 +332,14 @@ fn attend_shared<
     workers: Workers<I, RingLink<N, M>>,
     control: J,
 ) -> SharedEnds<'x, N, D, R, I, M, J::Done>
-    ensures receiver { IfSome result.receiver (λ left. Received I.tells N.base.limit
+    ensures receiver { IsSomeAnd result.receiver (λ left. Received I.tells N.base.limit
         (receiver_of I.came I.failures workers.receiver)
         (known_of callers.entry.receiver.caller)
         (receiver_of I.came I.failures left.worker) (known_of left.caller.caller) left.end) }
-    ensures ticker { IfSome result.ticker (λ left. Ticked N.base.limit
+    ensures ticker { IsSomeAnd result.ticker (λ left. Ticked N.base.limit
         (answers workers.ticker.rng) (known_of callers.entry.ticker)
         (answers left.worker.rng) (known_of left.caller) left.end) }
-    ensures sender { IfSome result.sender (λ left. Sent M.tells N.base.limit
+    ensures sender { IsSomeAnd result.sender (λ left. Sent M.tells N.base.limit
         (outgoing_of M.took M.failures (length workers.sender.outgoing.turns)
         workers.sender.outgoing.ring workers.sender.outgoing.link)
         (known_of callers.entry.sender)
@@ -385,8 +351,8 @@ fn attend_shared<
     attend(rt, ending, beat, callers, workers, control)
 }
 
-/// Runs the workers of a shared member until one of them ends. An error is that there are too few passes, that the call for
-/// what is owed was refused so, or Memory where the system had no thread for a worker.
+/// Runs the workers of a shared member until one of them ends. An error is that there are too few passes, or that the call for
+/// what is owed was refused so.
 fn work<
     'x,
     N: Name + Send + Sync,
@@ -449,7 +415,23 @@ fn work<
         ending,
     };
     let ends = attend_shared(rt, ending, &mut beat, callers, workers, control);
-    together(ends, logs.eras, beat, room)
+    let Ends {
+        receiver,
+        ticker,
+        sender,
+        control,
+        had_threads,
+    } = ends;
+    Ok(take_apart(
+        receiver.unwrap(),
+        ticker.unwrap(),
+        sender.unwrap(),
+        control,
+        had_threads,
+        logs.eras,
+        beat,
+        room,
+    ))
 }
 
 /// What is left of an era.
@@ -465,10 +447,30 @@ pub struct EraEnd<
     pub node: Node<D>,
     /// What the next era works with.
     pub outside: Outside<I, M, R, O>,
-    /// How many passes do not fit the journal.
-    pub odd: u32,
     /// How the workers ended.
     pub ends: EraEnds,
+    /// Whether the system had a thread for each worker. If not, the era ended before any turn.
+    pub had_threads: bool,
+}
+
+/// Why there was no whole era.
+#[derive(Clone, Copy, Debug, PartialEq, Eq)]
+pub enum EraFault {
+    /// There was no memory, or the call was refused that was to tell what the era before owed.
+    Refused(Refusal),
+    /// The journal does not have the calls of a worker as that one knows them, so it cannot be told who did what.
+    Odd,
+}
+
+impl From<Refusal> for EraFault {
+    ghost use Rattle.std.specs.Prelude.{◌≡◌};
+    ghost use Rattle.swim_serve.specs.declared.era.EraFault.TheVariants.{Refused};
+
+    ghost from_gives = { λ why fault. fault ≡ Refused why };
+
+    fn from(why: Refusal) -> EraFault {
+        EraFault::Refused(why)
+    }
 }
 
 /// A node that is shared, with the passes and the watches of all who call.
@@ -496,8 +498,7 @@ fn share<N: Name, D: Disk + Drop, R: Wait + Copy + Drop>(
 }
 
 /// One era of a shared node, from its beginning to its end: its workers, which one of these alarms wakes where they wait at
-/// sockets. An error is Memory where there is none or no thread for a worker, or why the call was refused that was to tell
-/// what the era before owed.
+/// sockets. An error is why there was no whole era: where the journal does not have the calls of each worker, it is refused.
 pub fn run_era<
     N: Name + Send + Sync,
     D: Disk + Send + Drop,
@@ -512,7 +513,7 @@ pub fn run_era<
     ring: Ring,
     outside: Outside<I, M, R, O>,
     alarms: &[I::Alarm],
-) -> Result<EraEnd<D, I, M, R, O>, Refusal>
+) -> Result<EraEnd<D, I, M, R, O>, EraFault>
     requires book { parts.book ≡ N.book }
     requires base { parts.node.base ≡ N.base }
     requires disk { (D.state parts.node.disk).name ≡ N.disk }
@@ -531,19 +532,19 @@ pub fn run_era<
     ensures receiver { IfOk result (λ end. Served (Received I.tells N.base.limit)
         (receiver_of I.came I.failures outside.receiver) (new_caller 0)
         (receiver_of I.came I.failures end.outside.receiver) end.ends.receiver
-        end.odd end.node.entries) }
+        end.node.entries) }
     ensures ticker { IfOk result (λ end. Served (Ticked N.base.limit)
         (answers outside.ticker.rng) (new_caller 1) (answers end.outside.ticker.rng)
-        end.ends.ticker end.odd end.node.entries) }
+        end.ends.ticker end.node.entries) }
     ensures sender { IfOk result (λ end. Sends M.tells M.took M.failures N.base.limit
         outside.owed ring outside.link end.outside.link end.ends.sender
-        end.odd end.outside.owed end.node.entries) }
+        end.outside.owed end.node.entries) }
     ensures control { IfOk result (λ end. Served (Tended O.Reader.remaining O.Writer.contents
         N.base.limit)
         (desk_of outside.desk.joiner outside.desk.conversation outside.desk.others)
         (new_caller 3)
         (desk_of end.outside.desk.joiner end.outside.desk.conversation
-        end.outside.desk.others) end.ends.control end.odd end.node.entries) }
+        end.outside.desk.others) end.ends.control end.node.entries) }
     ensures eras { IfOk result (λ end. end.outside.logs.eras ≡ outside.logs.eras) }
 {
     let (shared, held) = share::<N, D, R>(rt, alloc, parts)?;
@@ -558,15 +559,19 @@ pub fn run_era<
         ring,
         mut outside,
         ends,
+        had_threads,
     } = back;
     let passes = passes.into_list(room).ok_or(Refusal::Memory)?;
     let watches = Vec::new(alloc);
     let closed = shared.close_sent(passes, watches, ring.into_inner(), &mut outside.link);
+    if closed.odd != 0 {
+        return Err(EraFault::Odd);
+    }
     outside.owed = closed.owed;
     Ok(EraEnd {
         node: closed.node,
         outside,
-        odd: closed.odd,
         ends,
+        had_threads,
     })
 }

@@ -1,6 +1,8 @@
 //! A member from one era to the next.
 
-ghost use Rattle.std.specs.Prelude.{◌≡◌, ◌∷◌, [], ◌++◌, List, false, IfNone, IfOk, IfSome, IsTrue};
+ghost use Rattle.std.specs.Prelude.{◌≡◌, ◌≤◌, ◌∷◌, [], ◌++◌, List, false, IfNone, IfOk, IfSome};
+ghost use Rattle.std.specs.Prelude.{IfErr, IsOk, IsSome, IsTrue};
+ghost use Rattle.swim_member.specs.declared.state.Phase.TheVariants as phases;
 ghost use Rattle.swim_node.specs.declared.entry.Entry.{Entry};
 ghost use Rattle.swim_node.specs.History.{IsLegal};
 ghost use Rattle.swim_node.specs.Lives.{IsRaised};
@@ -14,15 +16,17 @@ ghost use Rattle.swim_serve.specs.Members.{Era, Lived, LivedBy, end_by_phase, me
 ghost use Rattle.swim_serve.specs.Peers.{BecameOf, BeginsKept, HasKnown, KeepsPeers, next_era};
 ghost use Rattle.swim_serve.specs.Works.{receiver_of};
 
-use crate::era::{CALLERS, EraEnd, EraEnds, Outside, WATCHES, run_era};
+use crate::beat::Beat;
+use crate::era::{CALLERS, EraEnd, EraEnds, EraFault, Outside, WATCHES, run_era};
 use crate::era_saves::{EraSaves, PeersSave, number_saves};
+use crate::expulsion::Expulsion;
 use crate::host::{Host, ask_host};
 use log::{Log, warn};
 use std::alloc::Global;
 use std::marker::Brand;
 use std::sync::{Wait, WaitMethods};
-use std::thread::Threads;
-use std::time::Clock;
+use std::thread::{self, Threads};
+use std::time::{Clock, Duration};
 use swim_disk::Disk;
 use swim_member::Phase;
 use swim_node::{Beginning, Link, Node};
@@ -33,11 +37,21 @@ use swim_shell::{Alarmed, ControlEnd, Doors, Refusal, WorkerEnd};
 /// How many datagrams wait at most until the sender takes them.
 const OUTBOX_PLACES: usize = 256;
 
+/// How many eras in a row may have no thread for a worker before the member ends.
+const FAMINE_MAX: u32 = 100;
+
+/// How long it waits after one of them, in milliseconds.
+const FAMINE_MILLIS: u64 = 100;
+
 /// Why a member ends that was not told to.
 #[derive(Clone, Copy, Debug, PartialEq, Eq)]
 pub enum Fault {
-    /// There was no memory for an era, or no thread for a worker.
+    /// There was no memory for an era.
     Memory,
+    /// The system had no thread for a worker, for some seconds.
+    Threads,
+    /// An era's journal did not have the calls of a worker as that one knew them.
+    Odd,
     /// A worker ended so.
     Worker(WorkerEnd),
 }
@@ -51,13 +65,14 @@ pub enum MemberEnd {
     Expelled,
 }
 
-/// What a refusal of an era's beginning comes to.
-fn fault_by(why: Refusal) -> Fault
+/// What it comes to that there was no whole era.
+fn fault_by(why: EraFault) -> Fault
     ensures { result ≡ fault_by why }
 {
     match why {
-        Refusal::Memory => Fault::Memory,
-        why => Fault::Worker(WorkerEnd::Refused(why)),
+        EraFault::Refused(Refusal::Memory) => Fault::Memory,
+        EraFault::Refused(why) => Fault::Worker(WorkerEnd::Refused(why)),
+        EraFault::Odd => Fault::Odd,
     }
 }
 
@@ -226,13 +241,64 @@ fn one_era<
     Ok(end)
 }
 
+/// Whether the wait of a member that is expelled is over, after an era of this beat. If it is not, the next era ends then.
+fn is_wait_over(expulsion: &mut Expulsion, beat: &mut Beat, phase: Phase) -> bool
+    requires { IsSome expulsion.old.end_at → IsSome expulsion.old.wait }
+    ensures wait { expulsion.new.wait ≡ expulsion.old.wait }
+    ensures ends { IsTrue result → IsSome expulsion.old.wait }
+    ensures known { IsSome expulsion.new.end_at → IsSome expulsion.new.wait }
+    ensures over { IsTrue result → IfSome expulsion.new.end_at (λ at. at ≤ beat.old.made) }
+    ensures not_yet { phase ≡ phases.Expelled → result ≡ false
+        → IfSome expulsion.new.end_at (λ at. beat.new.end_at ≤ at) }
+{
+    if phase != Phase::Expelled {
+        return false;
+    }
+    let Some(at) = expulsion.end_at(beat.made()) else {
+        return false;
+    };
+    beat.end_era_by(at);
+    at <= beat.made()
+}
+
+/// How many eras in a row had no thread for one of their workers.
+#[derive(Clone, Copy)]
+struct Famine {
+    eras: u32,
+}
+
+impl Famine {
+    /// None had.
+    fn new() -> Famine {
+        Famine { eras: 0 }
+    }
+
+    /// After an era that had all its threads, or not: then it waits, since others may have used up a limit for a moment. An error is
+    /// that this goes on for some seconds.
+    fn wait<W: Clock>(&mut self, rt: &W, had_threads: bool) -> Result<(), Fault>
+        ensures had { IsTrue had_threads → IsOk result }
+        ensures err { IfErr result (λ fault. fault ≡ Fault.Threads) }
+    {
+        if had_threads {
+            self.eras = 0;
+            return Ok(());
+        }
+        if self.eras >= FAMINE_MAX {
+            return Err(Fault::Threads);
+        }
+        self.eras += 1;
+        thread::sleep(rt, Duration::from_millis(FAMINE_MILLIS));
+        Ok(())
+    }
+}
+
 /// How a member in this phase ends by it, if it does.
-fn end_by_phase(phase: Phase, ends_expelled: bool) -> Option<MemberEnd>
-    ensures { result ≡ end_by_phase phase ends_expelled }
+fn end_by_phase(phase: Phase, is_over: bool) -> Option<MemberEnd>
+    ensures { result ≡ end_by_phase phase is_over }
 {
     match phase {
         Phase::Expelled => {
-            if ends_expelled {
+            if is_over {
                 Some(MemberEnd::Expelled)
             } else {
                 None
@@ -242,18 +308,18 @@ fn end_by_phase(phase: Phase, ends_expelled: bool) -> Option<MemberEnd>
     }
 }
 
-/// How the member ends after an era, if it does: told by the line `stop`, or else by its phase.
-fn member_end(control: Option<ControlEnd>, phase: Phase, ends_expelled: bool) -> Option<MemberEnd>
-    ensures { result ≡ member_end control phase ends_expelled }
+/// How the member ends after an era, if it does: told by the line `stop`, or else expelled, once its wait is over.
+fn member_end(control: Option<ControlEnd>, phase: Phase, is_over: bool) -> Option<MemberEnd>
+    ensures { result ≡ member_end control phase is_over }
 {
     match control {
         Some(ControlEnd::Asked) => Some(MemberEnd::Stopped),
-        _ => end_by_phase(phase, ends_expelled),
+        _ => end_by_phase(phase, is_over),
     }
 }
 
-/// Runs a member era after era, until the line `stop` is answered, or a worker ends otherwise than by a full era, or, if
-/// it is to end then, until it is expelled. The alarms end the waits of its sockets. Nobody keeps its eras.
+/// Runs a member era after era, until the line `stop` is answered, or a worker ends otherwise than by a full era, or, if it is to
+/// end then, until so many ticks after it was expelled. The alarms end the waits of its sockets. Nobody keeps its eras.
 pub fn run_member<
     D: Disk + Send + Drop,
     R: Threads + Wait + Log + Clock + Send + Sync + Copy + Drop,
@@ -266,17 +332,17 @@ pub fn run_member<
     node: Node<D>,
     outside: Outside<I, M, R, O>,
     alarms: &[I::Alarm],
-    ends_expelled: bool,
+    expelled_ends: Option<u64>,
 ) -> Result<MemberEnd, Fault>
     requires { node.entries ≡ [] }
     ensures { IfOk result (Lived I.tells M.tells M.took M.failures O.Reader.remaining
-        O.Writer.contents ends_expelled
+        O.Writer.contents expelled_ends
         (member_of node.base (receiver_of I.came I.failures outside.receiver)
         (answers outside.ticker.rng) outside.link outside.owed
         (desk_of outside.desk.joiner outside.desk.conversation outside.desk.others))) }
 {
     let mut keeper = Unkept::new();
-    run_kept(rt, alloc, node, outside, alarms, ends_expelled, &mut keeper)
+    run_kept(rt, alloc, node, outside, alarms, expelled_ends, &mut keeper)
 }
 
 /// Runs a member as `run_member` does, and hands each era that ended to its host. After each of them it asks the host, which reads
@@ -294,21 +360,25 @@ pub fn run_kept<
     node: Node<D>,
     outside: Outside<I, M, R, O>,
     alarms: &[I::Alarm],
-    ends_expelled: bool,
+    expelled_ends: Option<u64>,
     host: &mut H,
 ) -> Result<MemberEnd, Fault>
     requires { node.entries ≡ [] }
     ensures { IfOk result (LivedBy I.tells M.tells M.took M.failures O.Reader.remaining
-        O.Writer.contents H.relists ends_expelled
+        O.Writer.contents H.relists expelled_ends
         (member_of node.base (receiver_of I.came I.failures outside.receiver)
         (answers outside.ticker.rng) outside.link outside.owed
         (desk_of outside.desk.joiner outside.desk.conversation outside.desk.others))) }
 {
     let mut left = (node, outside);
+    let mut expulsion = Expulsion::new(expelled_ends);
+    let mut famine = Famine::new();
     for _ in rt.forever() {
         let mut era = one_era(rt, alloc, left.0, left.1, alarms, host)?;
+        famine.wait(rt, era.had_threads)?;
         let phase = era.node.status().phase;
-        if let Some(end) = member_end(era.ends.control, phase, ends_expelled) {
+        let is_over = is_wait_over(&mut expulsion, &mut era.outside.beat, phase);
+        if let Some(end) = member_end(era.ends.control, phase, is_over) {
             return Ok(end);
         }
         let stored = era.node.peers();

@@ -1,6 +1,6 @@
 //! All rows, page by page.
 
-ghost use Rattle.std.specs.Prelude.{◌≡◌, ◌↔◌, ◌⊎◌, ◌++◌, ℕ, length, IsTrue, IfOk, IfErr, OnErr};
+ghost use Rattle.std.specs.Prelude.{◌≡◌, ◌⊎◌, ◌++◌, ℕ, IfOk, IfErr, OnErr};
 ghost use Rattle.swim_member.specs.declared.event.Event.TheVariants.{Members};
 ghost use Rattle.swim_shell.specs.Calls.{Refuses};
 ghost use Rattle.swim_shell.specs.Joins.{AreWhole, IsEligibleIn, LooksAll, LooksInVain, ReadsPage, place_after};

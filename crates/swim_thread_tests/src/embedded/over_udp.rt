@@ -62,6 +62,7 @@ where
         answer: tick.saturating_mul(3),
         period: tick.saturating_mul(10),
         rejoin: None,
+        forget: tick.saturating_mul(6000),
     };
     let peers = ArrayVec::new();
     let joiner = Joiner::new(settings.me, settings.rules_of(), peers, paces, draws);
@@ -76,7 +77,7 @@ where
         logs: Logs::new(settings.me, node.first()),
     };
     let alarms = [datagrams, connections];
-    let ended = run_member(logged, alloc, node, outside, &alarms, false);
+    let ended = run_member(logged, alloc, node, outside, &alarms, None);
     ended.map_err(|_| "a worker")?;
     Ok(())
 }

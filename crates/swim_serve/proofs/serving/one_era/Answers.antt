@@ -40,7 +40,6 @@ returns-clause-era g c =
     let came = receiver_of g.I.Inbound.came g.I.Inbound.failures in
     let goes_on = subst (λ b. IsRaised (next_base b end.node.entries) c.end_era-saves.new.node.base) c.in-Ok.ensures.base c.end_era-saves.ensures.base in
     subst (λ n. Era g.I.Inbound.tells g.M.Link.tells g.M.Link.took g.M.Link.failures g.O.Reader.Read.remaining g.O.Writer.Write.contents (member_of n.base (came outside.receiver) (answers outside.ticker.rng) outside.link outside.owed (desk_of outside.desk.joiner outside.desk.conversation outside.desk.others)) (member_of c.end_era-saves.new.node.base (came end.outside.receiver) (answers end.outside.ticker.rng) end.outside.link end.outside.owed (desk_of end.outside.desk.joiner end.outside.desk.conversation end.outside.desk.others)) end.ends) c.new-parts.ensures.node (record {
-      odd = end.odd;
       journal = end.node.entries;
       legal = c.in-Ok.ensures.legal;
       receiver = c.in-Ok.ensures.receiver;

@@ -1,4 +1,5 @@
 use Rattle.std.proofs.Common.{◌≡◌, []}
+use Rattle.std.specs.Prelude.{IsSome}
 use Rattle.swim_shell.specs.Ticks.{answers}
 use Rattle.swim_serve.specs.Desks.{desk_of}
 use Rattle.swim_serve.specs.Members.{Era, Eras, Hosts, member_of}
@@ -11,8 +12,13 @@ invariant-loop g l =
     let came = receiver_of g.I.Inbound.came g.I.Inbound.failures in
     let first = l.fn.outside in
     let now = l.left.1 in
-    (l.left.0.entries ≡ []) × Eras
-    (Era g.I.Inbound.tells g.M.Link.tells g.M.Link.took g.M.Link.failures g.O.Reader.Read.remaining g.O.Writer.Write.contents)
-    (Hosts g.I.Inbound.tells g.M.Link.tells g.M.Link.took g.M.Link.failures g.O.Reader.Read.remaining g.O.Writer.Write.contents g.H.Host.relists)
-    (member_of l.fn.node.base (came first.receiver) (answers first.ticker.rng) first.link first.owed (desk_of first.desk.joiner first.desk.conversation first.desk.others))
-    (member_of l.left.0.base (came now.receiver) (answers now.ticker.rng) now.link now.owed (desk_of now.desk.joiner now.desk.conversation now.desk.others))
+    record {
+      entries : l.left.0.entries ≡ [];
+      wait : l.expulsion.wait ≡ l.fn.expelled_ends;
+      known : IsSome l.expulsion.end_at → IsSome l.expulsion.wait;
+      eras : Eras
+          (Era g.I.Inbound.tells g.M.Link.tells g.M.Link.took g.M.Link.failures g.O.Reader.Read.remaining g.O.Writer.Write.contents)
+          (Hosts g.I.Inbound.tells g.M.Link.tells g.M.Link.took g.M.Link.failures g.O.Reader.Read.remaining g.O.Writer.Write.contents g.H.Host.relists)
+          (member_of l.fn.node.base (came first.receiver) (answers first.ticker.rng) first.link first.owed (desk_of first.desk.joiner first.desk.conversation first.desk.others))
+          (member_of l.left.0.base (came now.receiver) (answers now.ticker.rng) now.link now.owed (desk_of now.desk.joiner now.desk.conversation now.desk.others));
+    }
