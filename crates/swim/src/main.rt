@@ -243,7 +243,6 @@ fn simulate_group(rt: &HostRuntime, asked: &Asked<'_>) -> Result<ExitCode, Endin
 
 /// Prints the settings of a file as they will be used.
 fn show_settings(rt: &HostRuntime, config: &str) -> Result<(), Ending> {
-    look_at(rt, config, SETTINGS_MAX)?;
     let text = shown_settings(rt, config)?;
     print_bytes(rt, text.as_bytes())
 }

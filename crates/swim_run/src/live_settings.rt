@@ -1,22 +1,22 @@
 //! The settings of a running member.
 
 ghost use Rattle.std.specs.Prelude.{◌≡◌, ◌≤◌, ◌==◌, ℕ, List, None, Some, cond, length};
-ghost use Rattle.std.specs.Prelude.{option_map, IfOk};
+ghost use Rattle.std.specs.Prelude.{option_map};
 ghost use Rattle.std.specs.Duration.{as_nanos};
 ghost use Rattle.swim_settings.specs.Ranges.{AreInRange};
 ghost use Rattle.swim_settings.specs.Reloads.{taken_anew};
 ghost use Rattle.swim_start.specs.Starting.{lasting, peers_to_join};
 
 use crate::listing::Listing;
-use crate::reading::settings_at;
+use crate::reading::checked_at;
 use crate::reading_doors::Reread;
+use crate::rereading::Read;
 use arrayvec::ArrayString;
 use log::{LevelFilter, Log, info, warn};
 use std::fmt::{self, Display, Formatter, Write};
 use std::sync::{Mutex, Wait};
 use std::thread::Threads;
 use std::time::Clock;
-use swim_ending::Ending;
 use swim_log::LogLevel;
 use swim_node::Room;
 use swim_recorder::{Finished, Keeper};
@@ -168,13 +168,11 @@ impl<'a, T: Threads + Wait + Log + Clock> LiveSettings<'a, T> {
     }
 
     /// What the settings file says now. The desk has read it when it heard the line `reload`.
-    fn read_again(&self) -> Result<RunSettings, Ending>
-        ensures { IfOk result AreInRange }
-    {
+    fn read_again(&self) -> Read {
         let read = self.reread.lock(self.logged).take();
         match read {
             Some(read) => read,
-            None => settings_at(&self.rt, self.config),
+            None => checked_at(&self.rt, self.config),
         }
     }
 
@@ -205,7 +203,7 @@ impl<'a, T: Threads + Wait + Log + Clock> Host for LiveSettings<'a, T> {
 
     fn reload(&mut self) -> Answer {
         match self.read_again() {
-            Ok(then) => self.take(then),
+            Ok(then) => self.take(then.told),
             Err(ending) => {
                 warn!(self.logged; "the settings were not read again, and stay as they are: {ending}");
                 answer_of(SETTINGS_REFUSED)

@@ -1,9 +1,8 @@
 //! Doors that have the settings file read again.
 
-ghost use Rattle.std.specs.Prelude.{◌≡◌, IfSome, IfOk, None};
-ghost use Rattle.swim_settings.specs.Ranges.{AreInRange};
+ghost use Rattle.std.specs.Prelude.{◌≡◌, None};
 
-use crate::reading::settings_at;
+use crate::reading::checked_at;
 use crate::rereading::{Read, Rereading};
 use std::sync::{Mutex, Wait};
 use std::thread::{self, Threads};
@@ -20,7 +19,6 @@ const LOOK_MILLIS: u64 = 1;
 #[derive(Drop)]
 pub(crate) struct Reread {
     read: Option<Read>,
-    ghost range: { IfSome read (λ read. IfOk read AreInRange) },
 }
 
 impl Reread {
@@ -34,7 +32,6 @@ impl Reread {
     /// What was read is taken; none if nothing was.
     pub(crate) fn take(&mut self) -> Option<Read>
         ensures read { result ≡ self.old.read }
-        ensures range { IfSome result (λ read. IfOk read AreInRange) }
         ensures then { self.new.read ≡ None }
     {
         self.read.take()
@@ -73,9 +70,7 @@ impl<'a, O, T: Threads + Wait + Clock> ReadingDoors<'a, O, T> {
     }
 
     /// What was read is there to be taken.
-    fn put(&self, read: Read)
-        requires { IfOk read AreInRange }
-    {
+    fn put(&self, read: Read) {
         *self.reread.lock(self.logged) = Reread { read: Some(read) };
     }
 
@@ -83,7 +78,7 @@ impl<'a, O, T: Threads + Wait + Clock> ReadingDoors<'a, O, T> {
     fn start(&mut self) -> Option<Rereading> {
         let reading = Rereading::start(self.logged, self.rt, self.config);
         if reading.is_none() {
-            self.put(settings_at(&self.rt, self.config));
+            self.put(checked_at(&self.rt, self.config));
         }
         reading
     }

@@ -1,25 +1,14 @@
 //! The settings file, read again beside the member.
 
-ghost use Rattle.std.specs.Prelude.{IfOk};
-ghost use Rattle.swim_settings.specs.Ranges.{AreInRange};
-
-use crate::reading::settings_at;
+use crate::reading::{CheckedSettings, checked_at};
 use std::alloc::Global;
 use std::sync::Arc;
 use std::sync::atomic::{AtomicBool, Ordering};
 use std::thread::{self, JoinHandle, Threads};
 use swim_ending::Ending;
-use swim_settings::RunSettings;
 
 /// What a settings file says, or why it is refused.
-pub(crate) type Read = Result<RunSettings, Ending>;
-
-/// What comes back of the thread that reads.
-#[derive(Drop)]
-struct Found {
-    read: Read,
-    ghost range: { IfOk read AreInRange },
-}
+pub(crate) type Read = Result<CheckedSettings, Ending>;
 
 /// What a thread of its own reads.
 #[derive(Drop)]
@@ -31,22 +20,22 @@ struct Reading {
 
 impl Reading {
     /// Reads it.
-    fn run(self) -> Found {
+    fn run(self) -> Read {
         let Reading {
             rt,
             config,
             is_done,
         } = self;
-        let read = settings_at(&rt, config.as_str());
+        let read = checked_at(&rt, config.as_str());
         is_done.store(true, Ordering::SeqCst);
-        Found { read }
+        read
     }
 }
 
 /// A thread that reads the settings file, and whether it is done.
 #[derive(Drop)]
 pub(crate) struct Rereading {
-    thread: JoinHandle<Found>,
+    thread: JoinHandle<Read>,
     is_done: Arc<AtomicBool, Global>,
 }
 
@@ -73,10 +62,7 @@ impl Rereading {
     }
 
     /// What it read. It is not asked before it is done, and so does not wait.
-    pub(crate) fn read<T: Threads>(self, threads: &T) -> Read
-        ensures { IfOk result AreInRange }
-    {
-        let Found { read } = self.thread.join(threads);
-        read
+    pub(crate) fn read<T: Threads>(self, threads: &T) -> Read {
+        self.thread.join(threads)
     }
 }
