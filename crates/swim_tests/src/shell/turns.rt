@@ -76,24 +76,26 @@ const LONE: [Step; 10] = [
     (Some(2298), false, 0, None),
 ];
 
-/// Its turns once it knows 10.0.0.3:7000, and nobody of the list.
-const KNOWN: [Step; 9] = [
-    (Some(2300), false, 0, None),
+/// Its turns once it knows 10.0.0.3:7000, and nobody of the list, which is asked again: the answer came after more than one was asked.
+const KNOWN: [Step; 11] = [
+    (Some(2300), false, 0, Some(2)),
     (Some(2301), true, 1, None),
-    (Some(11_299), false, 0, None),
-    (Some(11_300), true, 1, Some(5)),
-    (Some(11_301), true, 0, None),
-    (Some(21_300), false, 1, Some(2)),
-    (Some(21_300), true, 1, None),
-    (Some(21_300), true, 0, None),
-    (Some(31_300), true, 1, Some(5)),
+    (Some(3299), false, 0, None),
+    (Some(3300), false, 0, Some(5)),
+    (Some(13_299), false, 0, None),
+    (Some(13_300), true, 1, Some(2)),
+    (Some(13_301), true, 0, None),
+    (Some(23_300), false, 1, Some(5)),
+    (Some(23_300), true, 1, None),
+    (Some(23_300), true, 0, None),
+    (Some(33_300), true, 1, Some(2)),
 ];
 
 /// What is logged in these turns.
 const LINES: [&str; 3] = [
     "member 10.0.0.1:7000 alive 1, was unknown",
     "member 10.0.0.3:7000 alive 1, was unknown",
-    "listed 10.0.0.5:7000 is not known here: it is asked again, in case the group is in two parts",
+    "listed 10.0.0.2:7000 is not known here: it is asked again, in case the group is in two parts",
 ];
 
 /// One turn at a time of the clock. Says how many pages it read, and which member it then joined.
