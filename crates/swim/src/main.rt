@@ -15,7 +15,7 @@ use std::thread::Threads;
 use std::time::Clock;
 use std::{env, fs};
 use swim_ask::{
-    CountersJson, Paint, StatusJson, Watched, ask, await_end, read_counters, read_status,
+    Answered, CountersJson, Paint, StatusJson, Watched, ask, await_end, read_counters, read_status,
     show_members, watch_members,
 };
 use swim_check::{Stop, check};
@@ -134,6 +134,23 @@ struct Question<'a> {
     at_once: bool,
 }
 
+/// Prints an answer, as a JSON object where that is wanted.
+fn print_answer(rt: &HostRuntime, text: &[u8], as_json: bool) -> Result<(), Ending> {
+    if as_json {
+        print_json(rt, text)
+    } else {
+        print_bytes(rt, text)
+    }
+}
+
+/// Waits until a member has ended that has answered that it stops, if that is wanted.
+fn await_stop(rt: &HostRuntime, question: &Question<'_>, answer: &Answered) -> Result<(), Ending> {
+    if question.line == STOP && !question.at_once {
+        return await_end(rt, answer.at);
+    }
+    Ok(())
+}
+
 /// Asks a member, and prints its answer. Where that is to `stop`, the member has ended then, if that is wanted. The exit status says
 /// whether the answer begins with `ok`.
 fn ask_member<T: Threads>(
@@ -142,22 +159,14 @@ fn ask_member<T: Threads>(
     question: &Question<'_>,
 ) -> Result<ExitCode, Ending> {
     let answer = ask(rt, threads, question.to, question.line)?;
-    let text = answer.text.as_slice();
-    let printed = if question.as_json {
-        print_json(rt, text)
-    } else {
-        print_bytes(rt, text)
-    };
-    let is_ok = text.starts_with(b"ok");
-    if is_ok && question.line == STOP && !question.at_once {
-        await_end(rt, answer.at)?;
+    let printed = print_answer(rt, answer.text.as_slice(), question.as_json);
+    if !answer.text.as_slice().starts_with(b"ok") {
+        printed?;
+        return Ok(ExitCode::FAILURE);
     }
+    await_stop(rt, question, &answer)?;
     printed?;
-    Ok(if is_ok {
-        ExitCode::SUCCESS
-    } else {
-        ExitCode::FAILURE
-    })
+    Ok(ExitCode::SUCCESS)
 }
 
 /// Prints what a state file says. The status says whether an opening would begin a life.
