@@ -1,4 +1,5 @@
 pub mod Cache
+pub mod Deeds
 pub mod Choice
 pub mod Count
 pub mod Disk

@@ -1,190 +1,159 @@
-//! A file of the operating system, and what the disk below it may not have.
+//! A file and the disk below it: reads of all of it, and writes that reach the disk.
 //!
 //! The system keeps written bytes in memory, and a sync writes them to the disk. A sync that fails may let them go: the
-//! next one answers Ok, and reads still give them. So a [`CachedFile`] notes what was done to its file, and contracts see
-//! which bytes the disk may be missing.
+//! next one answers Ok, and reads still give them. So contracts see by what was done to the file which bytes the disk has.
 
-ghost use Rattle.std.specs.Prelude.{◌≡◌, ◌++◌, ◌∷◌, [], false, OnOk, OnErr, IfOk};
+ghost use Rattle.std.specs.Prelude.{◌≡◌, ◌+◌, ◌-◌, ◌≤◌, ℕ, length, false, min, IfOk, OnOk};
+ghost use Rattle.swim_disk.specs.declared.mem.TheConstants.{MOST_BYTES};
 
 use crate::MOST_BYTES;
-use crate::open_file::OpenFile;
-use crate::past::Call;
+use crate::backing::BackingFile;
 use std::alloc::Global;
-use std::io;
-use std::os::unix::fs::FileExt;
-use swim_trace::Pairs;
+use std::io::{self, ErrorKind};
 
-/// How many zero bytes are written at once.
-const BLOCK: u64 = 4096;
+/// How many calls a read or a write may take, with those that a signal cut short.
+const TRIES_MAX: u32 = u32::MAX;
 
-/// What was done to a file, for contracts alone. A write and its bytes stand beside it.
+/// A range of bytes that was written: the offsets of the first, and of the first after it.
 #[derive(Clone, Copy, Drop)]
-pub(crate) enum Deed {
-    /// A write that succeeded.
-    Wrote,
-    /// A write that failed, at any of its bytes.
-    WriteFailed,
-    /// A sync that succeeded.
-    Synced,
-    /// A sync that failed.
-    SyncFailed,
-    /// What the system held of the file in memory was dropped.
-    Dropped,
-    /// All bytes were read.
-    Loaded,
+pub(crate) struct Span {
+    pub(crate) from: u64,
+    pub(crate) until: u64,
 }
 
-/// An open file, with what was done to it since it was taken over. Another process may have written it before, and may
-/// have seen a sync fail.
+/// A file that is read once and whole, and written where the disk may lack something. Another process may have written it
+/// before, and may have seen a sync fail.
 #[derive(Drop)]
-pub(crate) struct CachedFile {
-    file: OpenFile,
-    pub(crate) deeds: Pairs<Deed, Call>,
+pub(crate) struct CachedFile<B: BackingFile> {
+    pub(crate) below: B,
 }
 
-impl CachedFile {
-    ghost use Rattle.std.specs.Prelude.{ℕ, List};
-    ghost use Rattle.swim_disk.specs.Cache.{cache_of, deed_of, IsLoaded, Missing, Touched};
-    ghost use Rattle.swim_disk.specs.declared.cached.Deed.TheVariants.{Synced, SyncFailed, Dropped, Loaded};
-    ghost use Rattle.swim_disk.specs.declared.past.Call.TheVariants.{Sync};
+impl<B: BackingFile + Drop> CachedFile<B> {
+    ghost use Rattle.swim_disk.specs.Cache.{backing_in, AreInside, HasBut, WaitsIn};
+    ghost use Rattle.swim_disk.specs.Deeds.{AllWait, ComesAll, KeepsAll, StaysBeside};
 
     /// Takes the file over, and reads it, at most [`MOST_BYTES`] bytes, as the disk has it: it syncs, drops what the
-    /// system holds in memory, and reads. What it found is a write of all of it.
-    pub(crate) fn load(alloc: Global, file: OpenFile) -> io::Result<(CachedFile, Call)>
-        ensures size { IfOk result (λ made. IsLoaded made.1) }
-        ensures found { IfOk result (λ made. (deeds : List _)
-            × (made.0.deeds.items ≡ deeds ++ (Loaded, made.1) ∷ [])) }
-        ensures has_all { IfOk result (λ made. (i : ℕ) → Missing (cache_of made.0) i → ⊥) }
+    /// system holds in memory, and reads.
+    pub(crate) fn load(alloc: Global, below: B) -> io::Result<(CachedFile<B>, Vec<u8>)>
+        ensures measured { IfOk result (λ made. (n : ℕ)
+            × ((backing_in B.deeds made.0).measured n)
+            × (length made.1.items ≡ min n MOST_BYTES)) }
+        ensures has_all { IfOk result
+            (λ made. KeepsAll made.1.items (backing_in B.deeds made.0)) }
     {
-        let mut cached = CachedFile {
-            file,
-            deeds: Pairs::new(),
-        };
-        cached.sync()?;
-        cached.drop_held()?;
-        let found = cached.read(alloc)?;
-        Ok((cached, found))
+        let mut file = CachedFile { below };
+        file.below.sync()?;
+        file.below.drop_held()?;
+        let length = file.below.length()?;
+        let mut found = Vec::new(alloc);
+        found.resize(length.min(MOST_BYTES) as usize, 0)?;
+        file.read_all(&mut found)?;
+        Ok((file, found))
     }
 
-    fn note(&mut self, deed: Deed, call: &Call)
-        ensures { self.new.deeds.items ≡ self.old.deeds.items ++ (deed, call.now) ∷ [] }
+    /// Fills the whole buffer with the first bytes of the file.
+    fn read_all(&mut self, buffer: &mut [u8]) -> io::Result<()>
+        requires dropped { (backing_in B.deeds self.old).dropped }
+        requires size { length buffer.old ≤ MOST_BYTES }
+        ensures size { length buffer.new ≡ length buffer.old }
+        ensures measured { (n : ℕ) → (backing_in B.deeds self.old).measured n
+            → (backing_in B.deeds self.new).measured n }
+        ensures has_all { OnOk result (KeepsAll buffer.new (backing_in B.deeds self.new)) }
     {
-        self.deeds = self.deeds.and(&deed, call);
-    }
-
-    /// Writes zero bytes from the end of the file up to this offset. They are what a read gives there anyway. Written, each
-    /// block of them has its place, so that a full disk refuses this write and not a later one.
-    fn fill_gap(&self, to: u64) -> io::Result<()> {
-        let end = self.file.length()?;
-        for block in 0..MOST_BYTES / BLOCK {
-            let from = (block * BLOCK).max(end);
-            let until = ((block + 1) * BLOCK).min(to);
-            if from < until {
-                let zeros = [0; BLOCK as usize];
-                self.file
-                    .write_all_at(&zeros[..(until - from) as usize], from)?;
+        let mut done = 0;
+        for _ in 0..TRIES_MAX {
+            if done == buffer.len() {
+                return Ok(());
+            }
+            match self.below.read(done as u64, &mut buffer[done..]) {
+                Ok(0) => return Err(io::Error::from(ErrorKind::UnexpectedEof)),
+                Ok(count) => done += count,
+                Err(error) if error.kind() == ErrorKind::Interrupted => {}
+                Err(error) => return Err(error),
             }
         }
-        Ok(())
+        Err(io::Error::from(ErrorKind::Interrupted))
     }
 
-    fn pass_on(&self, call: &Call) -> io::Result<()> {
-        match call {
-            Call::Write { at, bytes } => {
-                self.fill_gap(*at)?;
-                self.file.write_all_at(bytes, *at)
+    /// Writes all of these bytes from this offset on. The system may take them in several parts.
+    fn write_all(&mut self, at: u64, bytes: &[u8]) -> io::Result<()>
+        requires room { at + length bytes.now ≤ MOST_BYTES }
+        ensures beside { StaysBeside at (length bytes.now)
+            (backing_in B.deeds self.old) (backing_in B.deeds self.new) }
+        ensures done { OnOk result (AllWait at bytes.now (backing_in B.deeds self.new)) }
+    {
+        let mut done = 0;
+        for _ in 0..TRIES_MAX {
+            if done == bytes.len() {
+                return Ok(());
             }
-            Call::Sync => Ok(()),
+            match self.below.write(at + done as u64, &bytes[done..]) {
+                Ok(0) => return Err(io::Error::from(ErrorKind::WriteZero)),
+                Ok(count) => done += count,
+                Err(error) if error.kind() == ErrorKind::Interrupted => {}
+                Err(error) => return Err(error),
+            }
         }
+        Err(io::Error::from(ErrorKind::Interrupted))
     }
 
-    /// Makes this write, or makes it again.
-    pub(crate) fn write(&mut self, call: &Call) -> io::Result<()>
-        ensures { self.new.deeds.items ≡ self.old.deeds.items ++ (deed_of result, call.now) ∷ [] }
+    /// Writes what the content has in this range.
+    pub(crate) fn write_span(&mut self, content: &[u8], span: Span) -> io::Result<()>
+        requires size { length content.now ≤ MOST_BYTES }
+        requires range { span.from ≤ span.until }
+        requires within { span.until ≤ length content.now }
+        ensures beside { StaysBeside span.from (span.until - span.from)
+            (backing_in B.deeds self.old) (backing_in B.deeds self.new) }
+        ensures done { OnOk result (WaitsIn span content.now (backing_in B.deeds self.new)) }
     {
-        let written = self.pass_on(call);
-        let deed = match written {
-            Ok(()) => Deed::Wrote,
-            Err(_) => Deed::WriteFailed,
-        };
-        self.note(deed, call);
-        written
+        let bytes = &content[span.from as usize..span.until as usize];
+        self.write_all(span.from, bytes)
     }
 
-    fn sync(&mut self) -> io::Result<()>
-        ensures done { OnOk result
-            (self.new.deeds.items ≡ self.old.deeds.items ++ (Synced, Sync) ∷ []) }
-        ensures failed { OnErr result
-            (self.new.deeds.items ≡ self.old.deeds.items ++ (SyncFailed, Sync) ∷ []) }
+    /// Writes again what the content has in these ranges, in their order. It stops at the first that fails.
+    fn write_again(&mut self, content: &[u8], spans: &[Span]) -> io::Result<()>
+        requires size { length content.now ≤ MOST_BYTES }
+        requires within { AreInside content.now spans.now }
+        requires old { HasBut spans.now content.now (backing_in B.deeds self.old) }
+        ensures new { HasBut spans.now content.now (backing_in B.deeds self.new) }
+        ensures comes { OnOk result (ComesAll content.now (backing_in B.deeds self.new)) }
     {
-        let synced = self.file.sync_all();
-        let deed = match synced {
-            Ok(()) => Deed::Synced,
-            Err(_) => Deed::SyncFailed,
-        };
-        self.note(deed, &Call::Sync);
-        synced
-    }
-
-    /// Drops what the system holds of the file in memory, so that reads come from the disk.
-    fn drop_held(&mut self) -> io::Result<()>
-        ensures done { OnOk result
-            (self.new.deeds.items ≡ self.old.deeds.items ++ (Dropped, Sync) ∷ []) }
-    {
-        self.file.drop_held()?;
-        self.note(Deed::Dropped, &Call::Sync);
-        Ok(())
-    }
-
-    /// The first [`MOST_BYTES`] bytes, or all if there are fewer, as a write of them.
-    fn read(&mut self, alloc: Global) -> io::Result<Call>
-        ensures size { IfOk result IsLoaded }
-        ensures done { IfOk result (λ read.
-            self.new.deeds.items ≡ self.old.deeds.items ++ (Loaded, read) ∷ []) }
-    {
-        let length = self.file.length()?;
-        let mut bytes = Vec::new(alloc);
-        bytes.resize(length.min(MOST_BYTES) as usize, 0)?;
-        self.file.read_exact_at(&mut bytes, 0)?;
-        let read = Call::Write { at: 0, bytes };
-        self.note(Deed::Loaded, &read);
-        Ok(read)
-    }
-
-    /// Makes all of these writes again, in their order. It stops at the first that fails.
-    fn write_again(&mut self, calls: &[Call]) -> io::Result<()>
-        requires within { (i : ℕ) → Missing (cache_of self.old) i → Touched calls.now i }
-        ensures within { (i : ℕ) → Missing (cache_of self.new) i → Touched calls.now i }
-        ensures found { OnOk result ((i : ℕ) → (cache_of self.new).lost i → ⊥) }
-    {
-        for call in calls {
-            self.write(call)?;
+        for span in spans {
+            self.write_span(content, *span)?;
         }
         Ok(())
     }
 
-    /// Syncs a file of which nothing is lost. After Ok the disk has all.
-    fn sync_all(&mut self, calls: &[Call]) -> io::Result<()>
-        requires within { (i : ℕ) → Missing (cache_of self.old) i → Touched calls.now i }
-        requires found { (i : ℕ) → (cache_of self.old).lost i → ⊥ }
-        ensures within { (i : ℕ) → Missing (cache_of self.new) i → Touched calls.now i }
-        ensures has_all { OnOk result ((i : ℕ) → Missing (cache_of self.new) i → ⊥) }
+    /// Syncs a file that the system was given all of. After Ok the disk has all.
+    fn sync_all(&mut self, content: &[u8], spans: &[Span]) -> io::Result<()>
+        requires old { HasBut spans.now content.now (backing_in B.deeds self.old) }
+        requires comes { ComesAll content.now (backing_in B.deeds self.old) }
+        ensures new { HasBut spans.now content.now (backing_in B.deeds self.new) }
+        ensures has_all { OnOk result (KeepsAll content.now (backing_in B.deeds self.new)) }
     {
-        self.sync()
+        self.below.sync()
     }
 
-    /// Syncs. A stale file, one of whose writes or syncs has failed, first gets again all of these writes, which are those
-    /// since the last sync that said Ok: the system may have let them go. After Ok the disk has all.
-    pub(crate) fn settle(&mut self, calls: &[Call], is_stale: bool) -> io::Result<()>
-        requires within { (i : ℕ) → Missing (cache_of self.old) i → Touched calls.now i }
-        requires good { is_stale ≡ false → (i : ℕ) → (cache_of self.old).lost i → ⊥ }
-        ensures within { (i : ℕ) → Missing (cache_of self.new) i → Touched calls.now i }
-        ensures has_all { OnOk result ((i : ℕ) → Missing (cache_of self.new) i → ⊥) }
+    /// Syncs. A stale file, one of whose writes or syncs has failed, first gets again what the content has in these ranges,
+    /// which are those of the writes since the last sync that said Ok: the system may have let them go. After Ok the disk
+    /// has all.
+    pub(crate) fn settle(
+        &mut self,
+        content: &[u8],
+        spans: &[Span],
+        is_stale: bool,
+    ) -> io::Result<()>
+        requires size { length content.now ≤ MOST_BYTES }
+        requires within { AreInside content.now spans.now }
+        requires old { HasBut spans.now content.now (backing_in B.deeds self.old) }
+        requires good { is_stale ≡ false → ComesAll content.now (backing_in B.deeds self.old) }
+        ensures new { HasBut spans.now content.now (backing_in B.deeds self.new) }
+        ensures has_all { OnOk result (KeepsAll content.now (backing_in B.deeds self.new)) }
     {
         if !is_stale {
-            return self.sync_all(calls);
+            return self.sync_all(content, spans);
         }
-        self.write_again(calls)?;
-        self.sync_all(calls)
+        self.write_again(content, spans)?;
+        self.sync_all(content, spans)
     }
 }

@@ -1,10 +1,10 @@
 //! A file of the operating system, as a disk.
 
-ghost use Rattle.std.specs.Prelude.{◌≡◌, ◌+◌, ◌≤◌, ◌++◌, ◌∷◌, [], ℕ, List, length, map, IfOk, OnOk, OnErr};
+ghost use Rattle.std.specs.Prelude.{◌≡◌, ◌+◌, ◌≤◌, ◌++◌, ◌∷◌, [], length, IfOk, OnOk, OnErr};
 ghost use Rattle.swim_disk.specs.declared.mem.TheConstants.{MOST_BYTES};
 ghost use Rattle.swim_disk.specs.declared.past.Call.TheVariants.{Write, Sync};
 
-use crate::cached::CachedFile;
+use crate::cached::{CachedFile, Span};
 use crate::count::Count;
 use crate::mem::overlay;
 use crate::open_file::OpenFile;
@@ -21,12 +21,13 @@ use swim_trace::Trace;
 
 /// A file of the operating system, of which the first [`MOST_BYTES`] bytes are the disk. It is read once, when it is
 /// opened, and then its bytes are kept in memory, so that a read gives what was found and written, whatever the system
-/// does with its own memory. After a failed write or sync it writes again all that it wrote since the last sync that said
-/// Ok, before it syncs anew: the system may have let it go.
+/// does with its own memory. A write past the end writes the zero bytes of the gap too, so that each block of the file has
+/// its place, and a full disk refuses this write and not a later one. After a failed write or sync it writes again all that
+/// it wrote since the last sync that said Ok, before it syncs anew: the system may have let it go.
 ///
-/// A write takes memory for what is past the end, and for its own bytes until a sync has kept them. Their room is then used
-/// again. So where each write is synced before the next one, a write takes none if it is within the bytes that there are and
-/// not longer than an earlier one.
+/// A write takes memory for what is past the end, for its own bytes, and for the range of each write until a sync has kept
+/// it. All of it is used again. So where each write is synced before the next one, a write takes none if it is within the
+/// bytes that there are and not longer than an earlier one.
 ///
 /// That a crash leaves an image of its state is the premise of its user: that the system keeps what it has written and
 /// synced with no failure between them, and that nobody else writes the file.
@@ -34,19 +35,21 @@ use swim_trace::Trace;
 pub struct FileDisk {
     alloc: Global,
     number: u64,
-    file: CachedFile,
+    file: CachedFile<OpenFile>,
     content: Vec<u8>,
     calls: Trace<Call>,
-    unsynced: Vec<Call>,
-    spare: Vec<u8>,
+    /// The room in which a write's bytes stand while it is noted among the calls.
+    noted: Vec<u8>,
+    /// What was written since the last sync that said Ok.
+    unsynced: Vec<Span>,
     is_stale: bool,
     failures: Count,
     asked: Count,
 }
 
 impl Model for FileDisk {
-    ghost use Rattle.swim_disk.specs.Cache.{cache_of};
     ghost use Rattle.swim_disk.specs.Count.{count_of};
+    ghost use Rattle.swim_disk.specs.Deeds.{backing_of};
     ghost use Rattle.swim_disk.specs.File.{FileView, IsFile};
 
     ghost Value = { FileView };
@@ -56,37 +59,36 @@ impl Model for FileDisk {
       calls = f.calls;
       failures = count_of f.failures;
       asked = count_of f.asked;
-      deeds = f.file.deeds.items;
+      deeds = f.file.below.deeds;
     } };
 
     ghost invariant = { λ f. IsFile f.content.items f.unsynced.items
-        f.calls f.is_stale (cache_of f.file) };
+        f.calls f.is_stale (backing_of f.file.below.deeds) };
 }
 
-/// Drops the writes that a sync has kept. The room of the first one's bytes is spare then.
-fn release(unsynced: &mut Vec<Call>, spare: &mut Vec<u8>)
-    ensures { unsynced.new.items ≡ [] }
+/// The calls with a write more, for contracts alone. Its bytes come back.
+fn with_write(calls: &Trace<Call>, at: u64, bytes: Vec<u8>) -> (Trace<Call>, Vec<u8>)
+    ensures calls { result.0 ≡ calls.now ++ Write at bytes ∷ [] }
+    ensures back { result.1 ≡ bytes }
 {
-    unsynced.truncate(1);
-    if let Some(Call::Write { at: _, bytes }) = unsynced.pop() {
-        *spare = bytes;
+    let call = Call::Write { at, bytes };
+    let calls = calls.and(&call);
+    match call {
+        Call::Write { at: _, bytes } => (calls, bytes),
+        Call::Sync => unreachable!(),
     }
 }
 
 impl FileDisk {
     ghost use Rattle.std.specs.Prelude.{IsErr};
     ghost use Rattle.swim_disk.specs.Disk.{IsSettled, overlaid};
-    ghost use Rattle.swim_disk.specs.Cache.{deed_of, IsLoaded};
-    ghost use Rattle.swim_disk.specs.declared.cached.Deed.TheVariants.{Loaded};
-    ghost use Rattle.swim_disk.specs.declared.past.Call.{Call as Calls};
-    ghost use Rattle.swim_disk.specs.File.{HasAll, file_state};
+    ghost use Rattle.swim_disk.specs.File.{Finds, HasAll, Puts, file_state};
 
     /// A disk over this file, which is open for reading and writing. It syncs the file and reads it as the disk below has
     /// it, so that a crash from now on leaves what it read. An error is the system's, or there was no memory.
     pub fn load(alloc: Global, file: File) -> io::Result<FileDisk>
         ensures settled { IfOk result (λ disk. IsSettled (file_state disk)) }
-        ensures found { IfOk result (λ disk. (found : Calls) × (deeds : List _) × (IsLoaded found)
-            × (disk.calls ≡ found ∷ Sync ∷ []) × (disk.deeds ≡ deeds ++ (Loaded, found) ∷ [])) }
+        ensures found { IfOk result Finds }
         ensures has_all { IfOk result HasAll }
     {
         let number = file.metadata()?.ino();
@@ -96,8 +98,7 @@ impl FileDisk {
     /// The same over the file of a descriptor. It is closed where the disk is dropped.
     pub fn load_descriptor(alloc: Global, fd: OwnedFd) -> io::Result<FileDisk>
         ensures settled { IfOk result (λ disk. IsSettled (file_state disk)) }
-        ensures found { IfOk result (λ disk. (found : Calls) × (deeds : List _) × (IsLoaded found)
-            × (disk.calls ≡ found ∷ Sync ∷ []) × (disk.deeds ≡ deeds ++ (Loaded, found) ∷ [])) }
+        ensures found { IfOk result Finds }
         ensures has_all { IfOk result HasAll }
     {
         let number = u64::from(fd.as_raw_fd().unsigned_abs());
@@ -107,23 +108,19 @@ impl FileDisk {
     /// The same, by the name that contracts give it.
     fn load_numbered(alloc: Global, number: u64, fd: OwnedFd) -> io::Result<FileDisk>
         ensures settled { IfOk result (λ disk. IsSettled (file_state disk)) }
-        ensures found { IfOk result (λ disk. (found : Calls) × (deeds : List _) × (IsLoaded found)
-            × (disk.calls ≡ found ∷ Sync ∷ []) × (disk.deeds ≡ deeds ++ (Loaded, found) ∷ [])) }
+        ensures found { IfOk result Finds }
         ensures has_all { IfOk result HasAll }
     {
         let (file, found) = CachedFile::load(alloc, OpenFile::new(fd))?;
-        let calls = Trace::new().and(&found).and(&Call::Sync);
-        let Call::Write { at: _, bytes } = found else {
-            unreachable!()
-        };
+        let (calls, content) = with_write(&Trace::new(), 0, found);
         Ok(FileDisk {
             alloc,
             number,
             file,
-            content: bytes,
-            calls,
+            content,
+            calls: calls.and(&Call::Sync),
+            noted: Vec::new(alloc),
             unsynced: Vec::new(alloc),
-            spare: Vec::new(alloc),
             is_stale: false,
             failures: Count::new(),
             asked: Count::new(),
@@ -155,27 +152,32 @@ impl FileDisk {
         FileDisk::load(alloc, file)
     }
 
-    /// Makes a write, in the file, in memory, and among those that no sync has kept. It gives what the system answered: what
-    /// it refused is written again before the next sync. Err: there was no memory, and nothing was done.
+    /// Makes a write, in memory and in the file, with the gap before it. It gives what the system answered: what it refused
+    /// is written again before the next sync. Err: there was no memory, and nothing was done.
     fn put(&mut self, at: u64, bytes: &[u8]) -> Result<io::Result<()>, AllocError>
         requires { at + length bytes.now ≤ MOST_BYTES }
-        ensures given { IfOk result (λ written. (kept : _) × (kept.items ≡ bytes.now)
-            × (self.new ≡ record self.old {
-              calls = self.old.calls ++ Write at kept ∷ [];
-              deeds = self.old.deeds ++ (deed_of written, Write at kept) ∷ [];
-            })) }
+        ensures given { IfOk result (λ written. Puts at bytes.now written self.old self.new) }
+        ensures rest { OnOk result (self.new ≡ record self.old {
+          calls = self.new.calls;
+          deeds = self.new.deeds;
+        }) }
         ensures same { OnErr result (self.new ≡ self.old) }
     {
+        let span = Span {
+            from: at.min(self.content.len() as u64),
+            until: at + bytes.len() as u64,
+        };
         self.unsynced.reserve(1)?;
-        self.spare.clear();
-        self.spare.extend_from_slice(bytes)?;
+        self.noted.clear();
+        self.noted.extend_from_slice(bytes)?;
         overlay(&mut self.content, at, bytes)?;
-        let bytes = mem::replace(&mut self.spare, Vec::new(self.alloc));
-        let call = Call::Write { at, bytes };
-        let written = self.file.write(&call);
+        self.unsynced.push_reserved(span);
+        let noted = mem::replace(&mut self.noted, Vec::new(self.alloc));
+        let (calls, noted) = with_write(&self.calls, at, noted);
+        self.calls = calls;
+        self.noted = noted;
+        let written = self.file.write_span(&self.content, span);
         self.is_stale |= written.is_err();
-        self.calls = self.calls.and(&call);
-        self.unsynced.push_reserved(call);
         Ok(written)
     }
 
@@ -188,11 +190,13 @@ impl FileDisk {
         ensures has_all { OnOk result (HasAll self.new) }
         ensures failed { OnErr result (self.new ≡ record self.old { deeds = self.new.deeds }) }
     {
-        let settled = self.file.settle(&self.unsynced, self.is_stale);
+        let settled = self
+            .file
+            .settle(&self.content, &self.unsynced, self.is_stale);
         match &settled {
             Ok(()) => {
                 self.calls = self.calls.and(&Call::Sync);
-                release(&mut self.unsynced, &mut self.spare);
+                self.unsynced.clear();
                 self.is_stale = false;
             }
             Err(_) => self.is_stale = true,
@@ -204,7 +208,7 @@ impl FileDisk {
 impl Disk for FileDisk {
     ghost use Rattle.std.specs.Prelude.{◌<◌, take, drop, IfErr, IsOk};
     ghost use Rattle.swim_disk.specs.Disk.{Counts, Rests, Syncs, Writes};
-    ghost use Rattle.swim_disk.specs.File.{file_state, Gives, HasAll, IsInDoubt};
+    ghost use Rattle.swim_disk.specs.File.{file_state, Gives, HasAll, KeepsSynced};
 
     ghost state = { λ f. file_state f };
 
@@ -231,10 +235,10 @@ impl Disk for FileDisk {
         ensures asked { (file_state self.new).calls ≡ (file_state self.old).calls + 1 }
         ensures writes { Writes at bytes.now result (file_state self.old) (file_state self.new) }
 
-        // It is one write of the file, with the same answer, or there was no room or no memory, and nothing was done. What
-        // the disk below may be missing is what was written since the last sync that said Ok.
+        // The file gets these bytes, or there was no room or no memory, and nothing was done. The disk below keeps what was
+        // synced, but for what was written since.
         ensures given { Gives at bytes.now result self.old self.new }
-        ensures in_doubt { IsInDoubt self.new }
+        ensures kept { KeepsSynced self.new }
     {
         self.asked.add();
         if at > MOST_BYTES || bytes.len() as u64 > MOST_BYTES - at {
@@ -254,7 +258,7 @@ impl Disk for FileDisk {
 
         // After Ok the disk below has all, also what an earlier failure may have lost.
         ensures has_all { OnOk result (HasAll self.new) }
-        ensures in_doubt { IsInDoubt self.new }
+        ensures kept { KeepsSynced self.new }
     {
         self.asked.add();
         match self.settle() {

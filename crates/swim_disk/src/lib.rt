@@ -3,6 +3,7 @@
 //! Offsets and lengths are in bytes, and offset 0 is the first byte.
 #![tactic(auto)]
 
+mod backing;
 mod beside;
 mod cached;
 mod count;

@@ -32,6 +32,17 @@ impl<A> Trace<A> {
         Trace { log: Log::new() }
     }
 
+    /// These were done, in their order.
+    pub fn of(items: &[A]) -> Trace<A>
+        ensures { result ≡ items.now }
+    {
+        let mut trace = Trace::new();
+        for item in items {
+            trace = trace.and(item);
+        }
+        trace
+    }
+
     /// The same, and then this.
     #[tactic(auto, using(crate::proofs::Lists::firsts_append))]
     pub fn and(&self, last: &A) -> Trace<A>

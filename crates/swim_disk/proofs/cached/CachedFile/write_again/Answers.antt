@@ -1,33 +1,27 @@
-use Rattle.std.proofs.Common.{⊎_elim, List, subst}
-use Rattle.swim_disk.specs.Cache.{Touches, taken_over, after_all}
-use Rattle.swim_disk.specs.declared.cached.Deed.{Deed}
-use Rattle.swim_disk.specs.declared.cached.Deed.TheVariants.{Wrote, WriteFailed}
-use Rattle.swim_disk.specs.declared.past.Call.{Call}
-use Rattle.swim_disk.proofs.Caching.{lost_more, waiting_more, touched_drop, again_lost, touched_call}
+use Rattle.swim_disk.specs.Cache.{backing_in}
+use Rattle.swim_disk.specs.declared.cached.Span.{Span}
+use Rattle.swim_disk.proofs.Spanning.{within_at, span_but, span_comes}
 use Rattle.swim_disk.proofs.cached.CachedFile.write_again.Goals as goal
 
-pub loop-call-preserved : goal.loop-call-preserved
-loop-call-preserved c =
-    let deeds = c.loop-call.self.deeds.items in
-    let call = c.call-item.result in (
-      λ i lost. let was = lost_more taken_over deeds Wrote call i (subst (λ (l : List (Deed × Call)). (after_all taken_over l).lost i) c.in_ok-write.ensures lost) in
-          again_lost c.args.calls.now c.loop-call.call-index i call c.loop-call-test.true c.call-item.is (c.loop-call.invariant.0 i was.0) was.1,
-      λ i waiting. ⊎_elim
-          (λ was. c.loop-call.invariant.1 i was)
-          (λ here. touched_call c.args.calls.now c.loop-call.call-index i call c.loop-call-test.true c.call-item.is here)
-          (waiting_more taken_over deeds Wrote call i (subst (λ (l : List (Deed × Call)). (after_all taken_over l).waiting i) c.in_ok-write.ensures waiting)),
-    )
+abbrev none : Span
+none = record { from = 0; until = 0 }
 
-pub returns-in_err-write-clause-within : goal.returns-in_err-write-clause-within
-returns-in_err-write-clause-within c i missing =
-    let deeds = c.loop-call.self.deeds.items in
-    let call = c.call-item.result in
-    let failed = c.in_err-write.ensures in
-    let here = λ (is : Touches call i). touched_call c.args.calls.now c.loop-call.call-index i call c.loop-call-test.true c.call-item.is is in
-    ⊎_elim
-    (λ lost. ⊎_elim
-    (λ was. touched_drop c.args.calls.now c.loop-call.call-index i (c.loop-call.invariant.0 i was))
-    here
-    (lost_more taken_over deeds WriteFailed call i (subst (λ (l : List (Deed × Call)). (after_all taken_over l).lost i) failed lost)))
-    (λ waiting. c.loop-call.invariant.1 i (waiting_more taken_over deeds WriteFailed call i (subst (λ (l : List (Deed × Call)). (after_all taken_over l).waiting i) failed waiting)))
-    missing
+pub write_span-requires-clause-range : goal.write_span-requires-clause-range
+write_span-requires-clause-range g c = (within_at c.args.content.now c.args.spans.now c.loop-span.span-index none c.requires.within c.loop-span-test.true).0
+
+pub write_span-requires-clause-within : goal.write_span-requires-clause-within
+write_span-requires-clause-within g c = (within_at c.args.content.now c.args.spans.now c.loop-span.span-index none c.requires.within c.loop-span-test.true).1
+
+pub returns-in_err-write_span-clause-new : goal.returns-in_err-write_span-clause-new
+returns-in_err-write_span-clause-new g c =
+    let file = backing_in g.B.BackingFile.deeds in
+    let range = (within_at c.args.content.now c.args.spans.now c.loop-span.span-index none c.requires.within c.loop-span-test.true).0 in
+    span_but c.args.spans.now c.args.content.now (file c.loop-span.self) (file c.write_span.new.self) c.loop-span.span-index none c.loop-span-test.true range c.write_span.ensures.beside c.loop-span.invariant.0
+
+pub loop-span-preserved : goal.loop-span-preserved
+loop-span-preserved g c =
+    let file = backing_in g.B.BackingFile.deeds in
+    let range = (within_at c.args.content.now c.args.spans.now c.loop-span.span-index none c.requires.within c.loop-span-test.true).0 in (
+      span_but c.args.spans.now c.args.content.now (file c.loop-span.self) (file c.write_span.new.self) c.loop-span.span-index none c.loop-span-test.true range c.write_span.ensures.beside c.loop-span.invariant.0,
+      span_comes c.args.spans.now c.args.content.now (file c.loop-span.self) (file c.write_span.new.self) c.loop-span.span-index none c.loop-span-test.true range c.write_span.ensures.beside c.in_ok-write_span.ensures.done c.loop-span.invariant.1,
+    )

@@ -1,9 +1,11 @@
-use Rattle.std.proofs.Common.{ℕ, drop}
-use Rattle.swim_disk.specs.Cache.{cache_of, Touched}
+use Rattle.std.proofs.Common.{◌⊎◌, ℕ, ◌<◌, length, drop, slice_index}
+use Rattle.swim_disk.specs.Cache.{backing_in, HasBut, InSpans}
+use Rattle.swim_disk.specs.Deeds.{Comes}
 use Rattle.swim_disk.proofs.cached.CachedFile.write_again.Given as goal
 
--- what is lost is still to be written again, and what waits is among what is written
-abbrev pub invariant-loop-call : goal.invariant-loop-call
-invariant-loop-call l =
-    ((i : ℕ) → (cache_of l.self).lost i → Touched (drop l.call-index l.calls) i)
-    × ((i : ℕ) → (cache_of l.self).waiting i → Touched l.calls i)
+-- what does not come is still to be written again
+abbrev pub invariant-loop-span : goal.invariant-loop-span
+invariant-loop-span g l =
+    let file = backing_in g.B.BackingFile.deeds l.self in
+    HasBut l.spans l.content file
+    × ((i : ℕ) → i < length l.content → Comes file i (slice_index l.content i) ⊎ InSpans (drop l.span-index l.spans) i)
