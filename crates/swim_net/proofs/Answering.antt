@@ -1,11 +1,13 @@
 -- What a socket has answered is what it gives.
-use Rattle.std.proofs.Common.{◌≡◌, ℕ, ◌+◌, List, [], ◌∷◌, ◌++◌, refl, ap, ◌∙◌, arith}
+use Rattle.std.proofs.Common.{◌≡◌, ℕ, ◌+◌, List, [], ◌∷◌, ◌++◌, refl, ap, subst, sym, ◌∙◌, append-nil, arith}
 use Rattle.std.specs.Prelude.{Option, Result, ⊤}
+use Rattle.std.proofs.lemmas.List.Elements.{All-nil}
 use Rattle.arrayvec.specs.ArrayVec.{ArrayVec}
 use Rattle.swim_shell.specs.Inbounds.{Came, came_of, failures_in, Took}
 use Rattle.swim_shell.specs.declared.inbound.ReceiveFault.{ReceiveFault}
 use Rattle.swim_net.specs.declared.udp.Answer.{Answer}
 use Rattle.swim_net.specs.Datagrams.{came_by, came_in}
+use Rattle.swim_net.specs.Udp.{Receive, BringsLast, BringsOne, HadNothing}
 
 -- one more answer is one more that came
 came_in-snoc : (xs : List Answer) (a : Answer) → came_in (xs ++ a ∷ []) ≡ came_in xs ++ came_by a.from a.bytes ∷ []
@@ -22,3 +24,7 @@ failures_in-append (x ∷ xs) ys = omega (arith, failures_in-append xs ys)
 -- an inbound that tells gave this one
 pub took_one : (old new : List Came) (c : Came) → new ≡ old ++ c ∷ [] → Took ⊤ old new (failures_in old) (failures_in new) (c ∷ [])
 took_one old new c e = record { told = λ _. e; failed = ap failures_in e ∙ failures_in-append old (c ∷ []) }
+
+-- what the first receive brought
+pub brings_first : (old new : List Receive) (came : Came) → BringsOne old new came → BringsLast old new came
+brings_first old new came one = record { before = []; none = All-nil HadNothing; last = subst (λ (l : List Receive). BringsOne l new came) (sym (append-nil old)) one }

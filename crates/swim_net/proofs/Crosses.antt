@@ -3,6 +3,7 @@ use denote.RattleType.{RattleType}
 use denote.Ref.{NamedLft}
 use denote.Param.Send.{IsSend, IsSync, sendable}
 use Rattle.std.proofs.Crossing.{crosses}
+use Rattle.http_server.proofs.log.Log.TheSendSync as log
 use Rattle.swim_trace.specs.contracts.Trace as Trace
 use Rattle.swim_trace.proofs.Crosses.{Trace-send}
 use Rattle.swim_net.specs.contracts.udp.Answer as Answer
@@ -19,7 +20,7 @@ answers-send = Trace-send Answer.the_row Answer-send
 module _ (x : NamedLft) (C : RattleType) (cs : IsSync C) where
   -- what receives datagrams
   pub UdpInbound-send : IsSend (UdpInbound.the_row x C)
-  UdpInbound-send = search (sendable, crosses, answers-send) depth 60 fits 20000
+  UdpInbound-send = search (sendable, crosses, answers-send, log.the_send) depth 60 fits 20000
 
   -- what sends datagrams
   pub UdpLink-send : IsSend (UdpLink.the_row x C)

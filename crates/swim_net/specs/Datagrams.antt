@@ -1,6 +1,6 @@
 -- Where datagrams come from and go to, and what a socket for them has answered.
-use Rattle.std.specs.Prelude.{◌≡◌, ◌≢◌, ℕ, ◌+◌, ◌*◌, List, [], ◌∷◌, Option, Result, IsNone, SomeIff}
-use Rattle.std.specs.Prelude.{◌==◌, Bool, true, false, Some, None, Ok, Err, if◌then◌else◌}
+use Rattle.std.specs.Prelude.{◌≢◌, ℕ, ◌+◌, ◌*◌, List, [], ◌∷◌, Option, Result, IsNone, SomeIff}
+use Rattle.std.specs.Prelude.{◌==◌, Bool, true, false, Ok, Err, if◌then◌else◌}
 use Rattle.std.specs.Net.Addr.{ipv4_bits}
 use Rattle.std.specs.Net.Socket.{v4_ip, v4_port}
 use Rattle.std.specs.IoError.{error_kind}
@@ -57,12 +57,3 @@ abbrev pub MayRetry : Went → Type 0
 MayRetry went.Interrupted = Unit
 MayRetry went.NoRoom = Unit
 MayRetry _ = ⊥
-
--- a datagram of so many bytes may be sent again where the socket answered so
-abbrev pub SendsAgain : ℕ → Result ℕ Error → Type 0
-SendsAgain length answer = MayRetry (went_by answer length)
-
--- it went out whole by this answer, or was lost
-abbrev pub EndsAs : ℕ → (is_whole : Bool) → Result ℕ Error → Type 0
-EndsAs length true answer = went_by answer length ≡ went.Whole
-EndsAs length false answer = went_by answer length ≡ went.Lost

@@ -6,6 +6,7 @@
 mod connection;
 mod doors;
 mod hosts;
+mod socket;
 mod udp;
 mod waits;
 

@@ -6,6 +6,7 @@ ghost use Rattle.std.specs.declared.io.ErrorKind.TheVariants.{Interrupted};
 ghost use Rattle.swim_shell.specs.Inbounds.{came_of};
 ghost use Rattle.swim_net.specs.Datagrams.{IsEndpointAt, brings_nothing, came_in, went_by};
 
+use crate::socket::{ReceivingSocket, SendingSocket};
 use crate::waits::{SocketAlarm, Waits, pause};
 use arrayvec::ArrayVec;
 use mio::Interest;
@@ -44,11 +45,9 @@ pub fn endpoint_of(from: SocketAddr) -> Option<Endpoint>
 /// takes is not known here.
 #[derive(Drop)]
 pub struct UdpLink<'a, C: Clock> {
-    socket: UdpSocket,
+    socket: SendingSocket,
     clock: &'a C,
     failures: Trace<()>,
-    /// What the socket answered, which only proofs read.
-    answers: Trace<io::Result<usize>>,
 }
 
 /// What became of a datagram that a socket was to send.
@@ -82,27 +81,25 @@ fn went_by(answer: &io::Result<usize>, length: usize) -> Went
 impl<'a, C: Clock> UdpLink<'a, C> {
     ghost use Rattle.std.specs.Prelude.{◌≡◌, false, length};
     ghost use Rattle.swim_shell.specs.Tries.{Tried};
-    ghost use Rattle.swim_net.specs.Datagrams.{EndsAs, SendsAgain};
+    ghost use Rattle.swim_net.specs.Udp.{EndsAs, SendsAgain, sends_of};
 
     /// A link over a bound socket that never waits.
     fn new(socket: UdpSocket, clock: &'a C) -> UdpLink<'a, C> {
         UdpLink {
-            socket,
+            socket: SendingSocket::new(socket),
             clock,
             failures: Trace::new(),
-            answers: Trace::new(),
         }
     }
 
     /// Sends one datagram, and says whether it went out whole. A send that may be tried again is, some times.
     fn send_whole(&mut self, to: Endpoint, bytes: &[u8]) -> bool
-        ensures tried { Tried (SendsAgain (length bytes.now)) (EndsAs (length bytes.now) result)
-            SENDS_MAX (result ≡ false) self.old.answers self.new.answers }
+        ensures tried { Tried (SendsAgain to bytes.now) (EndsAs to bytes.now result)
+            SENDS_MAX (result ≡ false) (sends_of self.old) (sends_of self.new) }
         ensures failures { self.new.failures ≡ self.old.failures }
     {
         for _ in 0..SENDS_MAX {
-            let answer = self.socket.send_to(bytes, address_of(to));
-            self.answers = self.answers.and(&answer);
+            let answer = self.socket.send(bytes, address_of(to));
             match went_by(&answer, bytes.len()) {
                 Went::Whole => return true,
                 Went::Lost => return false,
@@ -146,7 +143,7 @@ struct Answer {
 /// it answered.
 #[derive(Drop)]
 pub struct UdpInbound<'a, C: Clock> {
-    socket: mio::net::UdpSocket,
+    socket: ReceivingSocket,
     waits: Waits,
     clock: &'a C,
     wait: Duration,
@@ -201,6 +198,8 @@ pub fn take(
 }
 
 impl<'a, C: Clock> UdpInbound<'a, C> {
+    ghost use Rattle.swim_net.specs.Udp.{BringsOne, FindsNone, IsBrought, receives_of};
+
     /// Takes an answer of the system.
     #[tactic(auto, using(crate::proofs::Answering::answers_more))]
     fn answer(
@@ -209,9 +208,12 @@ impl<'a, C: Clock> UdpInbound<'a, C> {
         bytes: &[u8],
         into: &mut ArrayVec<u8, RECEIVED_MAX>,
     ) -> Result<Option<Endpoint>, ReceiveFault>
-        requires { IfOk received (λ r. r.0 ≤ length bytes.now) }
-        ensures { came_in self.new.answers ≡ came_in self.old.answers
+        requires count { IfOk received (λ r. r.0 ≤ length bytes.now) }
+        requires few { length bytes.now ≤ RECEIVED_MAX }
+        ensures told { came_in self.new.answers ≡ came_in self.old.answers
             ++ came_of result into.new.items ∷ [] }
+        ensures brought { IsBrought (bytes.now, received) (came_of result into.new.items) }
+        ensures socket { receives_of self.new ≡ receives_of self.old }
     {
         let taken = take(received, bytes, into);
         self.answers = self.answers.and(&Answer {
@@ -229,9 +231,12 @@ impl<'a, C: Clock> UdpInbound<'a, C> {
         ensures some { IfSome result (λ answer. came_in self.new.answers
             ≡ came_in self.old.answers ++ came_of answer into.new.items ∷ []) }
         ensures none { IfNone result (came_in self.new.answers ≡ came_in self.old.answers) }
+        ensures brought { IfSome result (λ answer. BringsOne (receives_of self.old)
+            (receives_of self.new) (came_of answer into.new.items)) }
+        ensures waits { IfNone result (FindsNone (receives_of self.old) (receives_of self.new)) }
     {
         let mut bytes = [0u8; RECEIVED_MAX];
-        match self.socket.recv_from(&mut bytes) {
+        match self.socket.receive(&mut bytes) {
             Err(error) if error.kind() == ErrorKind::WouldBlock => None,
             received => Some(self.answer(received, &bytes, into)),
         }
@@ -242,12 +247,14 @@ impl<'a, C: Clock> UdpInbound<'a, C> {
         &mut self,
         into: &mut ArrayVec<u8, RECEIVED_MAX>,
     ) -> Result<Option<Endpoint>, ReceiveFault>
-        ensures { came_in self.new.answers ≡ came_in self.old.answers
+        ensures told { came_in self.new.answers ≡ came_in self.old.answers
             ++ came_of result into.new.items ∷ [] }
+        ensures brought { BringsOne (receives_of self.old) (receives_of self.new)
+            (came_of result into.new.items) }
     {
         self.waits.wait(self.clock, self.wait);
         let mut bytes = [0u8; RECEIVED_MAX];
-        let received = self.socket.recv_from(&mut bytes);
+        let received = self.socket.receive(&mut bytes);
         self.answer(received, &bytes, into)
     }
 }
@@ -258,7 +265,8 @@ impl<'a, C: Clock> Alarmed for UdpInbound<'a, C> {
 
 impl<'a, C: Clock> Inbound for UdpInbound<'a, C> {
     ghost use Rattle.std.specs.Prelude.{⊤};
-    ghost use Rattle.swim_shell.specs.Inbounds.{failures_in};
+    ghost use Rattle.swim_shell.specs.Inbounds.{failures_in, Took};
+    ghost use Rattle.swim_net.specs.Udp.{BringsLast, receives_of};
     ghost use Rattle.swim_net.specs.Datagrams.{came_in};
 
     ghost tells = { ⊤ };
@@ -267,11 +275,19 @@ impl<'a, C: Clock> Inbound for UdpInbound<'a, C> {
 
     ghost failures = { λ i. failures_in (came_in i.answers) };
 
-    #[tactic(auto, using(crate::proofs::Answering::took_one))]
+    #[tactic(auto, using(crate::proofs::Answering::took_one, crate::proofs::Answering::brings_first))]
     fn receive(
         &mut self,
         into: &mut ArrayVec<u8, RECEIVED_MAX>,
-    ) -> Result<Option<Endpoint>, ReceiveFault> {
+    ) -> Result<Option<Endpoint>, ReceiveFault>
+        ensures took { Took ⊤ (came_in self.old.answers) (came_in self.new.answers)
+            (failures_in (came_in self.old.answers)) (failures_in (came_in self.new.answers))
+            (came_of result into.new.items ∷ []) }
+
+        // What it gives is what the socket answered last. A receive before it, which is not waited for, found nothing.
+        ensures brought { BringsLast (receives_of self.old) (receives_of self.new)
+            (came_of result into.new.items) }
+    {
         match self.receive_now(into) {
             Some(received) => received,
             None => self.receive_at_last(into),
@@ -296,7 +312,7 @@ pub fn bind_datagrams<'a, R: Net, C: Clock, A: ToSocketAddrs>(
     let (waits, alarm) = Waits::new(net, alloc)?;
     waits.watch(&mut socket, Interest::READABLE)?;
     let inbound = UdpInbound {
-        socket,
+        socket: ReceivingSocket::new(socket),
         waits,
         clock,
         wait,
