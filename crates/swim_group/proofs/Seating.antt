@@ -10,6 +10,7 @@ use Rattle.swim_node.specs.declared.entry.Reply.{Reply}
 use Rattle.swim_node.specs.History.{fresh_base}
 use Rattle.swim_node.specs.Lives.{Life, IsLived, IsLiving, MayEnd, life_of}
 use Rattle.swim_node.specs.Node.{NodeView, owner_of}
+use Rattle.swim_disk.specs.declared.mem.Choice.{Choice}
 use Rattle.swim_group.specs.declared.failure.Failure.{Failure}
 use Rattle.swim_group.specs.declared.seat.Seat.{Seat}
 use Rattle.swim_group.specs.Network.{WasSent, IsNotInvented}
@@ -142,7 +143,7 @@ heard-on seats kept room which seat next event reply there hears comes h =
     h
 
 -- after a crash and an opening
-pub opened-on : (seats : List Seat) (kept : List Out) (limit which : ℕ) (seat next : Seat) → slice_get seats which ≡ Some seat → OpensThere seat next limit → HasNodeRun seats kept → HasNodeRun (slice_set seats which next) kept
+pub opened-on : {choice : Choice} (seats : List Seat) (kept : List Out) (limit which : ℕ) (seat next : Seat) → slice_get seats which ≡ Some seat → OpensThere seat next limit choice → HasNodeRun seats kept → HasNodeRun (slice_set seats which next) kept
 opened-on seats kept limit which seat next there opens h =
     went-on seats kept kept which seat next opens.before opens.after (λ sent. owner_of seat.settings ≡ opens.before.owner) (λ k. Opens k seat.settings limit opens.after.first opens.opened opens.after.disk) there opens.was (ap (λ (s : Seat). s.settings) opens.is) (ap (λ (s : Seat). s.node) opens.is) opens.moves refl
     (λ life sits. refl) (λ life sent sits alive a. sits.owner ∙ sym alive.living.same_owner)
@@ -228,8 +229,8 @@ pub heard-run : (seats : List Seat) (kept after : List Out) (room which : ℕ) (
 heard-run seats kept after room which old new event reply l at hears keeps comes h =
     subst (HasNodeRun (slice_set seats which new)) (sym keeps) (heard-on seats kept room which old new event reply (get-at seats which old l at) hears comes h)
 
-pub opened-at : (seats : List Seat) (kept : List Out) (room limit which : ℕ) (old new : Seat) → which < length seats → old ≡ slice_index_or seats which old → OpensThere old new limit
-    → OpensAt (real seats kept room limit) (real (slice_set seats which new) kept room limit) which
+pub opened-at : {choice : Choice} (seats : List Seat) (kept : List Out) (room limit which : ℕ) (old new : Seat) → which < length seats → old ≡ slice_index_or seats which old → OpensThere old new limit choice
+    → OpensAt (real seats kept room limit) (real (slice_set seats which new) kept room limit) which choice
 opened-at seats kept room limit which old new l at opens = record { seat = old; next = new; found = get-at seats which old l at; opens = opens; is = refl }
 
 pub ended-at : (seats : List Seat) (kept : List Out) (room limit which : ℕ) (old new : Seat) → which < length seats → old ≡ slice_index_or seats which old → EraEndsThere old new

@@ -3,10 +3,12 @@
 use Rattle.std.specs.Prelude.{◌≡◌, ℕ, List, [], ◌∷◌, ◌++◌, take, slice_get, slice_set}
 use Rattle.std.specs.Prelude.{Option, Some, None}
 use Rattle.std.specs.List.{AllByRecursion, swap_remove}
+use Rattle.swim_disk.specs.Choice.{left_by}
 use Rattle.swim_disk.specs.Disk.{DiskState}
 use Rattle.swim_disk.specs.MemDisk as memory
 use Rattle.swim_disk.specs.Fault as fault
 use Rattle.swim_disk.specs.declared.fault.FaultDisk.{FaultDisk}
+use Rattle.swim_disk.specs.declared.mem.Choice.{Choice}
 use Rattle.swim_disk.specs.declared.mem.MemDisk.{MemDisk}
 use Rattle.swim_wire.specs.Spelling.{HasText}
 use Rattle.swim_member.specs.declared.answer.Out.{Out}
@@ -127,9 +129,14 @@ pub record DeliversAt (old new : RealNodes) (which datagram : ℕ) (reply : Repl
   pub arrives : Arrives out event
   pub heard : HearsAt old new which event reply
 
--- the node that sits there crashed, and was opened anew on what was left of its disk, of
--- which nothing is planned. In each group in which it lived that is its next move
-pub record OpensThere (old new : Seat) (limit : ℕ) : Type 0 where
+-- the content of the one disk is what a crash of the other one leaves by this choice
+abbrev pub IsLeftBy : Choice → NodeDisk → NodeDisk → Type 0
+IsLeftBy choice before opened =
+    (node_disk_state opened).content ≡ left_by choice (memory.disk_of (fault.inner_of before))
+
+-- the node that sits there crashed, and was opened anew on what this choice leaves of its disk.
+-- In each group in which it lived that is its next move
+pub record OpensThere (old new : Seat) (limit : ℕ) (choice : Choice) : Type 0 where
   pub before : NodeView NodeDisk
   pub after : NodeView NodeDisk
   pub opened : NodeDisk
@@ -137,15 +144,16 @@ pub record OpensThere (old new : Seat) (limit : ℕ) : Type 0 where
   pub is : new ≡ record (seat_with old after) { planned = None }
   pub base : after.base ≡ fresh_base old.settings after.first limit
   pub entries : after.entries ≡ []
+  pub left : IsLeftBy choice before.disk opened
   pub moves : IsMoveOf node_disk_state before after (λ sent. owner_of old.settings ≡ before.owner)
       (λ which. Opens which old.settings limit after.first opened after.disk)
 
 -- this happened in this place, and nothing else changed
-pub record OpensAt (old new : RealNodes) (which : ℕ) : Type 0 where
+pub record OpensAt (old new : RealNodes) (which : ℕ) (choice : Choice) : Type 0 where
   pub seat : Seat
   pub next : Seat
   pub found : slice_get old.seats which ≡ Some seat
-  pub opens : OpensThere seat next old.limit
+  pub opens : OpensThere seat next old.limit choice
   pub is : new ≡ record old { seats = slice_set old.seats which next }
 
 -- who sat there is gone, and nothing else changed

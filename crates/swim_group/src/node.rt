@@ -11,7 +11,7 @@ ghost use Rattle.swim_node.specs.Sending.{HasTexts};
 ghost use Rattle.swim_group.specs.Network.{IsNotInvented};
 ghost use Rattle.swim_group.specs.Refusing.{IsNoLimit, IsUnopened};
 ghost use Rattle.swim_group.specs.Nodes.{IsMoveOf, IsOpeningOf, Calls, Rebases, Raises, Opens};
-ghost use Rattle.swim_group.specs.RealNodes.{NodeDisk as Disks, node_disk_state};
+ghost use Rattle.swim_group.specs.RealNodes.{NodeDisk as Disks, IsLeftBy, node_disk_state};
 
 use crate::seat::NodeDisk;
 use std::alloc::Global;
@@ -125,6 +125,7 @@ pub fn crash(
     ensures fresh { IfOk result (λ new. (new.base ≡ fresh_base settings new.first limit)
         × (new.entries ≡ [])) }
     ensures moved { IfOk result (λ new. (opened : Disks)
+        × IsLeftBy choice node.disk opened
         × IsMoveOf node_disk_state node new
         (λ sent. owner_of settings ≡ node.owner)
         (λ which. Opens which settings limit new.first opened new.disk)) }

@@ -161,7 +161,7 @@ impl Nodes {
     /// A node crashes with its disk, of which the crash leaves what is chosen, and is opened anew on that. Nothing is planned
     /// of the disk any more. If the node is not opened, it is gone.
     pub fn crash(&mut self, node: usize, choice: Choice) -> Result<(), NodesFault>
-        ensures ok { OnOk result (OpensAt self.old self.new node) }
+        ensures ok { OnOk result (OpensAt self.old self.new node choice) }
         // no such node, one that was gone before, or one that is gone now: for an era that has no such limit, for a floor
         // above which there is no number, or for want of memory
         ensures refused { IfErr result (λ fault. IsNoOpening self.old self.new node fault) }

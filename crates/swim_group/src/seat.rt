@@ -104,7 +104,7 @@ pub(crate) fn open_there(
     requires owner { (node : NodeView Disks)
         → seat.old.node ≡ Some node
         → owner_of seat.old.settings ≡ node.owner }
-    ensures ok { OnOk result (OpensThere seat.old seat.new limit) }
+    ensures ok { OnOk result (OpensThere seat.old seat.new limit choice) }
     ensures refused { IfErr result (λ fault. IsShut seat.old limit fault) }
     ensures err { OnErr result (seat.new ≡ record seat.old { node = None }) }
 {

@@ -5,7 +5,10 @@ ghost use Rattle.std.specs.Prelude.{◌<◌};
 use crate::same::{given, same_at};
 use arrayvec::ArrayVec;
 use std::process::Abort;
-use swim_detect::{failed_are_found, fair_stays_fair, silent_are_found, suspicions_have_causes};
+use swim_detect::{
+    DetectionBound, failed_are_found, fair_stays_fair, mean_first_suspicion, silent_are_found,
+    suspicions_have_causes,
+};
 use swim_detect_group::{
     nodes_find_the_silent, nodes_have_causes, only_the_gone_are_suspected, stopped_are_found,
     suspected_were_accused,
@@ -129,9 +132,28 @@ fn who_falls_silent_is_found_in_time_and_no_sooner(rt: HostRuntime) {
     // how many others there are; what is left of the period, the periods and the suspicion, in ticks
     let rows = [(1, 4 + 4 + 8), (2, 4 + 3 * 4 + 8), (3, 4 + 5 * 4 + 8)];
     for (known, ticks) in rows {
+        let bound = DetectionBound::of(4, 8, known as usize % 100);
+        same_at(&rt, &known, bound.confirmed, u64::from(ticks));
         let before = confirmed_after(&rt, known % 100, ticks - 1);
         same_at(&rt, &(known, ticks - 1), before, 0);
         let then = confirmed_after(&rt, known % 100, ticks);
         same_at(&rt, &(known, ticks), then, 1);
+    }
+}
+
+#[test]
+fn the_mean_is_that_of_random_targets(rt: HostRuntime) {
+    // 1000 / (1 - (1 - 1/m)^m), by bc; of nobody it is that of one
+    let rows = [
+        (0, 1000),
+        (1, 1000),
+        (2, 1333),
+        (3, 1421),
+        (9, 1530),
+        (49, 1572),
+        (256, 1580),
+    ];
+    for (others, mean) in rows {
+        same_at(&rt, &others, mean_first_suspicion(1000, others), mean);
     }
 }

@@ -255,34 +255,52 @@ fn tick(group: &mut Nodes) -> Result<bool, NodesFault> {
     Ok(sent > 0)
 }
 
-#[test]
-fn a_planned_sync_fails_once(rt: HostRuntime) {
+/// How many saves of a node fail, until one is done, where these failures were planned one after another.
+fn saves_until_done(rt: &impl Abort, alloc: Global, planned: &[Failure]) -> u32 {
     let both = [settings(1), settings(2)];
-    let mut group = Nodes::new(rt.alloc(), &both, 1000, 8)
-        .ok()
-        .expect(&rt, "memory");
-    let sync = Failure::Sync(1);
-    same(&rt, group.plan_failure(2, sync), Err(NodesFault::NoNode));
-    holds(
-        &rt,
-        group.step(1, Event::Join { peer: endpoint(1) }).is_ok(),
-    );
-    holds(&rt, group.deliver(0, 0).is_ok());
-    same(&rt, group.plan_failure(1, sync), Ok(()));
+    let mut group = Nodes::new(alloc, &both, 1000, 8).ok().expect(rt, "memory");
+    holds(rt, group.step(1, Event::Join { peer: endpoint(1) }).is_ok());
+    holds(rt, group.deliver(0, 0).is_ok());
+    for failure in planned {
+        same(rt, group.plan_failure(1, *failure), Ok(()));
+    }
     // who is suspected wants to save a greater number, again and again until it has
-    let (mut failed, mut done) = (0_u32, 0_u32);
+    let mut failed = 0_u32;
     for _ in 0..40 {
-        let has_sent = tick(&mut group).ok().expect(&rt, "a tick");
+        let has_sent = tick(&mut group).ok().expect(rt, "a tick");
         match last_save(&group, 1) {
             Some(Save::Failed) if has_sent => failed = failed.saturating_add(1),
-            Some(Save::Done) if has_sent => done = done.saturating_add(1),
+            Some(Save::Done) if has_sent => return failed,
             _ => {}
         }
-        if done > 0 {
-            break;
-        }
     }
-    same(&rt, (failed, done), (1, 1));
+    u32::MAX
+}
+
+#[test]
+fn the_last_plan_counts_and_fails_once(rt: HostRuntime) {
+    let [sync, write, late] = [Failure::Sync(1), Failure::Write(1), Failure::Sync(100)];
+    for (planned, failed) in [
+        ([late, sync], 1_u32),
+        ([late, write], 1),
+        ([write, sync], 1),
+        ([sync, write], 1),
+        ([write, late], 0),
+    ] {
+        same(&rt, saves_until_done(&rt, rt.alloc(), &planned), failed);
+    }
+}
+
+#[test]
+fn who_is_not_there_has_no_plan(rt: HostRuntime) {
+    let mut group = Nodes::new(rt.alloc(), &[settings(1)], 8, 8)
+        .ok()
+        .expect(&rt, "memory");
+    same(
+        &rt,
+        group.plan_failure(1, Failure::Sync(1)),
+        Err(NodesFault::NoNode),
+    );
 }
 
 #[test]

@@ -1,12 +1,14 @@
-use Rattle.std.proofs.Common.{subst, sym}
+use Rattle.std.proofs.Common.{subst, sym, ap, ◌∙◌}
 use Rattle.std.proofs.lemmas.Result.{IfOk-weaker, IfErr-weaker}
+use Rattle.swim_disk.specs.Choice.{left_by}
 use Rattle.swim_disk.specs.Disk.{IsSettled}
+use Rattle.swim_disk.specs.Fault.{inner_of}
 use Rattle.swim_disk.specs.MemDisk as memory
 use Rattle.swim_disk.specs.declared.mem.MemDisk.{MemDisk}
 use Rattle.swim_state.specs.declared.owner.Owner.{Owner}
 use Rattle.swim_state.specs.Held.{Held}
 use Rattle.swim_node.specs.History.{granted_of}
-use Rattle.swim_group.specs.RealNodes.{NodeDisk, node_disk_state}
+use Rattle.swim_group.specs.RealNodes.{IsLeftBy, NodeDisk, node_disk_state}
 use Rattle.swim_group.proofs.Calling.{crashed-moves}
 use Rattle.swim_group.proofs.Refusing.{held-left}
 use Rattle.swim_group.proofs.node.crash.Goals as goal
@@ -24,11 +26,20 @@ module _ (c : goal.After-open_again) where
   settled : IsSettled (node_disk_state c.replace.new.self)
   settled = subst (λ (m : MemDisk). IsSettled (memory.state_of m)) (sym c.replace.ensures.new) c.crash.ensures.settled
 
+  -- and the one that was chosen
+  chosen : IsLeftBy c.args.choice c.args.node.disk c.replace.new.self
+  chosen =
+      ap (λ (m : MemDisk). (memory.state_of m).content) c.replace.ensures.new
+      ∙ c.crash.ensures.chosen
+      ∙ ap (λ (m : MemDisk). left_by c.args.choice (memory.disk_of m)) c.replace-before.ensures.old
+      ∙ ap (λ (d : NodeDisk). left_by c.args.choice (memory.disk_of (inner_of d))) c.into_disk-disk.ensures.disk
+
 pub returns-clause-moved : goal.returns-clause-moved
 returns-clause-moved c =
     IfOk-weaker c.open_again.result _ _
     (λ new opening. (
       c.replace.new.self,
+      chosen c,
       crashed-moves node_disk_state c.args.settings c.args.limit c.args.node new c.replace.new.self (of_node c) (settled c) opening,
     )) (c.open_again.ensures.moved (tt {0}))
 

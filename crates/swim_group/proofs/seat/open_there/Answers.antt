@@ -12,7 +12,8 @@ returns-in-Ok-clause-ok c = record {
   is = refl;
   base = c.in-Ok.ensures.fresh.0;
   entries = c.in-Ok.ensures.fresh.1;
-  moves = c.in-Ok.ensures.moved.1;
+  left = c.in-Ok.ensures.moved.1;
+  moves = c.in-Ok.ensures.moved.2;
 }
 
 pub returns-clause-refused : goal.returns-clause-refused
