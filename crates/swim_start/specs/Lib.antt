@@ -1,2 +1,3 @@
+pub mod OwnFile
 pub mod Starting
 pub mod WatchedDisk

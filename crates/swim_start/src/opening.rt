@@ -1,6 +1,6 @@
 //! The opening of a member on its state file.
 
-ghost use Rattle.std.specs.Prelude.{◌≡◌, ◌≢◌, ◌↔◌, ◌⊎◌, ◌<◌, [], None, Some, IfErr, IfOk};
+ghost use Rattle.std.specs.Prelude.{◌≡◌, ◌≢◌, ◌↔◌, ◌⊎◌, ◌<◌, ℕ, [], None, Some, IfErr, IfOk};
 ghost use Rattle.swim_disk.specs.Disk.{IsSettled};
 ghost use Rattle.swim_disk.specs.File.{FileView, file_state};
 ghost use Rattle.swim_start.specs.WatchedDisk.{disk_below, watched_state};
@@ -9,6 +9,7 @@ ghost use Rattle.swim_member.specs.Checks.{AreSound};
 ghost use Rattle.swim_node.specs.Lives.{BeginsAbove, IsLiving, life_of};
 ghost use Rattle.swim_node.specs.Node.{owner_of};
 ghost use Rattle.swim_node.specs.declared.opening.TheConstants.{LIMIT_MAX};
+ghost use Rattle.swim_state.specs.Held.{Covers, Held, Through};
 ghost use Rattle.swim_state.specs.Recovery.{fault_of};
 ghost use Rattle.swim_state.specs.declared.fault.RecoverFault.{RecoverFault as Faults};
 ghost use Rattle.swim_state.specs.declared.fault.RecoverFault.TheVariants.{Device};
@@ -22,6 +23,9 @@ use swim_node::{Node, OpenFault};
 /// A member on a state file that this watches.
 pub type FileNode<W> = Node<WatchedDisk<FileDisk, W>>;
 
+/// What is left of a start that was refused: the disk, and why.
+type Unopened<W> = (WatchedDisk<FileDisk, W>, OpenFault);
+
 /// Opens the member on its state file, which was just loaded. It is written only while the watch says that it may be.
 pub fn open<W: Watch + Drop>(
     alloc: Global,
@@ -29,18 +33,18 @@ pub fn open<W: Watch + Drop>(
     watch: W,
     settings: Settings,
     limit: u32,
-) -> Result<FileNode<W>, OpenFault>
+) -> Result<FileNode<W>, Unopened<W>>
     requires settled { IsSettled (file_state disk) }
     requires sound { AreSound settings }
     ensures entries { IfOk result (λ node. node.entries ≡ []) }
 
     // The limit is refused if and only if it is out of its range. A fault that is no failed call is the first that the file shows,
     // and what shows one is not opened.
-    ensures limit { IfErr result (λ fault.
-        fault ≡ OpenFault.Limit ↔ ((limit ≡ 0) ⊎ (LIMIT_MAX < limit))) }
+    ensures limit { IfErr result (λ refused.
+        refused.1 ≡ OpenFault.Limit ↔ ((limit ≡ 0) ⊎ (LIMIT_MAX < limit))) }
     ensures fault { IfErr result (λ refused. (fault : Faults)
         → fault ≢ Device
-        → refused ≡ OpenFault.Refused fault
+        → refused.1 ≡ OpenFault.Refused fault
         → fault_of (owner_of settings) (file_state disk).content ≡ Some fault) }
     ensures none { IfOk result
         (λ _. fault_of (owner_of settings) (file_state disk).content ≡ None) }
@@ -52,9 +56,13 @@ pub fn open<W: Watch + Drop>(
         × BeginsAbove (watched_state file_state) node.owner opened node.first
         × IsLiving (watched_state file_state) node.owner
         (life_of settings limit opened [] node)) }
+
+    // A start that was refused, at whichever call of the disk, leaves what the lives before it held.
+    ensures refused { IfErr result (λ refused. (opened : WatchedDisk FileView W)
+        × (disk_below opened ≡ disk)
+        × ((b : ℕ) → Held (owner_of settings) (watched_state file_state opened) b
+        → Through (Covers (owner_of settings) b) (watched_state file_state opened)
+        (watched_state file_state refused.0))) }
 {
-    match Node::open(alloc, WatchedDisk::new(disk, watch), settings, limit) {
-        Ok(node) => Ok(node),
-        Err((_, fault)) => Err(fault),
-    }
+    Node::open(alloc, WatchedDisk::new(disk, watch), settings, limit)
 }

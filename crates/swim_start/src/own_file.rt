@@ -1,6 +1,7 @@
 //! Whether a path still names the file that was opened there.
 
 ghost use Rattle.std.specs.Prelude.{◌≡◌};
+ghost use Rattle.swim_start.specs.OwnFile.{is_missing, is_same_file};
 
 use crate::watched_disk::Watch;
 use std::alloc::{AllocError, Global};
@@ -12,24 +13,53 @@ use std::sync::Arc;
 use std::sync::atomic::{AtomicBool, AtomicU64, Ordering};
 use swim_trace::Trace;
 
+/// What the system says of a file: which one it is, and how many bytes it has.
+#[derive(Clone, Copy, Drop)]
+struct Found {
+    device: u64,
+    inode: u64,
+    length: u64,
+}
+
+impl Found {
+    fn of(metadata: &Metadata) -> Found {
+        Found {
+            device: metadata.dev(),
+            inode: metadata.ino(),
+            length: metadata.len(),
+        }
+    }
+}
+
+/// Whether what was found is the file that was opened, and no shorter than it once was.
+fn is_same_file(opened: &Found, longest: u64, found: &Found) -> bool
+    ensures { result ≡ is_same_file opened.now longest found.now }
+{
+    found.device == opened.device && found.inode == opened.inode && longest <= found.length
+}
+
+/// Whether an error says that a path names no file.
+fn is_missing(kind: ErrorKind) -> bool
+    ensures { result ≡ is_missing kind }
+{
+    matches!(kind, ErrorKind::NotFound | ErrorKind::NotADirectory)
+}
+
 /// What all know who watch the same file.
 #[derive(Drop)]
 struct Known {
     path: String,
-    device: u64,
-    inode: u64,
+    opened: Found,
     /// The greatest length that it was seen to have, in bytes.
-    length: AtomicU64,
+    longest: AtomicU64,
     is_lost: AtomicBool,
 }
 
 impl Known {
     /// Whether this is the file, and no shorter than it was.
-    fn is_of(&self, found: &Metadata) -> bool {
-        if found.dev() != self.device || found.ino() != self.inode {
-            return false;
-        }
-        found.len() >= self.length.fetch_max(found.len(), Ordering::SeqCst)
+    fn is_of(&self, found: &Found) -> bool {
+        let longest = self.longest.fetch_max(found.length, Ordering::SeqCst);
+        is_same_file(&self.opened, longest, found)
     }
 }
 
@@ -45,12 +75,11 @@ pub struct OwnFile<R> {
 impl<R: Files<File = File> + Copy> OwnFile<R> {
     /// This open file at this path. An error is the system's, or there was no memory.
     pub fn new(files: R, alloc: Global, path: &str, file: &File) -> io::Result<OwnFile<R>> {
-        let found = file.metadata()?;
+        let opened = Found::of(&file.metadata()?);
         let known = Known {
             path: String::from_str(alloc, path)?,
-            device: found.dev(),
-            inode: found.ino(),
-            length: AtomicU64::new(found.len()),
+            opened,
+            longest: AtomicU64::new(opened.length),
             is_lost: AtomicBool::new(false),
         };
         Ok(OwnFile {
@@ -77,8 +106,8 @@ impl<R: Files<File = File> + Copy> OwnFile<R> {
     /// Whether the path names the file now. What the system cannot tell is no loss.
     fn is_there(&self) -> bool {
         match fs::metadata(&self.files, self.path()) {
-            Ok(found) => self.known.is_of(&found),
-            Err(error) => !matches!(error.kind(), ErrorKind::NotFound | ErrorKind::NotADirectory),
+            Ok(found) => self.known.is_of(&Found::of(&found)),
+            Err(error) => !is_missing(error.kind()),
         }
     }
 
