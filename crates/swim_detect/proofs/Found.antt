@@ -19,7 +19,7 @@ use Rattle.swim_member.proofs.Actions.{after-news}
 use Rattle.swim_member.proofs.Logs.{state-append, news-news_from}
 use Rattle.swim_member.proofs.FewRows.{order-read, few-from}
 use Rattle.swim_member.specs.Machinery.Kept.{is_row}
-use Rattle.swim_detect.specs.Finding.{is_eligible_row, IsConfirmed, ticks_alive, ticks_by_kind, ticks_with, ticks_left, NeverSpares, happened_in, StaysEligible, GoesUnspared, IsShort, IsEligibleBriefly, IsFoundInTime}
+use Rattle.swim_detect.specs.Finding.{is_alive, is_eligible_row, IsConfirmed, ticks_alive, ticks_by_kind, ticks_to_suspect, ticks_with, ticks_left, NeverSpares, happened_in, StaysEligible, GoesUnspared, IsShort, IsAliveBriefly, IsEligibleBriefly, IsFoundInTime}
 use Rattle.swim_detect.proofs.Views.{eligible-row}
 use Rattle.swim_detect.proofs.Outside.{Kinds, Counts, Outer, kind-of, Unspared, unspared-read, unspared-early, unspared-late, GivesNone, outside-all, long-enough}
 use Rattle.swim_detect.proofs.Ticks.{TickLess, tick-on, eligible-some}
@@ -137,34 +137,72 @@ first-now : (x : ℕ) (base : State) (log : List Change) (steps : List Step) →
 first-now x base log [] h = h
 first-now x base log (e ∷ steps) h = h.0
 
-brief-from : (most x : ℕ) (base : State) (log : List Change) (steps : List Step) → AreSound base.settings → length (state base log).rows ≤ 256 → GoesUnspared most x base log steps → StaysEligible x base log steps → (state base (log_after base log steps)).time < (state base log).time + ticks_left most x (state base log)
-brief-from most x base log [] sound few h now =
-    let l : 1 ≤ ticks_left most x (state base log) = some-left most x base log sound (sym (by_row x base log) ∙ now) in
-    plain (state base log).time (ticks_left most x (state base log)) l
+pub through-le : (a b c : ℕ) → a ≤ b → b ≤ c → a ≤ c
+through-le a b c f g = omega arith
+
+-- over the stretch it loses a tick by each tick
+less-from : (most x : ℕ) (base : State) (log : List Change) (steps : List Step) → AreSound base.settings → length (state base log).rows ≤ 256 → GoesUnspared most x base log steps → StaysEligible x base log steps → (state base (log_after base log steps)).time + ticks_left most x (state base (log_after base log steps)) ≤ (state base log).time + ticks_left most x (state base log)
+less-from most x base log [] sound few h now = same-le ((state base log).time + ticks_left most x (state base log))
   where
-    plain : (a b : ℕ) → 1 ≤ b → a < a + b
-    plain a b l = omega arith
-brief-from most x base log (e ∷ steps) sound few h now =
+    same-le : (a : ℕ) → a ≤ a
+    same-le a = omega arith
+less-from most x base log (e ∷ steps) sound few h now =
     let next : List Change = changes_of base log e.event e.granted ++ log in
     let one : StepLess most x (state base log) (state base next) = step-of most x base log e steps sound few now.0 h in
-    let later : (state base (log_after base next steps)).time < (state base next).time + ticks_left most x (state base next) = brief-from most x base next steps sound (few-step base log e few) (rest-of most x base log e steps h) now.1 in
+    let later : (state base (log_after base next steps)).time + ticks_left most x (state base (log_after base next steps)) ≤ (state base next).time + ticks_left most x (state base next) = less-from most x base next steps sound (few-step base log e few) (rest-of most x base log e steps h) now.1 in
     by_less one.less later
   where
-    plain : (a b c : ℕ) → a < b → b ≤ c → a < c
-    plain a b c h k = omega arith
-
     by_less : (is_eligible_row (row_of (state base (changes_of base log e.event e.granted ++ log)).rows x) ≡ false)
         ⊎ ((state base (changes_of base log e.event e.granted ++ log)).time + ticks_left most x (state base (changes_of base log e.event e.granted ++ log)) ≤ (state base log).time + ticks_left most x (state base log))
-        → (state base (log_after base (changes_of base log e.event e.granted ++ log) steps)).time < (state base (changes_of base log e.event e.granted ++ log)).time + ticks_left most x (state base (changes_of base log e.event e.granted ++ log))
-        → (state base (log_after base (changes_of base log e.event e.granted ++ log) steps)).time < (state base log).time + ticks_left most x (state base log)
+        → (state base (log_after base (changes_of base log e.event e.granted ++ log) steps)).time + ticks_left most x (state base (log_after base (changes_of base log e.event e.granted ++ log) steps)) ≤ (state base (changes_of base log e.event e.granted ++ log)).time + ticks_left most x (state base (changes_of base log e.event e.granted ++ log))
+        → (state base (log_after base (changes_of base log e.event e.granted ++ log) steps)).time + ticks_left most x (state base (log_after base (changes_of base log e.event e.granted ++ log) steps)) ≤ (state base log).time + ticks_left most x (state base log)
     by_less (inl f) later = absurd (false≢true (sym f ∙ sym (by_row x base (changes_of base log e.event e.granted ++ log)) ∙ first-now x base (changes_of base log e.event e.granted ++ log) steps now.1))
-    by_less (inr l) later =
-        plain (state base (log_after base (changes_of base log e.event e.granted ++ log) steps)).time ((state base (changes_of base log e.event e.granted ++ log)).time + ticks_left most x (state base (changes_of base log e.event e.granted ++ log))) ((state base log).time + ticks_left most x (state base log)) later l
+    by_less (inr l) later = through-le ((state base (log_after base (changes_of base log e.event e.granted ++ log) steps)).time + ticks_left most x (state base (log_after base (changes_of base log e.event e.granted ++ log) steps))) ((state base (changes_of base log e.event e.granted ++ log)).time + ticks_left most x (state base (changes_of base log e.event e.granted ++ log))) ((state base log).time + ticks_left most x (state base log)) later l
+
+last-now : (x : ℕ) (base : State) (log : List Change) (steps : List Step) → StaysEligible x base log steps → is_eligible_name (state base (log_after base log steps)) x ≡ true
+last-now x base log [] h = h
+last-now x base log (e ∷ steps) h = last-now x base (changes_of base log e.event e.granted ++ log) steps h.1
+
+brief-from : (most x : ℕ) (base : State) (log : List Change) (steps : List Step) → AreSound base.settings → length (state base log).rows ≤ 256 → GoesUnspared most x base log steps → StaysEligible x base log steps → (state base (log_after base log steps)).time < (state base log).time + ticks_left most x (state base log)
+brief-from most x base log steps sound few h now =
+    let end : List Change = log_after base log steps in
+    let l : 1 ≤ ticks_left most x (state base end) = some-left most x base end sound (sym (by_row x base end) ∙ last-now x base log steps now) in
+    plain (state base end).time (ticks_left most x (state base end)) ((state base log).time + ticks_left most x (state base log)) l (less-from most x base log steps sound few h now)
+  where
+    plain : (a b c : ℕ) → 1 ≤ b → a + b ≤ c → a < c
+    plain a b c l h = omega arith
 
 pub brief : (most x : ℕ) (base : State) (before stretch : List Step) → IsEligibleBriefly most x base before stretch
 brief most x base before stretch h k now =
     subst (λ l. (state base l).time < (state_of base before).time + ticks_left most x (state_of base before)) (sym (log-append base [] before stretch))
     (brief-from most x base (log_of base before) stretch h.sound h.few k now)
+
+-- an Alive row has all ticks left
+pub alive-left : (alive suspect now : ℕ) (o : Option Row) → is_alive o ≡ true → ticks_with alive suspect now o ≡ alive
+alive-left alive suspect now None h = absurd (false≢true h)
+alive-left alive suspect now (Some r) h = at r.update.kind h
+  where
+    at : (k : UpdateKind) → is_kind Alive k ≡ true → ticks_by_kind alive suspect now k r.since ≡ alive
+    at Alive h = refl
+    at Suspect h = absurd (false≢true h)
+    at Confirm h = absurd (false≢true h)
+
+-- at both ends Alive, it has lost no tick of its suspicion
+pub alive-brief : (most x : ℕ) (base : State) (before stretch : List Step) → IsAliveBriefly most x base before stretch
+alive-brief most x base before stretch h k now first last =
+    let log : List Change = log_of base before in
+    let end : List Change = log_after base log stretch in
+    let same : log_of base (before ++ stretch) ≡ end = log-append base [] before stretch in
+    let low : 1 ≤ base.settings.period = (let l : 2 ≤ base.settings.period = h.sound.period_low in omega arith) in
+    subst (λ l. (state base l).time < (state_of base before).time + ticks_to_suspect most x (state_of base before)) (sym same)
+    (plain (state base end).time (ticks_left most x (state base end)) (ticks_alive most x (state base end)) base.settings.suspect (state base log).time (ticks_left most x (state base log)) (ticks_to_suspect most x (state base log))
+    (alive-left (ticks_alive most x (state base end)) base.settings.suspect (state base end).time (row_of (state base end).rows x) (subst (λ l. is_alive (row_of (state base l).rows x) ≡ true) same last))
+    (alive-left (ticks_alive most x (state base log)) base.settings.suspect (state base log).time (row_of (state base log).rows x) first)
+    (long-enough most x (state base end) low)
+    (less-from most x base log stretch h.sound h.few k now))
+  where
+    plain : (a b f s c d e : ℕ) → b ≡ f → d ≡ e + s → s < f → a + b ≤ c + d → a < c + e
+    plain a b f s c d e i j k l = omega arith
 
 -- The first moment at which it is found
 
@@ -184,9 +222,6 @@ never a b c f g h = omega arith
 
 pub after_one : (a b c d : ℕ) → a ≤ b + 1 → 1 ≤ c → b + c ≤ d → a ≤ d
 after_one a b c d f g h = omega arith
-
-pub through-le : (a b c : ℕ) → a ≤ b → b ≤ c → a ≤ c
-through-le a b c f g = omega arith
 
 -- it is found already
 pub found-now : (x until left : ℕ) (base : State) (log : List Change) (steps : List Step) → (state base log).time + left ≤ until → is_eligible_name (state base log) x ≡ false → FoundFrom x until base log steps

@@ -133,7 +133,7 @@ found-in_end most x base before stretch sound unspared n high =
 
 -- At most
 
-looks-most : (most x : ℕ) (l : List ℕ) → looks_to most x l ≤ length l + most
+pub looks-most : (most x : ℕ) (l : List ℕ) → looks_to most x l ≤ length l + most
 looks-most most x [] = omega arith
 looks-most most x (y ∷ l) = at (y == x) (looks-most most x l)
   where

@@ -6,6 +6,7 @@ mod datagrams;
 mod fact;
 mod heading;
 mod json;
+mod laws;
 mod lines;
 mod printing;
 mod sends;
@@ -15,5 +16,6 @@ mod view;
 
 pub use asking::{ExplainFault, explain_file, in_order};
 pub use fact::{Fact, Happening, Purpose};
+pub use laws::stories_name_causes;
 pub use printing::print_story;
 pub use telling::story;

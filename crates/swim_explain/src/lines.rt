@@ -138,13 +138,13 @@ impl fmt::Display for Changed {
             Fact::Suspected { number, seq } => {
                 write!(
                     f,
-                    "suspect, number {number}, by the probe that nobody answered, sequence {seq}"
+                    "suspect, number {number}, accused: nobody answered the probe, sequence {seq}"
                 )
             }
             Fact::Confirmed { number, since } => {
                 write!(
                     f,
-                    "confirm, number {number}: nothing refuted the suspicion of tick {since}"
+                    "confirm, number {number}, expired: nothing refuted the suspicion of tick {since}"
                 )
             }
             Fact::Forgotten { since } => write!(f, "forgotten: it was confirm since tick {since}"),

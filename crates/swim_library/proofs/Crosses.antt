@@ -2,11 +2,12 @@
 use denote.Param.Send.{IsSend, sendable, view_send, recorded_send, struct_send}
 use denote.Struct.Declared.{shape}
 use Rattle.std.proofs.Crossing.{crosses}
-use Rattle.http_server.proofs.log.Log.TheSendSync as log
-use Rattle.swim_disk.specs.contracts.cached.CachedFile as CachedFile
-use Rattle.swim_disk.specs.contracts.past.Call as Call
+use Rattle.swim_disk.specs.contracts.backing.Deed as Deed
+use Rattle.swim_disk.specs.contracts.cached.Span as Span
 use Rattle.swim_disk.specs.contracts.file.FileDisk as FileDisk
 use Rattle.swim_disk.specs.contracts.file.FileDisk.TheInside as FileInside
+use Rattle.swim_disk.specs.contracts.open_file.OpenFile as OpenFile
+use Rattle.swim_disk.specs.contracts.past.Call as Call
 use Rattle.swim_node.proofs.Crosses.{Node-send}
 use Rattle.swim_trace.proofs.Crosses.{Trace-send}
 use Rattle.swim_library.specs.contracts.running.Running as Running
@@ -14,8 +15,14 @@ use Rattle.swim_library.specs.contracts.running.Running as Running
 pub Call-send : IsSend Call.the_row
 Call-send = search (sendable, crosses) depth 60 fits 20000
 
-pub CachedFile-send : IsSend CachedFile.the_field.row
-CachedFile-send = search (sendable, crosses, log.the_send) depth 60 fits 20000
+pub Deed-send : IsSend Deed.the_row
+Deed-send = search (sendable, crosses, Trace-send) depth 60 fits 20000
+
+pub Span-send : IsSend Span.the_row
+Span-send = search (sendable, crosses) depth 60 fits 20000
+
+pub OpenFile-send : IsSend OpenFile.the_row
+OpenFile-send = search (sendable, crosses, Trace-send, Deed-send) depth 60 fits 20000
 
 pub FileDisk-send : IsSend FileDisk.the_row
 FileDisk-send = view_send FileInside.the_row _ _ _ _ (recorded_send FileInside.the_field.row _ _ FileInside.the_type.to_one (struct_send (shape FileInside.the_type) (
@@ -23,15 +30,15 @@ FileDisk-send = view_send FileInside.the_row _ _ _ _ (recorded_send FileInside.t
   (
     search sendable,
     (
-      CachedFile-send,
+      search (sendable, crosses, OpenFile-send) depth 60 fits 20000,
       (
         search (sendable, crosses) depth 60 fits 20000,
         (
           search (sendable, Trace-send, Call-send) depth 60 fits 20000,
           (
-            search (sendable, crosses, Call-send) depth 60 fits 20000,
+            search (sendable, crosses) depth 60 fits 20000,
             (
-              search (sendable, crosses) depth 60 fits 20000,
+              search (sendable, crosses, Span-send) depth 60 fits 20000,
               (
                 search sendable,
                 (

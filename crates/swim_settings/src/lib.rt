@@ -2,6 +2,7 @@
 //! another value than it takes, in the order of `Key::ALL`, and else at a key that is none of these.
 #![tactic(auto)]
 
+mod detection;
 mod key;
 mod level;
 mod place;

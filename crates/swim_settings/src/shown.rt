@@ -8,6 +8,7 @@ ghost use Rattle.swim_settings.specs.Ranges.{AreInRange};
 ghost use Rattle.swim_settings.specs.Says.{AreTexts};
 ghost use Rattle.swim_settings.specs.Shown.{shown_number, shown_text, ShowsSetting};
 
+use crate::detection::write_detection;
 use crate::key::Key;
 use crate::place::{Place, value_of_place};
 use crate::settings::RunSettings;
@@ -101,7 +102,8 @@ fn value_of(alloc: Global, key: Key, run: &RunSettings) -> Result<Option<Value>,
     }
 }
 
-/// The settings as the text of a file that says them, a line for each key in the order of `Key::ALL`, but for `random_key`.
+/// The settings as the text of a file that says them, a line for each key in the order of `Key::ALL`, but for `random_key`. Comments say
+/// how soon a member that stops is found by them.
 pub fn show_settings(alloc: Global, run: &RunSettings) -> Result<String, AllocError>
     requires { AreInRange run.now }
 {
@@ -114,5 +116,6 @@ pub fn show_settings(alloc: Global, run: &RunSettings) -> Result<String, AllocEr
     if run.random_key.is_some() {
         text.push_str(HIDDEN)?;
     }
+    write_detection(alloc, &mut text, run)?;
     Ok(text)
 }

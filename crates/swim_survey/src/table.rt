@@ -7,6 +7,7 @@ use crate::stage::Stage;
 use std::alloc::{AllocError, Global};
 use std::fmt::Write;
 use swim_charts::{Thousandths, of_hundred, spread_of};
+use swim_detect::{DetectionBound, mean_first_suspicion};
 use swim_simulate::{Counts, Key, Plan};
 
 /// A cell of so many columns at least; a dash where there is no number.
@@ -67,6 +68,30 @@ fn write_kills(alloc: Global, text: &mut String, all: &Gathered) -> Result<(), A
     write_head(text)?;
     let sorted = all.sorted(alloc, Stage::Alive)?;
     write_times(alloc, text, "all agree", sorted.as_slice())
+}
+
+/// A line: a name, and a time in seconds.
+fn write_seconds(alloc: Global, text: &mut String, name: &str, ms: u64) -> Result<(), AllocError> {
+    write!(text, "{name:<40}")?;
+    write_cell(alloc, text, Some(ms), 16)?;
+    writeln!(text)
+}
+
+/// The lines of what is to be expected of a kill, and of the law of detection. A member that is alone has none.
+fn write_law(alloc: Global, text: &mut String, plan: &Plan) -> Result<(), AllocError> {
+    let others = plan.get(Key::Members) as usize - 1;
+    if others == 0 {
+        return Ok(());
+    }
+    let (period, suspect) = (plan.get(Key::Period), plan.get(Key::Suspect));
+    let tick_ms = plan.get(Key::TickMs);
+    let bound = DetectionBound::of(period, suspect, others);
+    let mean = mean_first_suspicion(period * tick_ms, others);
+    write_seconds(alloc, text, "suspected by one, on the mean", mean)?;
+    let suspected = bound.suspected.saturating_mul(tick_ms);
+    write_seconds(alloc, text, "suspected by each, at the latest", suspected)?;
+    let confirmed = bound.confirmed.saturating_mul(tick_ms);
+    write_seconds(alloc, text, "confirmed by each, at the latest", confirmed)
 }
 
 /// The lines of what is told by the time that the members ran.
@@ -139,6 +164,7 @@ pub fn report(alloc: Global, plan: &Plan, seed: u64, runs: &Runs) -> Result<Stri
     write_subject(&mut text, plan, seed, runs.count)?;
     writeln!(text)?;
     write_kills(alloc, &mut text, &runs.all)?;
+    write_law(alloc, &mut text, plan)?;
     write_rates(alloc, &mut text, &runs.all)?;
     write_counts(&mut text, &runs.all.counts)?;
     if plan.get(Key::FailingSyncs) > 0 {
