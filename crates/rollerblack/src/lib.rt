@@ -151,7 +151,7 @@
 //!     };
 //!     let alarms = [datagrams, connections];
 //!     let ended = run_member(logged, alloc, node, outside, &alarms, None);
-//!     ended.map_err(|_| "a worker")?;
+//!     ended.how.map_err(|_| "a worker")?;
 //!     Ok(())
 //! }
 //! ```
@@ -224,7 +224,7 @@ pub use swim_node::{
 pub use swim_shared::{CallFault, Closed, ClosedSent, Name, Outbox, Parts, Pass, Shared, Watch};
 
 // The workers of a member that runs, and what they ask of their surroundings.
-pub use swim_serve::{Beat, Desk, Fault, Logs, MemberEnd, Outside, run_member};
+pub use swim_serve::{Beat, Desk, EndedMember, Fault, Logs, MemberEnd, Outside, run_member};
 pub use swim_shell::{
     Alarm, Alarmed, COUNTERS, Caller, ControlEnd, Counter, Counters, Doors, Inbound, Joiner,
     LIST_MAX, Observer, Paces, ReceiveFault, Receiver, Refusal, Ticker, WorkerEnd,

@@ -1,6 +1,7 @@
 //! The end of an era, at which it is handed to who keeps it.
 
 ghost use Rattle.std.specs.Prelude.{◌≡◌, ◌∷◌, [], ◌++◌, IfSome, IfNone, is_some};
+ghost use Rattle.swim_node.specs.Lives.{EndsEra};
 ghost use Rattle.swim_node.specs.Node.{next_base};
 ghost use Rattle.swim_recorder.specs.Handing.{begun_at, recorded};
 
@@ -60,6 +61,7 @@ pub fn hand_over<D: Disk, K: Keeper>(
     ensures first { node.new.first ≡ node.old.first }
     ensures peers { node.new.peers ≡ node.old.peers }
     ensures broken { node.new.broken ≡ node.old.broken }
+    ensures living { EndsEra D.state node.old node.new }
 {
     match beginning {
         Some(beginning) => {

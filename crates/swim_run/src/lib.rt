@@ -2,6 +2,7 @@
 #![tactic(auto)]
 
 mod ended;
+mod errand;
 mod inside;
 mod listing;
 mod live_settings;

@@ -9,7 +9,6 @@ ghost use Rattle.swim_start.specs.Starting.{lasting, peers_to_join};
 
 use crate::listing::Listing;
 use crate::reading::checked_at;
-use crate::reading_doors::Reread;
 use crate::rereading::Read;
 use arrayvec::ArrayString;
 use log::{LevelFilter, Log, info, warn};
@@ -93,7 +92,7 @@ pub(crate) struct LiveSettings<'a, T> {
     told: RunSettings,
     scribe: Scribe<'a, T>,
     listing: &'a Mutex<Listing>,
-    reread: &'a Mutex<Reread>,
+    reread: &'a Mutex<Option<Read>>,
     ghost range: { AreInRange told },
 }
 
@@ -108,7 +107,7 @@ impl<'a, T: Threads + Wait + Log + Clock> LiveSettings<'a, T> {
         config: &'a str,
         told: RunSettings,
         listing: &'a Mutex<Listing>,
-        reread: &'a Mutex<Reread>,
+        reread: &'a Mutex<Option<Read>>,
     ) -> LiveSettings<'a, T>
         requires { AreInRange told }
     {

@@ -1,8 +1,9 @@
 //! Doors whose thread looks after host names meanwhile.
 
+use crate::errand::Errand;
 use crate::inside::{Answers, Lines};
 use crate::listing::{Listing, Places};
-use crate::lookup::{Found, Lookup};
+use crate::lookup::{Found, start_lookup};
 use arrayvec::ArrayVec;
 use log::{Log, warn};
 use std::sync::{Mutex, Wait};
@@ -25,7 +26,7 @@ pub(crate) struct LookingDoors<'a, O, T> {
     rt: HostRuntime,
     logged: &'a T,
     listing: &'a Mutex<Listing>,
-    lookup: Option<Lookup>,
+    lookup: Option<Errand<Found>>,
     /// When the last lookup began.
     began: Option<Instant>,
     /// The hosts that were told.
@@ -79,7 +80,7 @@ impl<'a, O, T: Threads + Wait + Log + Clock> LookingDoors<'a, O, T> {
     /// Starts the next lookup, if one is due.
     fn start(&mut self) {
         if let Some(places) = self.next_places() {
-            self.lookup = Lookup::start(self.logged, self.rt, places);
+            self.lookup = start_lookup(self.logged, self.rt, places);
         }
     }
 
@@ -120,7 +121,7 @@ impl<'a, O, T: Threads + Wait + Log + Clock> LookingDoors<'a, O, T> {
     fn look(&mut self) {
         match self.lookup.take() {
             Some(lookup) if lookup.is_done() => {
-                let found = lookup.found(self.logged);
+                let found = lookup.outcome(self.logged);
                 self.take(found);
             }
             Some(lookup) => self.lookup = Some(lookup),

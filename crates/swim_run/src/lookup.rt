@@ -1,11 +1,9 @@
 //! Lookups of hosts, beside the member.
 
+use crate::errand::{Beside, Errand};
 use crate::listing::{Addresses, Places};
 use arrayvec::ArrayVec;
-use std::alloc::Global;
-use std::sync::Arc;
-use std::sync::atomic::{AtomicBool, Ordering};
-use std::thread::{self, JoinHandle, Threads};
+use std::thread::Threads;
 use swim_net::first_address;
 use swim_settings::Place;
 use swim_wire::Endpoint;
@@ -17,12 +15,11 @@ pub(crate) struct Found {
     pub(crate) addresses: Addresses,
 }
 
-/// What a thread of its own looks up.
+/// Places to be looked up.
 #[derive(Drop)]
 struct Asking {
     rt: HostRuntime,
     places: Places,
-    is_done: Arc<AtomicBool, Global>,
 }
 
 /// The address of a place now, if it is found.
@@ -36,54 +33,24 @@ fn address_now(rt: &HostRuntime, place: &Place) -> Option<Endpoint> {
     }
 }
 
-impl Asking {
-    /// Looks each place up.
+impl Beside for Asking {
+    type Outcome = Found;
+
     fn run(self) -> Found {
-        let Asking {
-            rt,
-            places,
-            is_done,
-        } = self;
+        let Asking { rt, places } = self;
         let mut addresses = ArrayVec::new();
         for place in places.as_slice() {
             let _ = addresses.try_push(address_now(&rt, place));
         }
-        is_done.store(true, Ordering::SeqCst);
         Found { places, addresses }
     }
 }
 
-/// A thread that looks hosts up, and whether it is done.
-#[derive(Drop)]
-pub(crate) struct Lookup {
-    thread: JoinHandle<Found>,
-    is_done: Arc<AtomicBool, Global>,
-}
-
-impl Lookup {
-    /// Starts a thread that looks these places up; none where there is no memory or no thread for it.
-    pub(crate) fn start<T: Threads>(
-        threads: &T,
-        rt: HostRuntime,
-        places: Places,
-    ) -> Option<Lookup> {
-        let is_done = Arc::new(rt.alloc(), AtomicBool::new(false)).ok()?;
-        let asking = Asking {
-            rt,
-            places,
-            is_done: Arc::try_clone(&is_done).ok()?,
-        };
-        let thread = thread::spawn(threads, move || asking.run()).ok()?;
-        Some(Lookup { thread, is_done })
-    }
-
-    /// Whether its thread is done.
-    pub(crate) fn is_done(&self) -> bool {
-        self.is_done.load(Ordering::SeqCst)
-    }
-
-    /// What it found. It is not asked before it is done, and so does not wait.
-    pub(crate) fn found<T: Threads>(self, threads: &T) -> Found {
-        self.thread.join(threads)
-    }
+/// Starts a thread that looks these places up; none where there is no memory or no thread for it.
+pub(crate) fn start_lookup<T: Threads>(
+    threads: &T,
+    rt: HostRuntime,
+    places: Places,
+) -> Option<Errand<Found>> {
+    Errand::start(threads, rt.alloc(), Asking { rt, places })
 }

@@ -1,9 +1,8 @@
 //! Doors that have the settings file read again.
 
-ghost use Rattle.std.specs.Prelude.{◌≡◌, None};
-
+use crate::errand::Errand;
 use crate::reading::checked_at;
-use crate::rereading::{Read, Rereading};
+use crate::rereading::{Read, start_reading};
 use std::sync::{Mutex, Wait};
 use std::thread::{self, Threads};
 use std::time::{Clock, Duration};
@@ -15,29 +14,6 @@ const LOOKS: u32 = 20;
 /// From one of these looks to the next, in milliseconds.
 const LOOK_MILLIS: u64 = 1;
 
-/// The settings that were read again, until the member takes them: what the file says, or why that is refused.
-#[derive(Drop)]
-pub(crate) struct Reread {
-    read: Option<Read>,
-}
-
-impl Reread {
-    /// Nothing was read.
-    pub(crate) fn new() -> Reread
-        ensures { result.read ≡ None }
-    {
-        Reread { read: None }
-    }
-
-    /// What was read is taken; none if nothing was.
-    pub(crate) fn take(&mut self) -> Option<Read>
-        ensures read { result ≡ self.old.read }
-        ensures then { self.new.read ≡ None }
-    {
-        self.read.take()
-    }
-}
-
 /// Doors that have the settings file at this path read in a thread of its own once the line `reload` was heard: a large file, or a slow
 /// disk, holds up nothing but the answer to that line.
 #[derive(Drop)]
@@ -46,8 +22,8 @@ pub(crate) struct ReadingDoors<'a, O, T> {
     rt: HostRuntime,
     logged: &'a T,
     config: &'a str,
-    reread: &'a Mutex<Reread>,
-    reading: Option<Rereading>,
+    reread: &'a Mutex<Option<Read>>,
+    reading: Option<Errand<Read>>,
 }
 
 impl<'a, O, T: Threads + Wait + Clock> ReadingDoors<'a, O, T> {
@@ -57,7 +33,7 @@ impl<'a, O, T: Threads + Wait + Clock> ReadingDoors<'a, O, T> {
         rt: HostRuntime,
         logged: &'a T,
         config: &'a str,
-        reread: &'a Mutex<Reread>,
+        reread: &'a Mutex<Option<Read>>,
     ) -> ReadingDoors<'a, O, T> {
         ReadingDoors {
             doors,
@@ -71,20 +47,26 @@ impl<'a, O, T: Threads + Wait + Clock> ReadingDoors<'a, O, T> {
 
     /// What was read is there to be taken.
     fn put(&self, read: Read) {
-        *self.reread.lock(self.logged) = Reread { read: Some(read) };
+        *self.reread.lock(self.logged) = Some(read);
     }
 
-    /// Starts the thread that reads. Without memory or a thread for it the file is read at once.
-    fn start(&mut self) -> Option<Rereading> {
-        let reading = Rereading::start(self.logged, self.rt, self.config);
-        if reading.is_none() {
+    /// Has a thread read it, unless it is read in a moment: then it is there to be taken. Without memory or a thread for it the file is
+    /// read at once.
+    fn begin(&mut self) -> bool {
+        let Some(reading) = start_reading(self.logged, self.rt, self.config) else {
             self.put(checked_at(&self.rt, self.config));
+            return true;
+        };
+        if self.is_done_soon(&reading) {
+            self.put(reading.outcome(self.logged));
+            return true;
         }
-        reading
+        self.reading = Some(reading);
+        false
     }
 
     /// Whether it is done, which is looked at for a moment.
-    fn is_done_soon(&self, reading: &Rereading) -> bool {
+    fn is_done_soon(&self, reading: &Errand<Read>) -> bool {
         for _ in 0..LOOKS {
             if reading.is_done() {
                 return true;
@@ -109,18 +91,16 @@ impl<'a, O: Doors, T: Threads + Wait + Clock> Doors for ReadingDoors<'a, O, T> {
     }
 
     fn prepare_reload(&mut self) -> bool {
-        let reading = match self.reading.take() {
-            Some(reading) => reading,
-            None => match self.start() {
-                Some(reading) => reading,
-                None => return true,
-            },
-        };
-        if self.is_done_soon(&reading) {
-            self.put(reading.read(self.logged));
-            return true;
+        match self.reading.take() {
+            Some(reading) if reading.is_done() => {
+                self.put(reading.outcome(self.logged));
+                true
+            }
+            Some(reading) => {
+                self.reading = Some(reading);
+                false
+            }
+            None => self.begin(),
         }
-        self.reading = Some(reading);
-        false
     }
 }

@@ -8,7 +8,8 @@ use crate::listing::Listing;
 use crate::live_settings::{LiveSettings, log_from};
 use crate::looking_doors::LookingDoors;
 use crate::reading::settings_at;
-use crate::reading_doors::{ReadingDoors, Reread};
+use crate::reading_doors::ReadingDoors;
+use crate::rereading::Read;
 use crate::sockets::{Sockets, waits};
 use crate::state_file::{StateFile, open_node};
 use crate::watched_doors::WatchedDoors;
@@ -70,7 +71,7 @@ fn live<'a, T: Threads + Wait + Log + Clock + Send + Sync + Copy + Drop>(
     config: &'a str,
     told: RunSettings,
     listing: &'a Mutex<Listing>,
-    reread: &'a Mutex<Reread>,
+    reread: &'a Mutex<Option<Read>>,
     key: [u8; 32],
     held: StateFile,
     sockets: Sockets<'a, T>,
@@ -117,7 +118,7 @@ fn live<'a, T: Threads + Wait + Log + Clock + Send + Sync + Copy + Drop>(
         &mut host,
     );
     host.finish();
-    ended_by(ended)
+    ended_by(ended.how)
 }
 
 /// Runs the member that the settings file describes until the line `stop`: locks its state file, binds its sockets, takes a
@@ -139,7 +140,7 @@ pub fn run<T: Threads + Wait + Log + Clock + Send + Sync + Copy + Drop>(
     // The control socket stays open until all else is closed: who finds it closed may start the next life at once.
     let (sockets, _control) = Sockets::bind(rt, logged, &waits, connections, &told)?;
     let listing = Mutex::new(Listing::new(told.join.as_slice()));
-    let reread = Mutex::new(Reread::new());
+    let reread = Mutex::new(None);
     live(
         rt, logged, level, config, told, &listing, &reread, key, held, sockets,
     )

@@ -54,6 +54,6 @@ pub(crate) fn open_node<W: Watch + Drop>(
     let disk = loaded.map_err(|error| Ending::of(&error, Ending::Open(DEVICE)))?;
     match open(alloc, disk, watch, settings, limit) {
         Ok(node) => Ok(node),
-        Err(fault) => Err(Ending::Open(fault)),
+        Err((_, fault)) => Err(Ending::Open(fault)),
     }
 }

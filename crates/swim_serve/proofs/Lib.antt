@@ -3,6 +3,7 @@ mod Eras
 mod Fitting
 mod Handing
 mod Keeping
+mod Lives
 mod Notes
 mod Passing
 mod Tending

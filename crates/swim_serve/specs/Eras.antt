@@ -5,9 +5,11 @@ use Rattle.swim_member.specs.declared.event.Event.{Event}
 use Rattle.swim_member.specs.declared.event.Event.TheVariants.{SendFailed}
 use Rattle.swim_node.specs.declared.entry.Entry.{Entry}
 use Rattle.swim_node.specs.Link.{Fate}
+use Rattle.swim_disk.specs.Disk.{DiskState}
+use Rattle.swim_member.specs.declared.settings.Settings.{Settings}
 use Rattle.swim_node.specs.History.{Base, IsLegal, calls_by}
-use Rattle.swim_node.specs.Lives.{IsRaised}
-use Rattle.swim_node.specs.Node.{next_base}
+use Rattle.swim_node.specs.Lives.{Era, IsLiving, IsRaised, life_of}
+use Rattle.swim_node.specs.Node.{NodeView, next_base}
 use Rattle.swim_shared.specs.Outboxes.{SenderView, owed_after}
 use Rattle.swim_shared.specs.Passes.{PassView, IsPass}
 use Rattle.swim_shared.specs.Taken.{taken_of}
@@ -100,14 +102,37 @@ module _ {M : Type 0} (tells : Type 0) (took : M → List (ℕ × List ℕ)) (fa
   SendsAll limit owed owes link after end journal =
       (ring : SenderView) × (ring.got ≡ []) × Sends limit owed ring link after end owes journal
 
--- one era of a member from this base on: its journal is a legal history, which each worker's calls
--- are of; and where the next era begins
-pub record EraOf (base next : Base) (receives ticks sends serves : List Entry → Type 0)
+-- a node after some calls of its era: the same life of the same owner, on the same disk, with a
+-- journal that is a legal history
+pub record StaysIn {D : Type 0} (state : D → DiskState) (a b : NodeView D) : Type 0 where
+  pub base : b.base ≡ a.base
+  pub legal : IsLegal b.base b.entries
+  pub disk : (state b.disk).name ≡ (state a.disk).name
+  pub owner : b.owner ≡ a.owner
+  pub first : b.first ≡ a.first
+
+-- whichever life goes on with the one node goes on with the other, and these eras of it more have
+-- ended
+abbrev pub LivesThrough : {D : Type 0} → (D → DiskState) → NodeView D → List Era → NodeView D
+    → Type 0
+LivesThrough {D} state a more b =
+    (settings : Settings) → (limit : ℕ) → (opened : D) → (eras : List Era)
+    → IsLiving state a.owner (life_of settings limit opened eras a)
+    → IsLiving state b.owner (life_of settings limit opened (eras ++ more) b)
+
+-- one era of a member, from its node as the era begins to that of the next one: its journal is a
+-- legal history, which each worker's calls are of; and it is an era of the node's life
+pub record EraOf {D : Type 0} (state : D → DiskState) (a b : NodeView D) (era : Era)
+    (receives ticks sends serves : List Entry → Type 0)
     : Type 0 where
-  pub journal : List Entry
-  pub legal : IsLegal base journal
-  pub receiver : receives journal
-  pub ticker : ticks journal
-  pub sender : sends journal
-  pub control : serves journal
-  pub goes_on : IsRaised (next_base base journal) next
+  pub base : era.base ≡ a.base
+  pub legal : IsLegal era.base era.entries
+  pub receiver : receives era.entries
+  pub ticker : ticks era.entries
+  pub sender : sends era.entries
+  pub control : serves era.entries
+  pub goes_on : IsRaised (next_base era.base era.entries) b.base
+  pub disk : (state b.disk).name ≡ (state a.disk).name
+  pub owner : b.owner ≡ a.owner
+  pub first : b.first ≡ a.first
+  pub life : LivesThrough state a (era ∷ []) b

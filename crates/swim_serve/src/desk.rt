@@ -1,7 +1,7 @@
 //! The worker that answers control lines and joins members.
 
 ghost use Rattle.std.specs.Prelude.{◌≡◌, ◌<◌, ◌≤◌, [], ◌∷◌, ◌++◌, None, Some, IfNone, IfSome, IfOk, IfErr};
-ghost use Rattle.std.specs.Prelude.{OnErr, OnOk, IsSome, IsTrue, false, ◌+◌, length, option_to_list, min, if◌then◌else◌};
+ghost use Rattle.std.specs.Prelude.{OnErr, OnOk, IsSome, IsTrue, true, false, not, ◌+◌, length, option_to_list, min, if◌then◌else◌};
 ghost use Rattle.swim_serve.specs.declared.aside.TheConstants.{OPEN_MAX};
 ghost use Rattle.swim_shell.specs.Joins.{IsRelisted};
 ghost use Rattle.swim_shell.specs.Turns.{Turned, TurnedInVain};
@@ -34,6 +34,8 @@ pub struct Desk<W: Log + Clock + Drop, O: Doors + Drop> {
     others: Aside<Conversation<O::Reader, O::Writer>>,
     /// To how many of them in a row nothing had come, since the last wait.
     silent: usize,
+    /// Whether what the line `reload` of one of them asks for is being made ready.
+    is_preparing: bool,
     ghost room: { length (option_to_list conversation) + length others ≤ OPEN_MAX },
 }
 
@@ -74,6 +76,7 @@ impl<W: Log + Clock + Drop, O: Doors + Drop> Desk<W, O> {
             conversation: None,
             others,
             silent: 0,
+            is_preparing: false,
         })
     }
 
@@ -145,15 +148,37 @@ impl<W: Log + Clock + Drop, O: Doors + Drop> Desk<W, O> {
         self.conversation = Some(conversation);
     }
 
-    /// Whether a turn heard `reload`, and what it asks for is not ready yet.
-    fn must_hold(&mut self, turn: Option<ControlEnd>) -> bool
+    /// Whether a line `reload` of this conversation may be seen to: it is for one at a time, so that none is answered by what was
+    /// made ready before it was heard.
+    fn may_prepare_for(&self, conversation: &Conversation<O::Reader, O::Writer>) -> bool
+        ensures { result ≡ (if self.now.is_preparing then conversation.now.is_prepared_for
+            else true) }
+    {
+        !self.is_preparing || conversation.is_prepared_for()
+    }
+
+    /// Whether what the line `reload` asks for is ready.
+    fn is_reload_ready(&mut self) -> bool
+        ensures joiner { self.new.joiner ≡ self.old.joiner }
+        ensures conversation { self.new.conversation ≡ self.old.conversation }
+        ensures others { self.new.others ≡ self.old.others }
+        ensures next { self.new.is_preparing ≡ not result }
+    {
+        let is_ready = self.doors.prepare_reload();
+        self.is_preparing = !is_ready;
+        is_ready
+    }
+
+    /// Whether a turn heard `reload`, and what it asks for may not be seen to, or is not ready yet.
+    fn must_hold(&mut self, turn: Option<ControlEnd>, may_prepare: bool) -> bool
         ensures reloading { IsTrue result → turn ≡ Some ends.Reloading }
+        ensures busy { turn ≡ Some ends.Reloading → may_prepare ≡ false → result ≡ true }
         ensures joiner { self.new.joiner ≡ self.old.joiner }
         ensures conversation { self.new.conversation ≡ self.old.conversation }
         ensures others { self.new.others ≡ self.old.others }
     {
         match turn {
-            Some(ControlEnd::Reloading) => !self.doors.prepare_reload(),
+            Some(ControlEnd::Reloading) => !may_prepare || !self.is_reload_ready(),
             _ => false,
         }
     }
@@ -219,8 +244,9 @@ impl<C: Observer, W: Log + Clock + Drop, O: Doors + Drop> Worker<C> for Desk<W, 
             };
         };
         let turn = conversation.turn(caller);
-        if self.must_hold(turn) {
-            conversation.hold();
+        let may_prepare = self.may_prepare_for(&conversation);
+        if self.must_hold(turn, may_prepare) {
+            conversation.hold(may_prepare);
             self.set_aside(conversation);
             return None;
         }

@@ -1,12 +1,13 @@
 //! One era of a running member: its workers over one shared node, from its beginning to its end.
 
-ghost use Rattle.std.specs.Prelude.{◌≡◌, ◌∷◌, [], IfOk, IfSome, IsSomeAnd, length};
+ghost use Rattle.std.specs.Prelude.{◌≡◌, ◌∷◌, [], IfErr, IfOk, IfSome, IsSomeAnd, length};
 ghost use Rattle.swim_node.specs.History.{IsLegal};
 ghost use Rattle.swim_shared.specs.Passes.{IsPass, new_pass, new_passes};
 ghost use Rattle.swim_shell.specs.Calls.{NewCalls};
 ghost use Rattle.swim_shell.specs.Ticks.{answers};
 ghost use Rattle.swim_serve.specs.Desks.{Tended, desk_of};
-ghost use Rattle.swim_serve.specs.Eras.{ByPass, Sends, SendsBy, Served, outgoing_of, owed_first};
+ghost use Rattle.swim_serve.specs.Eras.{ByPass, Sends, SendsBy, Served, StaysIn, outgoing_of};
+ghost use Rattle.swim_serve.specs.Eras.{owed_first};
 ghost use Rattle.swim_serve.specs.Works.{Received, Sent, Ticked, receiver_of};
 ghost use Rattle.swim_serve.specs.Views.{known_of, new_caller};
 
@@ -462,26 +463,24 @@ pub enum EraFault {
     Odd,
 }
 
-impl From<Refusal> for EraFault {
-    ghost use Rattle.std.specs.Prelude.{◌≡◌};
-    ghost use Rattle.swim_serve.specs.declared.era.EraFault.TheVariants.{Refused};
-
-    ghost from_gives = { λ why fault. fault ≡ Refused why };
-
-    fn from(why: Refusal) -> EraFault {
-        EraFault::Refused(why)
-    }
+/// What is left of an era that was cut short.
+#[derive(Drop)]
+pub struct CutEra<D: Disk, F: Drop> {
+    /// The node with all calls of the era so far.
+    pub node: Node<D>,
+    /// Why it was cut short.
+    pub why: F,
 }
 
 /// A node that is shared, with the passes and the watches of all who call.
 type Sharing<N, D, R> = (Shared<N, D, Outbox, R>, (Vec<Pass<N>>, Vec<Watch<N>>));
 
-/// Shares a node with the workers of an era. An error is Memory where there is none.
+/// Shares a node with the workers of an era. Where there is no memory the parts come back as they are.
 fn share<N: Name, D: Disk + Drop, R: Wait + Copy + Drop>(
     rt: &R,
     alloc: Global,
     parts: Parts<D, Outbox>,
-) -> Result<Sharing<N, D, R>, Refusal>
+) -> Result<Sharing<N, D, R>, Parts<D, Outbox>>
     requires book { parts.book ≡ N.book }
     requires base { parts.node.base ≡ N.base }
     requires disk { (D.state parts.node.disk).name ≡ N.disk }
@@ -491,14 +490,34 @@ fn share<N: Name, D: Disk + Drop, R: Wait + Copy + Drop>(
     requires start { parts.link.put ≡ N.start }
     requires callers { parts.callers ≡ CALLERS }
     ensures passes { IfOk result (λ made. made.1.0.items ≡ new_passes CALLERS) }
+    ensures parts { IfErr result (λ left. (left ≡ parts) × (left.node.entries ≡ [])) }
 {
-    let made = Shared::<N, D, Outbox, R>::new(alloc, *rt, parts);
-    let (shared, passes, watches) = made.ok().ok_or(Refusal::Memory)?;
+    let (shared, passes, watches) = Shared::<N, D, Outbox, R>::new(alloc, *rt, parts)?;
     Ok((shared, (passes, watches)))
 }
 
+/// Ends an era whose passes are lost.
+fn cut_short<N: Name, D: Disk, R: Wait + Drop>(
+    alloc: Global,
+    shared: Shared<N, D, Outbox, R>,
+    why: Refusal,
+) -> CutEra<D, EraFault>
+    ensures legal { IsLegal N.base result.node.entries }
+    ensures base { result.node.base ≡ N.base }
+    ensures disk { (D.state result.node.disk).name ≡ N.disk }
+    ensures owner { result.node.owner ≡ N.owner }
+    ensures first { result.node.first ≡ N.first }
+{
+    let closed = shared.close(Vec::new(alloc), Vec::new(alloc));
+    CutEra {
+        node: closed.node,
+        why: EraFault::Refused(why),
+    }
+}
+
 /// One era of a shared node, from its beginning to its end: its workers, which one of these alarms wakes where they wait at
-/// sockets. An error is why there was no whole era: where the journal does not have the calls of each worker, it is refused.
+/// sockets. An error is why there was no whole era, with the node: where the journal does not have the calls of each worker, it is
+/// refused.
 pub fn run_era<
     N: Name + Send + Sync,
     D: Disk + Send + Drop,
@@ -513,7 +532,7 @@ pub fn run_era<
     ring: Ring,
     outside: Outside<I, M, R, O>,
     alarms: &[I::Alarm],
-) -> Result<EraEnd<D, I, M, R, O>, EraFault>
+) -> Result<EraEnd<D, I, M, R, O>, CutEra<D, EraFault>>
     requires book { parts.book ≡ N.book }
     requires base { parts.node.base ≡ N.base }
     requires disk { (D.state parts.node.disk).name ≡ N.disk }
@@ -524,11 +543,8 @@ pub fn run_era<
     requires ring { N.link ≡ ring.ring }
     requires nothing { N.start ≡ [] }
     requires callers { parts.callers ≡ CALLERS }
-    ensures legal { IfOk result (λ end. IsLegal N.base end.node.entries) }
-    ensures base { IfOk result (λ end. end.node.base ≡ N.base) }
-    ensures disk { IfOk result (λ end. (D.state end.node.disk).name ≡ N.disk) }
-    ensures owner { IfOk result (λ end. end.node.owner ≡ N.owner) }
-    ensures first { IfOk result (λ end. end.node.first ≡ N.first) }
+    ensures node { IfOk result (λ end. StaysIn D.state parts.node end.node) }
+    ensures cut { IfErr result (λ cut. StaysIn D.state parts.node cut.node) }
     ensures receiver { IfOk result (λ end. Served (Received I.tells N.base.limit)
         (receiver_of I.came I.failures outside.receiver) (new_caller 0)
         (receiver_of I.came I.failures end.outside.receiver) end.ends.receiver
@@ -547,12 +563,22 @@ pub fn run_era<
         end.outside.desk.others) end.ends.control end.node.entries) }
     ensures eras { IfOk result (λ end. end.outside.logs.eras ≡ outside.logs.eras) }
 {
-    let (shared, held) = share::<N, D, R>(rt, alloc, parts)?;
+    let (shared, held) = match share::<N, D, R>(rt, alloc, parts) {
+        Ok(made) => made,
+        Err(parts) => {
+            let (node, _) = parts.into_inner();
+            let why = EraFault::Refused(Refusal::Memory);
+            return Err(CutEra { node, why });
+        }
+    };
     let pace = Pace::new();
     let ending = Ending::new(&pace, alarms);
     let board = Board::new(&outside.logs);
     let ring = RingSender::<N>::new(ring);
-    let back = work(rt, &shared, held, ring, outside, &board, &ending)?;
+    let back = match work(rt, &shared, held, ring, outside, &board, &ending) {
+        Ok(back) => back,
+        Err(why) => return Err(cut_short(alloc, shared, why)),
+    };
     let Back {
         passes,
         room,
@@ -561,15 +587,19 @@ pub fn run_era<
         ends,
         had_threads,
     } = back;
-    let passes = passes.into_list(room).ok_or(Refusal::Memory)?;
+    let Some(passes) = passes.into_list(room) else {
+        return Err(cut_short(alloc, shared, Refusal::Memory));
+    };
     let watches = Vec::new(alloc);
     let closed = shared.close_sent(passes, watches, ring.into_inner(), &mut outside.link);
+    let node = closed.node;
     if closed.odd != 0 {
-        return Err(EraFault::Odd);
+        let why = EraFault::Odd;
+        return Err(CutEra { node, why });
     }
     outside.owed = closed.owed;
     Ok(EraEnd {
-        node: closed.node,
+        node,
         outside,
         ends,
         had_threads,

@@ -1,23 +1,23 @@
 //! A member from one era to the next.
 
-ghost use Rattle.std.specs.Prelude.{◌≡◌, ◌≤◌, ◌∷◌, [], ◌++◌, List, false, IfNone, IfOk, IfSome};
+ghost use Rattle.std.specs.Prelude.{◌≡◌, ◌≤◌, ◌∷◌, [], ◌++◌, None, false, IfNone, IfOk, IfSome};
 ghost use Rattle.std.specs.Prelude.{IfErr, IsOk, IsSome, IsTrue};
 ghost use Rattle.swim_member.specs.declared.state.Phase.TheVariants as phases;
-ghost use Rattle.swim_node.specs.declared.entry.Entry.{Entry};
-ghost use Rattle.swim_node.specs.History.{IsLegal};
-ghost use Rattle.swim_node.specs.Lives.{IsRaised};
+ghost use Rattle.swim_node.specs.Lives.{EndsEra, Era, GoesOn, IsRaised};
 ghost use Rattle.swim_node.specs.Node.{next_base};
 ghost use Rattle.swim_recorder.specs.Handing.{begun_at, recorded};
 ghost use Rattle.swim_shell.specs.Ticks.{answers};
 ghost use Rattle.swim_serve.specs.Desks.{desk_of};
 ghost use Rattle.swim_serve.specs.EraCounts.{number_saves};
 ghost use Rattle.swim_serve.specs.Faults.{by_desk, by_receiver, by_refusal, fault_by, fault_of};
-ghost use Rattle.swim_serve.specs.Members.{Era, Lived, LivedBy, end_by_phase, member_end, member_of};
+ghost use Rattle.swim_serve.specs.Eras.{StaysIn};
+ghost use Rattle.swim_serve.specs.Members.{CutsEra, EndsMember, FailsMember, IsGiven, Lived};
+ghost use Rattle.swim_serve.specs.Members.{LivedBy, ServesEra, end_by_phase, member_end, member_of};
 ghost use Rattle.swim_serve.specs.Peers.{BecameOf, BeginsKept, HasKnown, KeepsPeers, next_era};
 ghost use Rattle.swim_serve.specs.Works.{receiver_of};
 
 use crate::beat::Beat;
-use crate::era::{CALLERS, EraEnd, EraEnds, EraFault, Outside, WATCHES, run_era};
+use crate::era::{CALLERS, CutEra, EraEnd, EraEnds, EraFault, Outside, WATCHES, run_era};
 use crate::era_saves::{EraSaves, PeersSave, number_saves};
 use crate::expulsion::Expulsion;
 use crate::host::{Host, ask_host};
@@ -63,6 +63,15 @@ pub enum MemberEnd {
     Stopped,
     /// It was expelled.
     Expelled,
+}
+
+/// A member that has ended.
+#[derive(Drop)]
+pub struct EndedMember<D: Disk> {
+    /// Its node, which no datagram comes to any more.
+    pub node: Node<D>,
+    /// How it ended. An error is the fault that ended it.
+    pub how: Result<MemberEnd, Fault>,
 }
 
 /// What it comes to that there was no whole era.
@@ -132,6 +141,8 @@ fn keep_peers<D: Disk, T: Log>(rt: &T, node: &mut Node<D>) -> PeersSave
     ensures base { IsRaised node.old.base node.new.base }
     ensures owner { node.new.owner ≡ node.old.owner }
     ensures first { node.new.first ≡ node.old.first }
+    ensures disk { (D.state node.new.disk).name ≡ (D.state node.old.disk).name }
+    ensures living { GoesOn D.state node.old node.new }
     ensures kept { (HasKnown node.old → ⊥)
         → KeepsPeers D.keeps_model D.state node.old node.new }
     ensures spared { HasKnown node.old → node.new ≡ node.old }
@@ -166,6 +177,8 @@ fn end_era<D: Disk, T: Log, K: Keeper>(
     ensures base { IsRaised (next_base node.old.base node.old.entries) node.new.base }
     ensures owner { node.new.owner ≡ node.old.owner }
     ensures first { node.new.first ≡ node.old.first }
+    ensures disk { (D.state node.new.disk).name ≡ (D.state node.old.disk).name }
+    ensures living { EndsEra D.state node.old node.new }
     ensures kept { (HasKnown (next_era node.old) → ⊥)
         → KeepsPeers D.keeps_model D.state (next_era node.old) node.new }
     ensures spared { HasKnown (next_era node.old) → node.new ≡ next_era node.old }
@@ -179,16 +192,17 @@ fn end_era<D: Disk, T: Log, K: Keeper>(
     EraSaves { numbers, peers }
 }
 
-/// An outbox with its ring, in which nothing waits.
-fn outbox_of(alloc: Global) -> Result<(Outbox, Ring), Fault>
-    ensures ring { IfOk result (λ made. made.0.ring ≡ made.1.ring) }
-    ensures put { IfOk result (λ made. made.0.put ≡ []) }
-    ensures got { IfOk result (λ made. made.1.got ≡ []) }
+/// An outbox with its ring, in which nothing waits; none where there is no memory.
+fn outbox_of(alloc: Global) -> Option<(Outbox, Ring)>
+    ensures ring { IfSome result (λ made. made.0.ring ≡ made.1.ring) }
+    ensures put { IfSome result (λ made. made.0.put ≡ []) }
+    ensures got { IfSome result (λ made. made.1.got ≡ []) }
 {
-    Outbox::new(alloc, OUTBOX_PLACES).ok().ok_or(Fault::Memory)
+    Outbox::new(alloc, OUTBOX_PLACES).ok()
 }
 
-/// One era of a node, and what the next one begins with. A tick that found the era full is due again.
+/// One era of a node, and what the next one begins with. A tick that found the era full is due again. Where a worker's fault ends the
+/// member, no peers are kept any more, and its keeper is not given the era.
 fn one_era<
     D: Disk + Send + Drop,
     R: Threads + Wait + Log + Clock + Send + Sync + Copy + Drop,
@@ -203,36 +217,48 @@ fn one_era<
     outside: Outside<I, M, R, O>,
     alarms: &[I::Alarm],
     keeper: &mut K,
-) -> Result<EraEnd<D, I, M, R, O>, Fault>
+) -> Result<EraEnd<D, I, M, R, O>, CutEra<D, Fault>>
     requires { node.entries ≡ [] }
     ensures entries { IfOk result (λ end. end.node.entries ≡ []) }
-    ensures owner { IfOk result (λ end. end.node.owner ≡ node.owner) }
-    ensures first { IfOk result (λ end. end.node.first ≡ node.first) }
-    ensures kept { IfOk result (λ end. BeginsKept end.node) }
-    ensures given { IfOk result (λ end. IsTrue (K.keeps keeper.old) → (journal : List Entry)
-        × IsLegal node.base journal
-        × (K.given keeper.new ≡ K.given keeper.old ++ recorded node.base journal ∷ [])) }
-    ensures let_go { IfOk result (λ end. K.keeps keeper.old ≡ false → keeper.new ≡ keeper.old) }
-    ensures era { IfOk result (λ end. Era I.tells M.tells M.took M.failures O.Reader.remaining
-        O.Writer.contents
-        (member_of node.base (receiver_of I.came I.failures outside.receiver)
+    ensures kept { IfOk result (λ end. fault_of end.ends ≡ None → BeginsKept end.node) }
+    ensures let_go { K.keeps keeper.old ≡ false → keeper.new ≡ keeper.old }
+    ensures era { IfOk result (λ end. (era : Era) × ServesEra D.state I.tells M.tells M.took
+        M.failures O.Reader.remaining O.Writer.contents
+        (member_of node (receiver_of I.came I.failures outside.receiver)
         (answers outside.ticker.rng) outside.link outside.owed
         (desk_of outside.desk.joiner outside.desk.conversation outside.desk.others))
-        (member_of end.node.base (receiver_of I.came I.failures end.outside.receiver)
+        (member_of end.node (receiver_of I.came I.failures end.outside.receiver)
         (answers end.outside.ticker.rng) end.outside.link end.outside.owed
         (desk_of end.outside.desk.joiner end.outside.desk.conversation
-        end.outside.desk.others)) end.ends) }
+        end.outside.desk.others)) end.ends era
+        × IsGiven (K.keeps keeper.old) (fault_of end.ends) (K.given keeper.old)
+        (K.given keeper.new) (recorded era.base era.entries)) }
+    ensures cut { IfErr result (λ cut. CutsEra cut.why × StaysIn D.state node cut.node) }
+    ensures not_given { IfErr result (λ _. keeper.new ≡ keeper.old) }
 {
-    let (outbox, ring) = outbox_of(alloc)?;
+    let (outbox, ring) = match outbox_of(alloc) {
+        Some(made) => made,
+        None => {
+            let why = Fault::Memory;
+            return Err(CutEra { node, why });
+        }
+    };
     let beginning = begin(&node, keeper);
     let parts = Parts::new(node, outbox, CALLERS, WATCHES);
     let ended = run_era::<Brand, _, _, _, _, _>(rt, alloc, parts, ring, outside, alarms);
     let mut end = match ended {
         Ok(end) => end,
-        Err(why) => return Err(fault_by(why)),
+        Err(cut) => {
+            let why = fault_by(cut.why);
+            return Err(CutEra {
+                node: cut.node,
+                why,
+            });
+        }
     };
-    if let Some(fault) = fault_of(&end.ends) {
-        return Err(fault);
+    if fault_of(&end.ends).is_some() {
+        end.node.rebase();
+        return Ok(end);
     }
     let saves = end_era(rt, &mut end.node, beginning, keeper);
     end.outside.logs.end_era(saves);
@@ -318,8 +344,57 @@ fn member_end(control: Option<ControlEnd>, phase: Phase, is_over: bool) -> Optio
     }
 }
 
+/// How long a member goes on that has to end: one that is expelled, and one that gets no threads.
+#[derive(Drop)]
+struct Grace {
+    expulsion: Expulsion,
+    famine: Famine,
+}
+
+impl Grace {
+    /// Of a member that is neither. If it is to end once it is expelled, it waits for so many ticks then.
+    fn new(expelled_ends: Option<u64>) -> Grace
+        ensures wait { result.expulsion.wait ≡ expelled_ends }
+        ensures not_yet { result.expulsion.end_at ≡ None }
+    {
+        Grace {
+            expulsion: Expulsion::new(expelled_ends),
+            famine: Famine::new(),
+        }
+    }
+
+    /// How the member ends after an era of this beat whose workers ended so, if it does. An error is the fault that ends it.
+    fn end_after<W: Clock>(
+        &mut self,
+        rt: &W,
+        ends: EraEnds,
+        had_threads: bool,
+        phase: Phase,
+        beat: &mut Beat,
+    ) -> Option<Result<MemberEnd, Fault>>
+        requires { IsSome self.old.expulsion.end_at → IsSome self.old.expulsion.wait }
+        ensures wait { self.new.expulsion.wait ≡ self.old.expulsion.wait }
+        ensures known { IsSome self.new.expulsion.end_at → IsSome self.new.expulsion.wait }
+        ensures ended { IfSome result (λ how. IfOk how (EndsMember self.old.expulsion.wait ends
+            phase)) }
+        ensures failed { IfSome result (λ how. IfErr how (FailsMember ends)) }
+        ensures sound { IfNone result (fault_of ends ≡ None) }
+    {
+        if let Some(fault) = fault_of(&ends) {
+            return Some(Err(fault));
+        }
+        if let Err(fault) = self.famine.wait(rt, had_threads) {
+            return Some(Err(fault));
+        }
+        let is_over = is_wait_over(&mut self.expulsion, beat, phase);
+        let end = member_end(ends.control, phase, is_over)?;
+        Some(Ok(end))
+    }
+}
+
 /// Runs a member era after era, until the line `stop` is answered, or a worker ends otherwise than by a full era, or, if it is to
-/// end then, until so many ticks after it was expelled. The alarms end the waits of its sockets. Nobody keeps its eras.
+/// end then, until so many ticks after it was expelled. The alarms end the waits of its sockets. Nobody keeps its eras. Whatever
+/// ends it, its node is left: what `Node::into_disk` says of a life that ended holds of it.
 pub fn run_member<
     D: Disk + Send + Drop,
     R: Threads + Wait + Log + Clock + Send + Sync + Copy + Drop,
@@ -333,13 +408,14 @@ pub fn run_member<
     outside: Outside<I, M, R, O>,
     alarms: &[I::Alarm],
     expelled_ends: Option<u64>,
-) -> Result<MemberEnd, Fault>
+) -> EndedMember<D>
     requires { node.entries ≡ [] }
-    ensures { IfOk result (Lived I.tells M.tells M.took M.failures O.Reader.remaining
+    ensures { Lived D.state I.tells M.tells M.took M.failures O.Reader.remaining
         O.Writer.contents expelled_ends
-        (member_of node.base (receiver_of I.came I.failures outside.receiver)
+        (member_of node (receiver_of I.came I.failures outside.receiver)
         (answers outside.ticker.rng) outside.link outside.owed
-        (desk_of outside.desk.joiner outside.desk.conversation outside.desk.others))) }
+        (desk_of outside.desk.joiner outside.desk.conversation outside.desk.others))
+        result.how result.node }
 {
     let mut keeper = Unkept::new();
     run_kept(rt, alloc, node, outside, alarms, expelled_ends, &mut keeper)
@@ -362,24 +438,32 @@ pub fn run_kept<
     alarms: &[I::Alarm],
     expelled_ends: Option<u64>,
     host: &mut H,
-) -> Result<MemberEnd, Fault>
+) -> EndedMember<D>
     requires { node.entries ≡ [] }
-    ensures { IfOk result (LivedBy I.tells M.tells M.took M.failures O.Reader.remaining
+    ensures { LivedBy D.state I.tells M.tells M.took M.failures O.Reader.remaining
         O.Writer.contents H.relists expelled_ends
-        (member_of node.base (receiver_of I.came I.failures outside.receiver)
+        (member_of node (receiver_of I.came I.failures outside.receiver)
         (answers outside.ticker.rng) outside.link outside.owed
-        (desk_of outside.desk.joiner outside.desk.conversation outside.desk.others))) }
+        (desk_of outside.desk.joiner outside.desk.conversation outside.desk.others))
+        result.how result.node }
 {
     let mut left = (node, outside);
-    let mut expulsion = Expulsion::new(expelled_ends);
-    let mut famine = Famine::new();
+    let mut grace = Grace::new(expelled_ends);
     for _ in rt.forever() {
-        let mut era = one_era(rt, alloc, left.0, left.1, alarms, host)?;
-        famine.wait(rt, era.had_threads)?;
+        let mut era = match one_era(rt, alloc, left.0, left.1, alarms, host) {
+            Ok(era) => era,
+            Err(CutEra { node, why }) => return EndedMember {
+                node,
+                how: Err(why),
+            },
+        };
         let phase = era.node.status().phase;
-        let is_over = is_wait_over(&mut expulsion, &mut era.outside.beat, phase);
-        if let Some(end) = member_end(era.ends.control, phase, is_over) {
-            return Ok(end);
+        let how = grace.end_after(rt, era.ends, era.had_threads, phase, &mut era.outside.beat);
+        if let Some(how) = how {
+            return EndedMember {
+                node: era.node,
+                how,
+            };
         }
         let stored = era.node.peers();
         ask_host(&mut era.outside.desk, era.ends.control, &stored, host);

@@ -70,6 +70,8 @@ pub struct Conversation<Rd: Read + Drop, Wr: Write + Drop> {
     due: Option<LineEnd>,
     /// Whether nothing had come in its last turn.
     is_silent: bool,
+    /// Whether what its line `reload` asks for is being made ready.
+    is_prepared_for: bool,
 }
 
 /// Writes the status. Says why it could not, if there is no reading of it.
@@ -186,6 +188,7 @@ impl<Rd: Read + Drop, Wr: Write + Drop> Conversation<Rd, Wr> {
             answers: AnswerWriter::new(writer),
             due: None,
             is_silent: false,
+            is_prepared_for: false,
         }
     }
 
@@ -214,20 +217,31 @@ impl<Rd: Read + Drop, Wr: Write + Drop> Conversation<Rd, Wr> {
     {
         if self.answers.has_written() {
             self.answers.put(answer);
+            self.is_prepared_for = false;
         }
     }
 
+    /// Whether what its line `reload` asks for is being made ready, as `hold` was told. Its answer ends that.
+    pub fn is_prepared_for(&self) -> bool
+        ensures { result ≡ self.now.is_prepared_for }
+    {
+        self.is_prepared_for
+    }
+
     /// It has ended by the line `reload`, for which nothing is ready yet: it ends so again in a later turn, and is silent until then.
-    pub fn hold(&mut self)
+    /// Whether that is being made ready, or waits for what another conversation asked for, is kept beside it.
+    pub fn hold(&mut self, is_prepared_for: bool)
         ensures due { view_of Rd.remaining Wr.contents self.new
             ≡ record (view_of Rd.remaining Wr.contents self.old) {
               due = Some line_end.Reloading;
               waits = true;
             } }
         ensures silent { self.new.is_silent ≡ true }
+        ensures prepared { self.new.is_prepared_for ≡ is_prepared_for }
     {
         self.due = Some(LineEnd::Reloading);
         self.is_silent = true;
+        self.is_prepared_for = is_prepared_for;
     }
 
     /// Hears the next line, and has its answer to write.

@@ -1,6 +1,7 @@
 //! A recording by the tables of its page, written by hand. What is refused, and at which line, is in `tests/replayed`.
 
 use crate::same::{holds, holds_at, same};
+use swim_explain::stories_name_causes;
 use swim_member::Event;
 use swim_node::Outcome;
 use swim_replay::{RecordingReason, play_recording};
@@ -61,4 +62,9 @@ fn a_text_without_the_first_line_is_no_recording(rt: HostRuntime) {
         };
         holds_at(&rt, &text, is_refused);
     }
+}
+
+#[test]
+fn the_law_of_stories_holds() {
+    stories_name_causes();
 }

@@ -78,7 +78,7 @@ where
     };
     let alarms = [datagrams, connections];
     let ended = run_member(logged, alloc, node, outside, &alarms, None);
-    ended.map_err(|_| "a worker")?;
+    ended.how.map_err(|_| "a worker")?;
     Ok(())
 }
 

@@ -5,45 +5,52 @@ use Rattle.swim_shared.specs.Taken.{taken_of}
 use Rattle.swim_serve.specs.Eras.{SendsBy}
 use Rattle.swim_serve.proofs.Eras.{served, sends}
 use Rattle.swim_serve.proofs.Fitting.{all_fit}
+use Rattle.swim_serve.proofs.Lives.{stays_in, stays_same}
 use Rattle.swim_serve.proofs.era.run_era.Goals as goal
+
+-- the node is that of the parts
+pub returns-clause-node : goal.returns-clause-node
+returns-clause-node g c =
+    let closed = c.close_sent-closed.ensures in
+    stays_in g.D.Disk.state c.args.parts.node _ g.N.Name.base g.N.Name.disk g.N.Name.owner g.N.Name.first c.requires.base c.requires.disk c.requires.owner c.requires.first closed.legal closed.base closed.disk closed.owner closed.first
 
 pub returns-clause-receiver : goal.returns-clause-receiver
 returns-clause-receiver g c =
-    let passes = c.in_ok-back.back.passes in
+    let passes = c.in-Ok-work.back.passes in
     let journal = c.close_sent-closed.result.node.entries in
-    let all : c.in_ok-passes.passes.items ≡ passes.receiver ∷ passes.ticker ∷ passes.sender ∷ passes.control ∷ [] = search rules in
+    let all : c.in-Some.passes.items ≡ passes.receiver ∷ passes.ticker ∷ passes.sender ∷ passes.control ∷ [] = search rules in
     let none : c.close_sent-closed.result.odd ≡ 0 = search (rules, tests) in
-    let sum : c.close_sent-closed.result.odd ≡ odd_of journal c.in_ok-passes.passes.items [] = search rules in
-    served _ _ _ _ _ _ _ journal c.in_ok-back.ensures.receiver (all_fit journal passes.receiver passes.ticker passes.sender passes.control c.in_ok-passes.passes.items c.close_sent-closed.result.odd all sum c.close_sent-closed.ensures.passes none).first
+    let sum : c.close_sent-closed.result.odd ≡ odd_of journal c.in-Some.passes.items [] = search rules in
+    served _ _ _ _ _ _ _ journal c.in-Ok-work.ensures.receiver (all_fit journal passes.receiver passes.ticker passes.sender passes.control c.in-Some.passes.items c.close_sent-closed.result.odd all sum c.close_sent-closed.ensures.passes none).first
 
 pub returns-clause-ticker : goal.returns-clause-ticker
 returns-clause-ticker g c =
-    let passes = c.in_ok-back.back.passes in
+    let passes = c.in-Ok-work.back.passes in
     let journal = c.close_sent-closed.result.node.entries in
-    let all : c.in_ok-passes.passes.items ≡ passes.receiver ∷ passes.ticker ∷ passes.sender ∷ passes.control ∷ [] = search rules in
+    let all : c.in-Some.passes.items ≡ passes.receiver ∷ passes.ticker ∷ passes.sender ∷ passes.control ∷ [] = search rules in
     let none : c.close_sent-closed.result.odd ≡ 0 = search (rules, tests) in
-    let sum : c.close_sent-closed.result.odd ≡ odd_of journal c.in_ok-passes.passes.items [] = search rules in
-    served _ _ _ _ _ _ _ journal c.in_ok-back.ensures.ticker (all_fit journal passes.receiver passes.ticker passes.sender passes.control c.in_ok-passes.passes.items c.close_sent-closed.result.odd all sum c.close_sent-closed.ensures.passes none).second
+    let sum : c.close_sent-closed.result.odd ≡ odd_of journal c.in-Some.passes.items [] = search rules in
+    served _ _ _ _ _ _ _ journal c.in-Ok-work.ensures.ticker (all_fit journal passes.receiver passes.ticker passes.sender passes.control c.in-Some.passes.items c.close_sent-closed.result.odd all sum c.close_sent-closed.ensures.passes none).second
 
 pub returns-clause-control : goal.returns-clause-control
 returns-clause-control g c =
-    let passes = c.in_ok-back.back.passes in
+    let passes = c.in-Ok-work.back.passes in
     let journal = c.close_sent-closed.result.node.entries in
-    let all : c.in_ok-passes.passes.items ≡ passes.receiver ∷ passes.ticker ∷ passes.sender ∷ passes.control ∷ [] = search rules in
+    let all : c.in-Some.passes.items ≡ passes.receiver ∷ passes.ticker ∷ passes.sender ∷ passes.control ∷ [] = search rules in
     let none : c.close_sent-closed.result.odd ≡ 0 = search (rules, tests) in
-    let sum : c.close_sent-closed.result.odd ≡ odd_of journal c.in_ok-passes.passes.items [] = search rules in
-    served _ _ _ _ _ _ _ journal c.in_ok-back.ensures.control (all_fit journal passes.receiver passes.ticker passes.sender passes.control c.in_ok-passes.passes.items c.close_sent-closed.result.odd all sum c.close_sent-closed.ensures.passes none).fourth
+    let sum : c.close_sent-closed.result.odd ≡ odd_of journal c.in-Some.passes.items [] = search rules in
+    served _ _ _ _ _ _ _ journal c.in-Ok-work.ensures.control (all_fit journal passes.receiver passes.ticker passes.sender passes.control c.in-Some.passes.items c.close_sent-closed.result.odd all sum c.close_sent-closed.ensures.passes none).fourth
 
 pub returns-clause-sender : goal.returns-clause-sender
 returns-clause-sender g c =
-    let passes = c.in_ok-back.back.passes in
+    let passes = c.in-Ok-work.back.passes in
     let journal = c.close_sent-closed.result.node.entries in
-    let all : c.in_ok-passes.passes.items ≡ passes.receiver ∷ passes.ticker ∷ passes.sender ∷ passes.control ∷ [] = search rules in
+    let all : c.in-Some.passes.items ≡ passes.receiver ∷ passes.ticker ∷ passes.sender ∷ passes.control ∷ [] = search rules in
     let none : c.close_sent-closed.result.odd ≡ 0 = search (rules, tests) in
-    let sum : c.close_sent-closed.result.odd ≡ odd_of journal c.in_ok-passes.passes.items [] = search rules in
-    let link = c.in_ok-back.back.outside.link in
+    let sum : c.close_sent-closed.result.odd ≡ odd_of journal c.in-Some.passes.items [] = search rules in
+    let link = c.in-Ok-work.back.outside.link in
     let last = c.close_sent-closed.new.link in
     let handed = subst (λ s. Handed g.M.Link.tells g.M.Link.took g.M.Link.failures s.got (taken_of journal) link last) c.into_inner.ensures.sender c.close_sent-closed.ensures.handed in
     let owes = subst (λ s. c.close_sent-closed.result.owed ≡ owed_after s.owed (g.M.Link.failures link) (g.M.Link.failures last)) c.into_inner.ensures.sender c.close_sent-closed.ensures.owed in
-    let by = subst (λ r. SendsBy g.M.Link.tells g.M.Link.took g.M.Link.failures g.N.Name.base c.args.outside.owed r c.args.outside.link c.in_ok-back.back.ring link passes.sender c.in_ok-back.back.ends.sender) c.new-ring.ensures c.in_ok-back.ensures.sender in
-    sends g.M.Link.tells g.M.Link.took g.M.Link.failures _ _ _ _ _ link last _ _ _ journal by (all_fit journal passes.receiver passes.ticker passes.sender passes.control c.in_ok-passes.passes.items c.close_sent-closed.result.odd all sum c.close_sent-closed.ensures.passes none).third handed owes
+    let by = subst (λ r. SendsBy g.M.Link.tells g.M.Link.took g.M.Link.failures g.N.Name.base c.args.outside.owed r c.args.outside.link c.in-Ok-work.back.ring link passes.sender c.in-Ok-work.back.ends.sender) c.new-ring.ensures c.in-Ok-work.ensures.sender in
+    sends g.M.Link.tells g.M.Link.took g.M.Link.failures _ _ _ _ _ link last _ _ _ journal by (all_fit journal passes.receiver passes.ticker passes.sender passes.control c.in-Some.passes.items c.close_sent-closed.result.odd all sum c.close_sent-closed.ensures.passes none).third handed owes

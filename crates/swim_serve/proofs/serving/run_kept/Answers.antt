@@ -1,31 +1,54 @@
-use Rattle.std.proofs.Common.{rules, refl, subst, ◌∙◌}
-use Rattle.std.specs.Prelude.{IsSome}
-use Rattle.swim_serve.specs.Members.{Here, Next}
+use Rattle.std.proofs.Common.{rules, refl, subst, ◌≡◌, ◌∙◌, [], inl, inr}
+use Rattle.std.specs.Prelude.{IfOk}
+use Rattle.swim_serve.specs.Members.{EndsMember, Here, Next}
+use Rattle.swim_serve.proofs.Lives.{cut_live, whole_live}
 use Rattle.swim_serve.proofs.serving.run_kept.Goals as goal
 
 pub loop-init : goal.loop-init
-loop-init g c = record { entries = c.requires; wait = search rules; known = search rules; eras = Here _ }
+loop-init g c = record { entries = c.requires; wait = c.new-grace.ensures.wait; known = search rules; eras = ([], Here _) }
 
 pub loop-preserved : goal.loop-preserved
 loop-preserved g c =
     let before = c.loop.invariant in
     record {
-      entries = c.in_ok-era.ensures.entries;
-      wait = c.is_wait_over-is_over.ensures.wait ∙ before.wait;
-      known = c.is_wait_over-is_over.ensures.known;
-      eras = Next _ _ _ _ c.in_ok-era.era.ends before.eras c.in_ok-era.ensures.era (record { desk = c.ask_host.ensures.hosted; rest = refl });
+      entries = c.in-Ok.ensures.entries;
+      wait = c.end_after-how.ensures.wait ∙ before.wait;
+      known = c.end_after-how.ensures.known;
+      eras = (_, Next _ _ _ _ _ c.in-Ok.era.ends _ before.eras.1 c.in-Ok.ensures.era.1 (record { desk = c.ask_host.ensures.hosted; rest = refl }));
     }
 
-pub returns-in-Some-member_end : goal.returns-in-Some-member_end
-returns-in-Some-member_end g c =
+-- an era was cut short
+pub returns-in-Err : goal.returns-in-Err
+returns-in-Err g c =
     let before = c.loop.invariant in
+    let cut = c.in-Err.ensures.cut in
+    let life = cut_live g.D.Disk.state g.I.Inbound.tells g.M.Link.tells g.M.Link.took g.M.Link.failures g.O.Reader.Read.remaining g.O.Writer.Write.contents g.H.Host.relists _ before.eras.0 _ c.in-Err.field-0.node before.eras.1 cut.1 in
+    record { before = _; eras = before.eras.0; done = before.eras.1; last = inr (record { failed = cut.0; not_ended = tt; stays = cut.1 }, life) }
+
+-- or it was the last one
+pub returns-in-Some-how : goal.returns-in-Some-how
+returns-in-Some-how g c =
+    let before = c.loop.invariant in
+    let era = c.in-Ok.ensures.era in
+    let node = c.in-Ok.era.node in
+    let how = c.in-Some-how.how in
+    let phase : c.status-phase.result.phase ≡ node.base.state.phase = search rules in
+    let ended = subst (λ w. IfOk how (EndsMember w c.in-Ok.era.ends c.status-phase.result.phase)) before.wait c.in-Some-how.ensures.ended in
+    let life = whole_live g.D.Disk.state g.I.Inbound.tells g.M.Link.tells g.M.Link.took g.M.Link.failures g.O.Reader.Read.remaining g.O.Writer.Write.contents g.H.Host.relists _ before.eras.0 _ era.0 node before.eras.1 era.1.life in
     record {
       before = _;
-      last = _;
-      ends = c.in_ok-era.era.ends;
-      eras = before.eras;
-      era = c.in_ok-era.ensures.era;
-      is_over = c.is_wait_over-is_over.result;
-      waited = λ over. subst IsSome before.wait (c.is_wait_over-is_over.ensures.ends over);
-      end_is = search rules;
+      eras = before.eras.0;
+      done = before.eras.1;
+      last = inl (
+        era.0,
+        record {
+          last = _;
+          ends = c.in-Ok.era.ends;
+          served = era.1;
+          left_is = refl;
+          ended = subst (λ p. IfOk how (EndsMember c.args.expelled_ends c.in-Ok.era.ends p)) phase ended;
+          failed = c.in-Some-how.ensures.failed;
+        },
+        life,
+      );
     }
