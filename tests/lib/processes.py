@@ -1,6 +1,8 @@
 """What a test starts: the program, with a folder for its files. In the end no process and no file of it is left."""
 
+import os
 import re
+import signal
 import subprocess
 from contextlib import contextmanager, suppress
 from types import SimpleNamespace
@@ -44,6 +46,15 @@ def start(command, **more):
     return process
 
 
+def kill(process):
+    """Kills a process; one that leads a group of its own with all that it has started there."""
+    with suppress(ProcessLookupError):  # it has ended
+        if os.getpgid(process.pid) == process.pid:
+            os.killpg(process.pid, signal.SIGKILL)
+        else:
+            process.kill()
+
+
 def as_word(word):
     return word if isinstance(word, bytes) else str(word)
 
@@ -55,7 +66,7 @@ def run_to_its_end(command, input=None, seconds=LONGEST, **more):
         try:
             out, err = process.communicate(input, seconds)
         except BaseException:
-            process.kill()
+            kill(process)
             raise
         with suppress(ValueError):  # it is being ended
             STARTED.remove(process)
@@ -140,5 +151,5 @@ def end_started():
     while STARTED:
         process = STARTED.pop()
         if process.poll() is None:
-            process.kill()
+            kill(process)
             process.wait()

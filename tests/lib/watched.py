@@ -43,7 +43,7 @@ class Watched:
             if kind == SUSPECT and self.time - since >= self.times.suspect:
                 self.rows[who] = [CONFIRM, number, self.time]
                 if who == self.it:
-                    self.tell(f"confirm, number {number}: nothing refuted the suspicion of tick {since}")
+                    self.tell(f"confirm, number {number}, expired: nothing refuted the suspicion of tick {since}")
         for who in sorted(self.rows):
             kind, number, since = self.rows[who]
             if kind == CONFIRM and self.time - since >= self.times.forget:
@@ -61,7 +61,7 @@ class Watched:
             number = self.rows[who][1]
             self.rows[who] = [SUSPECT, number, self.time]
             if who == self.it:
-                self.tell(f"suspect, number {number}, by the probe that nobody answered, sequence {seq}")
+                self.tell(f"suspect, number {number}, accused: nobody answered the probe, sequence {seq}")
 
     def begin_probe(self, is_lost):
         self.listed = [who for who in self.listed if who in self.eligible()] or self.eligible()
