@@ -106,9 +106,9 @@ lives-rise state owner (life ∷ lives) h =
     (below-all state owner (ceiling_of life) (numbers_of life) lives (life-most state owner life h.0) (firsts state owner life lives h) h.2, lives-rise state owner lives h.2)
 
 -- an opening that goes above what the disk holds goes above all that the last life said
-pub begins_above : {D : Type 0} (state : D → DiskState) (owner : Owner) (opened : D) (first : ℕ) → IsSettled (state opened) → ((b : ℕ) → Held owner (state opened) b → b < first)
+pub begins_above : {D : Type 0} (state : D → DiskState) (owner : Owner) (opened : D) (first : ℕ) → ((b : ℕ) → Held owner (state opened) b → b < first)
     → BeginsAbove state owner opened first
-begins_above state owner opened first settled above = λ last lived left.
+begins_above {D} state owner opened first above = λ last lived reached.
     let g = ceiling_of last in
-    below-bound g first (numbers_of last) (first ∷ []) (above g (held-settled owner g (state opened) settled (lived.held (state opened).content left)))
+    below-bound g first (numbers_of last) (first ∷ []) (above g (held-reached D state owner g last.left opened reached lived.held))
     (life-most state owner last lived) (omega arith, tt {0})

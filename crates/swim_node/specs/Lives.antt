@@ -149,12 +149,12 @@ abbrev pub AreBelow : List ℕ → List ℕ → Type 0
 AreBelow [] ns = Unit {0}
 AreBelow (m ∷ ms) ns = AreAtLeast (m + 1) ns × AreBelow ms ns
 
--- A life that begins with this number on this disk says none that the last one said, if the disk
--- kept what it had synced: if it has what a crash now may have left of the disk of that one.
+-- A life that begins with this number on this disk says none that the last one said, whatever
+-- became of the disk since that one left it.
 abbrev pub BeginsAbove : {D : Type 0} → (D → DiskState) → Owner → D → ℕ → Type 0
 BeginsAbove {D} state owner opened first =
     (last : Life D) → IsLived state owner last
-    → (state last.left).images (state opened).content
+    → Reached D state owner (ceiling_of last) last.left opened
     → AreBelow (numbers_of last) (first ∷ [])
 
 -- lives of one owner, each opened after the one before

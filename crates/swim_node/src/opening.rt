@@ -1,7 +1,7 @@
 //! Opening a node.
 
 ghost use Rattle.std.specs.Prelude.{◌≡◌, ◌≢◌, ◌↔◌, ◌⊎◌, ◌+◌, ◌<◌, ◌≤◌, ◌^◌, [], false, None, Some, ℕ, IfOk, IfErr};
-ghost use Rattle.swim_disk.specs.Disk.{IsSettled, Rests};
+ghost use Rattle.swim_disk.specs.Disk.{Rests};
 ghost use Rattle.swim_member.specs.Checks.{AreSound};
 ghost use Rattle.swim_state.specs.Alone.{IsBeside, IsEarlier, LeavesAlone, target_in};
 ghost use Rattle.swim_state.specs.File.{floor, floor_peers, version_in};
@@ -105,7 +105,7 @@ impl<D: Disk> Node<D> {
             (D.state disk) (D.state (disk_of result)) }
 
         // The life begins.
-        ensures begins { D.keeps_model → IsSettled (D.state disk)
+        ensures begins { D.keeps_model
             → IfOk result (λ n. BeginsAbove D.state n.owner disk n.first) }
         ensures living { D.keeps_model
             → IfOk result (λ n. IsLiving D.state n.owner (life_of settings limit disk [] n)) }

@@ -1,7 +1,6 @@
 //! The opening of a member on its state file.
 
 ghost use Rattle.std.specs.Prelude.{◌≡◌, ◌≢◌, ◌↔◌, ◌⊎◌, ◌<◌, ℕ, [], None, Some, IfErr, IfOk};
-ghost use Rattle.swim_disk.specs.Disk.{IsSettled};
 ghost use Rattle.swim_disk.specs.File.{FileView, file_state};
 ghost use Rattle.swim_start.specs.WatchedDisk.{disk_below, watched_state};
 ghost use Rattle.swim_start.specs.declared.watched_disk.WatchedDisk.{WatchedDisk};
@@ -34,7 +33,6 @@ pub fn open<W: Watch + Drop>(
     settings: Settings,
     limit: u32,
 ) -> Result<FileNode<W>, Unopened<W>>
-    requires settled { IsSettled (file_state disk) }
     requires sound { AreSound settings }
     ensures entries { IfOk result (λ node. node.entries ≡ []) }
 
@@ -49,8 +47,8 @@ pub fn open<W: Watch + Drop>(
     ensures none { IfOk result
         (λ _. fault_of (owner_of settings) (file_state disk).content ≡ None) }
 
-    // A life has begun on what the file had when it was loaded. Its first number is above all that the life before said,
-    // if the file kept what it had synced: if a crash may have left that of it.
+    // A life has begun on what the file had when it was loaded. Its first number is above all that the life before said, whatever
+    // became of the file since: kills, crashes, calls that were cut short, refused starts.
     ensures begins { IfOk result (λ node. (opened : WatchedDisk FileView W)
         × (disk_below opened ≡ disk)
         × BeginsAbove (watched_state file_state) node.owner opened node.first

@@ -1,6 +1,5 @@
-use Rattle.std.proofs.Common.{◌≡◌, ℕ, sym, subst}
-use Rattle.swim_disk.specs.Disk.{IsSettled}
-use Rattle.swim_disk.specs.File.{FileView, file_state}
+use Rattle.std.proofs.Common.{◌≡◌, ℕ}
+use Rattle.swim_disk.specs.File.{file_state}
 use Rattle.swim_node.specs.Node.{owner_of}
 use Rattle.swim_start.specs.WatchedDisk.{disk_below, watched_state}
 use Rattle.swim_start.specs.declared.watched_disk.WatchedDisk.{WatchedDisk}
@@ -10,9 +9,7 @@ use Rattle.swim_start.proofs.opening.open.Goals as goal
 
 pub returns-clause-begins : goal.returns-clause-begins
 returns-clause-begins g c =
-    let P : FileView → Type 0 = λ (d : FileView). IsSettled (file_state d) in
-    let settled : P c.new.result.inner = subst P (sym c.new.ensures.inner) c.requires.settled in
-    both c.open.result _ _ _ (c.open.ensures.begins tt settled) (c.open.ensures.living tt) (λ node begins living. (c.new.result, c.new.ensures.inner, begins, living))
+    both c.open.result _ _ _ (c.open.ensures.begins tt) (c.open.ensures.living tt) (λ node begins living. (c.new.result, c.new.ensures.inner, begins, living))
 
 pub returns-clause-refused : goal.returns-clause-refused
 returns-clause-refused g c =

@@ -11,9 +11,9 @@ returns-in-Err-clause-from_held g c keeps b held fault is =
 
 -- the first number is one above the floor of what the disk has, and nothing else is left by a crash
 pub returns-in-Ok-clause-begins : goal.returns-in-Ok-clause-begins
-returns-in-Ok-clause-begins g c keeps settled =
+returns-in-Ok-clause-begins g c keeps =
     let disk = g.D.Disk.state c.args.disk in
-    begins_above g.D.Disk.state c.in-Ok.store.owner c.args.disk c.ceiling-first.result settled
+    begins_above g.D.Disk.state c.in-Ok.store.owner c.args.disk c.ceiling-first.result
     (λ b held. let covers = (held disk.content disk.reads).covered in omega (arith, covers, c.in-Ok.ensures.first keeps, c.ceiling-first.ensures.value))
 
 pub returns-in-Ok-clause-above : goal.returns-in-Ok-clause-above
