@@ -8,12 +8,12 @@ use Rattle.swim_member.specs.declared.event.Event.{Event}
 use Rattle.swim_member.specs.declared.event.Event.TheVariants.{Tick}
 use Rattle.swim_node.specs.declared.entry.Entry.{Entry}
 use Rattle.swim_node.specs.declared.entry.Reply.{Reply}
-use Rattle.swim_node.specs.History.{IsLegal, state_after, steps}
-use Rattle.swim_node.specs.Lives.{Era, IsLiving, life_of}
+use Rattle.swim_node.specs.History.{IsLegal, granted_of, state_after, steps}
+use Rattle.swim_node.specs.Lives.{Era, IsLiving, MayEnd, life_of}
 use Rattle.swim_node.specs.Node.{NodeView, next_base}
 use Rattle.swim_node.specs.Peers.{known_peers}
 use Rattle.swim_node.specs.Sending.{taken_by}
-use Rattle.swim_state.specs.Held.{HasPeers}
+use Rattle.swim_state.specs.Held.{Covers, HasPeers, Through}
 use Rattle.swim_library.specs.Outbox.{waiting_in}
 use Rattle.swim_library.specs.Shapes.{endpoint_as, row_as}
 use Rattle.swim_library.specs.declared.running.Running.{Running}
@@ -26,6 +26,13 @@ LivesOn old new = (settings : _) → (limit : ℕ) → (opened : FileView) → (
     → IsLiving file_state old.owner (life_of settings limit opened eras old)
     → (more : List Era)
     × IsLiving file_state new.owner (life_of settings limit opened (eras ++ more) new)
+
+-- no moment of the call left less on the disk, after a crash, than had been granted before it, and
+-- as it is now the life may end: a kill here leaves one that was lived
+pub record KeepsHeld (old new : NodeView FileView) : Type 0 where
+  pub moments : Through (Covers old.owner (granted_of old.base old.entries))
+      (file_state old.disk) (file_state new.disk)
+  pub ends : MayEnd file_state new
 
 -- the entry is the last of the era, or it filled it, and the next era began
 abbrev pub GoesInto : NodeView FileView → NodeView FileView → Entry → Type 0
@@ -44,6 +51,7 @@ pub record AddsTo (old new : Running) (event : Event) (reply : Reply) : Type 0 w
   pub owner : new.node.owner ≡ old.node.owner
   pub first : new.node.first ≡ old.node.first
   pub lives : LivesOn old.node new.node
+  pub held : KeepsHeld old.node new.node
 
 -- the event was entered: what it sent is all that waits
 pub record EntersEvent (old new : Running) (event : Event) : Type 0 where
@@ -81,6 +89,7 @@ pub record GoesOnOpen (old new : Running) : Type 0 where
   pub owner : new.node.owner ≡ old.node.owner
   pub first : new.node.first ≡ old.node.first
   pub lives : LivesOn old.node new.node
+  pub held : KeepsHeld old.node new.node
 
 -- the peers that it knows are saved, and a crash leaves them
 pub record SavesPeers (old new : NodeView FileView) : Type 0 where
@@ -89,3 +98,4 @@ pub record SavesPeers (old new : NodeView FileView) : Type 0 where
   pub owner : new.owner ≡ old.owner
   pub first : new.first ≡ old.first
   pub lives : LivesOn old new
+  pub held : KeepsHeld old new

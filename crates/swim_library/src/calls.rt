@@ -7,7 +7,7 @@ ghost use Rattle.swim_library.specs.Shapes.{endpoint_as, note_as, row_as, status
 ghost use Rattle.swim_library.specs.declared.refusal.Refusal.TheVariants as why;
 ghost use Rattle.swim_member.specs.declared.answer.TheConstants.{NOTES_MAX};
 ghost use Rattle.swim_member.specs.declared.event.Event.TheVariants.{Members};
-ghost use Rattle.swim_node.specs.History.{status_of};
+ghost use Rattle.swim_node.specs.History.{granted_of, status_of};
 ghost use Rattle.swim_node.specs.Node.{next_base};
 ghost use Rattle.swim_state.specs.declared.peers.TheConstants.{PEERS_MAX};
 ghost use Rattle.swim_wire.specs.declared.datagram.TheConstants.{UPDATES_MAX};
@@ -60,6 +60,8 @@ fn end_era_of(node: &mut Node<FileDisk>, limit: u32)
     ensures owner { node.new.owner ≡ node.old.owner }
     ensures first { node.new.first ≡ node.old.first }
     ensures disk { node.new.disk ≡ node.old.disk }
+    ensures granted { granted_of node.new.base node.new.entries
+        ≡ granted_of node.old.base node.old.entries }
     ensures lives { LivesOn node.old node.new }
 {
     if node.len() >= limit as usize {
@@ -120,6 +122,8 @@ impl Running {
         // that its journal is legal
         let _ = self.node.journal();
         end_era_of(&mut self.node, self.limit);
+        // that its life may end
+        let _ = self.node.disk();
         Ok(reply)
     }
 
@@ -255,7 +259,10 @@ impl Running {
         ensures goes_on { GoesOnOpen self.old self.new }
     {
         end_era_of(&mut self.node, 1);
-        match self.node.keep_peers() {
+        let kept = self.node.keep_peers();
+        // that its life may end
+        let _ = self.node.disk();
+        match kept {
             Ok(()) => Ok(()),
             Err(fault) => Err(Refusal::Keeping(fault)),
         }

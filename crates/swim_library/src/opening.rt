@@ -71,7 +71,11 @@ fn node_on(
 {
     let disk = disk_of(alloc, fd)?;
     match Node::open(alloc, disk, settings, limit) {
-        Ok(node) => Ok(node),
+        Ok(node) => {
+            // that its life may end
+            let _ = node.disk();
+            Ok(node)
+        }
         Err((_, fault)) => Err(Refusal::Opening(fault)),
     }
 }

@@ -1,5 +1,7 @@
-use Rattle.std.proofs.Common.{◌≡◌, ◌∙◌, ap, subst, ⊎_elim, inl, inr, List, [], ◌∷◌, ◌++◌}
-use Rattle.swim_node.specs.History.{Base, IsLegal}
+use Rattle.std.proofs.Common.{◌≡◌, ◌∙◌, ap, subst, sym, ⊎_elim, inl, inr, List, [], ◌∷◌, ◌++◌}
+use Rattle.swim_disk.specs.File.{FileView, file_state}
+use Rattle.swim_state.specs.Held.{Covers, Through}
+use Rattle.swim_node.specs.History.{Base, IsLegal, granted_of}
 use Rattle.swim_node.specs.Node.{next_base}
 use Rattle.swim_node.specs.declared.entry.Entry.{Entry}
 use Rattle.swim_library.proofs.running.Running.apply.Goals as goal
@@ -34,4 +36,8 @@ returns-clause-added c =
       lives = λ settings limit opened eras lives.
           c.end_era_of.ensures.lives settings limit opened eras
           (c.in-Ok.ensures.living settings limit opened eras lives);
+      held = record {
+        moments = subst (λ (d : FileView). Through (Covers old.owner (granted_of old.base old.entries)) (file_state old.disk) (file_state d)) (sym c.end_era_of.ensures.disk) (c.in-Ok.ensures.moments tt);
+        ends = c.disk.ensures.lived tt;
+      };
     }
