@@ -125,6 +125,7 @@
 //!     let (inbound, link, datagrams) = bound.map_err(|_| "a socket")?;
 //!     let (waits, connections) = Waits::new(rt, alloc).map_err(|_| "waits")?;
 //!     let doors = TcpDoors::new(control, &waits, logged, tick).map_err(|_| "control")?;
+//!     let doors = DoorsAndChores::new(doors, NoChores);
 //!     let node = open(alloc, disk, settings)?;
 //!     let mut key = [0; 32];
 //!     rt.fill_bytes(&mut key).map_err(|_| "a random key")?;
@@ -195,8 +196,9 @@
 //! ```
 //!
 //! What takes the place of the sockets is a type of one's own: an `Inbound` that is `Alarmed` gives datagrams, a `Link` takes them,
-//! and `Doors` give control connections. A check asks that the disk, the inbound and the link may go to another thread: for these
-//! sockets `proofs/tests/over_udp` has the answers, and for a `FileDisk` `proofs/running` of `swim_cli`.
+//! `Doors` give control connections, and `Chores` are what else has to be seen to. A check asks that the disk, the inbound and the link
+//! may go to another thread: for these sockets `proofs/tests/over_udp` has the answers, and for a `FileDisk` `proofs/running` of
+//! `swim_cli`.
 //!
 //! A program names this crate in its line of `crates.txt`, and no other for what stands here.
 #![tactic(auto)]
@@ -224,7 +226,10 @@ pub use swim_node::{
 pub use swim_shared::{CallFault, Closed, ClosedSent, Name, Outbox, Parts, Pass, Shared, Watch};
 
 // The workers of a member that runs, and what they ask of their surroundings.
-pub use swim_serve::{Beat, Desk, EndedMember, Fault, Logs, MemberEnd, Outside, run_member};
+pub use swim_serve::{
+    Beat, Chores, Desk, DoorsAndChores, EndedMember, Fault, Logs, MemberEnd, NoChores, Outside,
+    run_member,
+};
 pub use swim_shell::{
     Alarm, Alarmed, COUNTERS, Caller, ControlEnd, Counter, Counters, Doors, Inbound, Joiner,
     LIST_MAX, Observer, Paces, ReceiveFault, Receiver, Refusal, Ticker, WorkerEnd,

@@ -82,8 +82,4 @@ impl<'a, C: Clock> Doors for TcpDoors<'a, C> {
     fn wait(&mut self) {
         self.waits.wait(self.clock, self.wait);
     }
-
-    fn prepare_reload(&mut self) -> bool {
-        true
-    }
 }

@@ -49,3 +49,14 @@ impl<V: Send + Drop + 'static> Errand<V> {
         self.thread.join(threads)
     }
 }
+
+/// What came of an errand, if there is one and it is done: then there is none any more.
+pub(crate) fn outcome_of<V: Send + Drop + 'static, T: Threads>(
+    errand: &mut Option<Errand<V>>,
+    threads: &T,
+) -> Option<V> {
+    if !errand.as_ref()?.is_done() {
+        return None;
+    }
+    Some(errand.take()?.outcome(threads))
+}

@@ -1,59 +1,35 @@
-//! Doors whose thread watches a file meanwhile.
+//! A look at the state file now and then.
 
 use log::{Log, error};
 use std::fs::File;
 use std::rt::Files;
-use swim_shell::Doors;
 use swim_start::{OwnFile, Watch};
 
-/// Doors that look after each of their waits whether the state file is still the member's own, and say in the log once where it
-/// is not.
+/// Looks whether the state file is still the member's own, and says in the log once where it is not.
 #[derive(Drop)]
-pub(crate) struct WatchedDoors<O, R, W> {
-    doors: O,
+pub(crate) struct FileWatch<R, W> {
     own: OwnFile<R>,
-    rt: W,
+    logged: W,
     has_told: bool,
 }
 
-impl<O, R: Files<File = File> + Copy, W: Log> WatchedDoors<O, R, W> {
-    /// These doors, with a look at this file, and this log.
-    pub(crate) fn new(doors: O, own: OwnFile<R>, rt: W) -> WatchedDoors<O, R, W> {
-        WatchedDoors {
-            doors,
+impl<R: Files<File = File> + Copy, W: Log> FileWatch<R, W> {
+    /// A watch of this file, which says what it sees in this log.
+    pub(crate) fn new(own: OwnFile<R>, logged: W) -> FileWatch<R, W> {
+        FileWatch {
             own,
-            rt,
+            logged,
             has_told: false,
         }
     }
 
     /// Says once that the file is lost.
-    fn look(&mut self) {
+    pub(crate) fn look(&mut self) {
         if self.has_told || self.own.is_own() {
             return;
         }
         self.has_told = true;
         let path = self.own.path();
-        error!(self.rt; "the state file {path} was moved, removed, replaced or cut short: nothing is saved from now on");
-    }
-}
-
-impl<O: Doors, R: Files<File = File> + Copy, W: Log> Doors for WatchedDoors<O, R, W> {
-    type Reader = O::Reader;
-
-    type Writer = O::Writer;
-
-    fn next(&mut self) -> Option<(O::Reader, O::Writer)> {
-        self.look();
-        self.doors.next()
-    }
-
-    fn wait(&mut self) {
-        self.doors.wait();
-        self.look();
-    }
-
-    fn prepare_reload(&mut self) -> bool {
-        self.doors.prepare_reload()
+        error!(self.logged; "the state file {path} was moved, removed, replaced or cut short: nothing is saved from now on");
     }
 }

@@ -1,7 +1,6 @@
-//! Doors whose thread looks after host names meanwhile.
+//! Looking up the hosts of the join list now and then.
 
-use crate::errand::Errand;
-use crate::inside::{Answers, Lines};
+use crate::errand::{Errand, outcome_of};
 use crate::listing::{Listing, Places};
 use crate::lookup::{Found, start_lookup};
 use arrayvec::ArrayVec;
@@ -10,19 +9,14 @@ use std::sync::{Mutex, Wait};
 use std::thread::Threads;
 use std::time::{Clock, Duration, Instant};
 use swim_settings::Place;
-use swim_shell::Doors;
 
 /// From the beginning of one lookup to the next one at least, in seconds.
 const LOOKUP_SECONDS: u64 = 10;
 
-/// The line that ends the present era, so that the joiner gets the addresses that were found.
-const RENEW: &[u8] = b"record\n";
-
-/// Doors that have the hosts which the settings file names looked up now and then, in a thread of its own. Where other addresses are
-/// found, a connection from inside ends the era. A host that is not found is told once in the log, until it is found.
+/// Has the hosts which the settings file names looked up now and then, in a thread of its own. Where other addresses are found, the
+/// era is to end, so that the joiner gets them. A host that is not found is told once in the log, until it is found.
 #[derive(Drop)]
-pub(crate) struct LookingDoors<'a, O, T> {
-    doors: O,
+pub(crate) struct HostLookup<'a, T> {
     rt: HostRuntime,
     logged: &'a T,
     listing: &'a Mutex<Listing>,
@@ -31,27 +25,22 @@ pub(crate) struct LookingDoors<'a, O, T> {
     began: Option<Instant>,
     /// The hosts that were told.
     told: Places,
-    /// Whether addresses were found for which no era ended yet.
-    has_news: bool,
 }
 
-impl<'a, O, T: Threads + Wait + Log + Clock> LookingDoors<'a, O, T> {
-    /// These doors, with the hosts of this list.
+impl<'a, T: Threads + Wait + Log + Clock> HostLookup<'a, T> {
+    /// A lookup of the hosts of this list, none of which was looked up yet.
     pub(crate) fn new(
-        doors: O,
         rt: HostRuntime,
         logged: &'a T,
         listing: &'a Mutex<Listing>,
-    ) -> LookingDoors<'a, O, T> {
-        LookingDoors {
-            doors,
+    ) -> HostLookup<'a, T> {
+        HostLookup {
             rt,
             logged,
             listing,
             lookup: None,
             began: None,
             told: ArrayVec::new(),
-            has_news: false,
         }
     }
 
@@ -108,49 +97,21 @@ impl<'a, O, T: Threads + Wait + Log + Clock> LookingDoors<'a, O, T> {
         self.told = missing;
     }
 
-    /// Takes what a lookup found.
-    fn take(&mut self, found: Found) {
+    /// Takes what a lookup found. It says whether that is news.
+    fn take(&mut self, found: Found) -> bool {
         self.tell_missing(&found);
         let mut listing = self.listing.lock(self.logged);
-        if listing.learn(found.places.as_slice(), found.addresses.as_slice()) {
-            self.has_news = true;
+        listing.learn(found.places.as_slice(), found.addresses.as_slice())
+    }
+
+    /// Looks whether a lookup is done, or the next one is due. It says whether other addresses were found than the joiner has.
+    pub(crate) fn look(&mut self) -> bool {
+        if self.lookup.is_none() {
+            self.start();
         }
-    }
-
-    /// Looks whether a lookup is done, or the next one is due.
-    fn look(&mut self) {
-        match self.lookup.take() {
-            Some(lookup) if lookup.is_done() => {
-                let found = lookup.outcome(self.logged);
-                self.take(found);
-            }
-            Some(lookup) => self.lookup = Some(lookup),
-            None => self.start(),
+        match outcome_of(&mut self.lookup, self.logged) {
+            Some(found) => self.take(found),
+            None => false,
         }
-    }
-}
-
-impl<'a, O: Doors, T: Threads + Wait + Log + Clock> Doors for LookingDoors<'a, O, T> {
-    type Reader = Lines<O::Reader>;
-
-    type Writer = Answers<O::Writer>;
-
-    fn next(&mut self) -> Option<(Lines<O::Reader>, Answers<O::Writer>)> {
-        self.look();
-        if self.has_news {
-            self.has_news = false;
-            return Some((Lines::Inside(RENEW), Answers::Inside));
-        }
-        let (reader, writer) = self.doors.next()?;
-        Some((Lines::Outside(reader), Answers::Outside(writer)))
-    }
-
-    fn wait(&mut self) {
-        self.doors.wait();
-        self.look();
-    }
-
-    fn prepare_reload(&mut self) -> bool {
-        self.doors.prepare_reload()
     }
 }

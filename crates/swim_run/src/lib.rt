@@ -3,17 +3,17 @@
 
 mod ended;
 mod errand;
-mod inside;
+mod file_watch;
+mod host_lookup;
 mod listing;
 mod live_settings;
-mod looking_doors;
 mod lookup;
+mod member_chores;
 mod reading;
-mod reading_doors;
 mod rereading;
 mod running;
+mod settings_reading;
 mod sockets;
 mod state_file;
-mod watched_doors;
 
 pub use running::{run, shown_settings};

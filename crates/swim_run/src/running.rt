@@ -4,15 +4,16 @@ ghost use Rattle.std.specs.Prelude.{◌≡◌, ◌+◌, Some, None, if◌then◌
 ghost use Rattle.swim_settings.specs.Ranges.{AreInRange};
 
 use crate::ended::ended_by;
+use crate::file_watch::FileWatch;
+use crate::host_lookup::HostLookup;
 use crate::listing::Listing;
 use crate::live_settings::{LiveSettings, log_from};
-use crate::looking_doors::LookingDoors;
+use crate::member_chores::MemberChores;
 use crate::reading::settings_at;
-use crate::reading_doors::ReadingDoors;
 use crate::rereading::Read;
+use crate::settings_reading::SettingsReading;
 use crate::sockets::{Sockets, waits};
 use crate::state_file::{StateFile, open_node};
-use crate::watched_doors::WatchedDoors;
 use log::{Log, info};
 use std::fs::File;
 use std::io;
@@ -22,7 +23,7 @@ use std::thread::Threads;
 use std::time::{Clock, Duration};
 use swim_ending::Ending;
 use swim_log::LogLevel;
-use swim_serve::{Beat, Desk, Logs, Outside, run_kept};
+use swim_serve::{Beat, Desk, DoorsAndChores, Logs, Outside, run_kept};
 use swim_settings::{RunSettings, show_settings};
 use swim_shell::{Joiner, Receiver, Ticker};
 use swim_start::{generators, key_of};
@@ -94,9 +95,12 @@ fn live<'a, T: Threads + Wait + Log + Clock + Send + Sync + Copy + Drop>(
         joins.paces,
         draws,
     );
-    let doors = LookingDoors::new(sockets.doors, *rt, logged, listing);
-    let doors = WatchedDoors::new(doors, held.own, *logged);
-    let doors = ReadingDoors::new(doors, *rt, logged, config, reread);
+    let chores = MemberChores {
+        file: FileWatch::new(held.own, *logged),
+        hosts: HostLookup::new(*rt, logged, listing),
+        settings: SettingsReading::new(*rt, logged, config, reread),
+    };
+    let doors = DoorsAndChores::new(sockets.doors, chores);
     let desk = Desk::new(rt.alloc(), *logged, joiner, doors).map_err(|_| Ending::Memory)?;
     let outside = Outside {
         receiver: Receiver::new(sockets.inbound),

@@ -1,12 +1,11 @@
-//! Doors that have the settings file read again.
+//! Reading the settings file again, beside the member.
 
-use crate::errand::Errand;
+use crate::errand::{Errand, outcome_of};
 use crate::reading::checked_at;
 use crate::rereading::{Read, start_reading};
 use std::sync::{Mutex, Wait};
 use std::thread::{self, Threads};
 use std::time::{Clock, Duration};
-use swim_shell::Doors;
 
 /// How often it is looked at once whether a file is read, which most files are by then.
 const LOOKS: u32 = 20;
@@ -14,11 +13,10 @@ const LOOKS: u32 = 20;
 /// From one of these looks to the next, in milliseconds.
 const LOOK_MILLIS: u64 = 1;
 
-/// Doors that have the settings file at this path read in a thread of its own once the line `reload` was heard: a large file, or a slow
-/// disk, holds up nothing but the answer to that line.
+/// Has the settings file at this path read in a thread of its own once the line `reload` was heard: a large file, or a slow disk, holds
+/// up nothing but the answer to that line.
 #[derive(Drop)]
-pub(crate) struct ReadingDoors<'a, O, T> {
-    doors: O,
+pub(crate) struct SettingsReading<'a, T> {
     rt: HostRuntime,
     logged: &'a T,
     config: &'a str,
@@ -26,17 +24,15 @@ pub(crate) struct ReadingDoors<'a, O, T> {
     reading: Option<Errand<Read>>,
 }
 
-impl<'a, O, T: Threads + Wait + Clock> ReadingDoors<'a, O, T> {
-    /// These doors, which put what is read there.
+impl<'a, T: Threads + Wait + Clock> SettingsReading<'a, T> {
+    /// A reading of this file, which puts what is read there.
     pub(crate) fn new(
-        doors: O,
         rt: HostRuntime,
         logged: &'a T,
         config: &'a str,
         reread: &'a Mutex<Option<Read>>,
-    ) -> ReadingDoors<'a, O, T> {
-        ReadingDoors {
-            doors,
+    ) -> SettingsReading<'a, T> {
+        SettingsReading {
             rt,
             logged,
             config,
@@ -75,32 +71,18 @@ impl<'a, O, T: Threads + Wait + Clock> ReadingDoors<'a, O, T> {
         }
         false
     }
-}
 
-impl<'a, O: Doors, T: Threads + Wait + Clock> Doors for ReadingDoors<'a, O, T> {
-    type Reader = O::Reader;
-
-    type Writer = O::Writer;
-
-    fn next(&mut self) -> Option<(O::Reader, O::Writer)> {
-        self.doors.next()
-    }
-
-    fn wait(&mut self) {
-        self.doors.wait();
-    }
-
-    fn prepare_reload(&mut self) -> bool {
-        match self.reading.take() {
-            Some(reading) if reading.is_done() => {
-                self.put(reading.outcome(self.logged));
+    /// Has the file read, and says whether it is: then what was read is there to be taken.
+    pub(crate) fn prepare(&mut self) -> bool {
+        if self.reading.is_none() {
+            return self.begin();
+        }
+        match outcome_of(&mut self.reading, self.logged) {
+            Some(read) => {
+                self.put(read);
                 true
             }
-            Some(reading) => {
-                self.reading = Some(reading);
-                false
-            }
-            None => self.begin(),
+            None => false,
         }
     }
 }

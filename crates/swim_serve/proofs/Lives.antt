@@ -5,10 +5,15 @@ use Rattle.std.specs.Prelude.{Bool, true, false, Option, Some, None, is_some}
 use Rattle.rand_core.specs.Stream.{Stream}
 use Rattle.swim_disk.specs.Disk.{DiskState}
 use Rattle.swim_node.specs.declared.entry.Entry.{Entry}
-use Rattle.swim_node.specs.History.{Base, IsLegal}
+use Rattle.swim_state.specs.declared.owner.Owner.{Owner}
+use Rattle.swim_state.specs.Held.{Covers, Held, Through}
+use Rattle.swim_node.specs.History.{Base, IsLegal, granted_of}
 use Rattle.swim_node.specs.Lives.{EndsEra, Era, GoesOn, IsLiving, IsRaised, era_of, life_of}
 use Rattle.swim_node.specs.Node.{NodeView, next_base}
+use Rattle.swim_node.specs.Owns.{owns, AreAtMost}
 use Rattle.swim_node.proofs.Living.{goes_raised}
+use Rattle.swim_shared.specs.Moments.{CoversEra}
+use Rattle.swim_shared.proofs.Moments.{begins_node, goes_on}
 use Rattle.swim_shell.specs.declared.conversation.Conversation.{Conversation}
 use Rattle.swim_shell.specs.Inbounds.{ReceiverView}
 use Rattle.swim_serve.specs.declared.era.EraEnds.{EraEnds}
@@ -23,34 +28,47 @@ use Rattle.swim_serve.specs.Works.{Received, Ticked}
 pub raised : (start base : Base) → base ≡ start → IsRaised start base
 raised start base is = let same : IsRaised start start = record { same = refl; grows = omega arith } in subst (IsRaised start) (sym is) same
 
-module _ {D : Type 0} (state : D → DiskState) where
+module _ {D : Type 0} (keeps : Type 0) (state : D → DiskState) where
   -- after some calls of an era it is the life that it was
-  pub same_life : (a b : NodeView D) → StaysIn state a b → GoesOn state a b
+  pub same_life : (a b : NodeView D) → StaysIn keeps state a b → GoesOn state a b
   same_life a b stays =
       goes_raised state a b (raised a.base b.base stays.base) stays.owner stays.first
 
   -- a node of the same name as these parts, and one of which nothing was called
-  pub stays_in : (a n : NodeView D) (base : Base) (name : _) (owner : _) (first : ℕ) → a.base ≡ base → (state a.disk).name ≡ name → a.owner ≡ owner → a.first ≡ first → IsLegal base n.entries → n.base ≡ base → (state n.disk).name ≡ name → n.owner ≡ owner → n.first ≡ first → StaysIn state a n
-  stays_in a n base name owner first a_base a_name a_owner a_first legal n_base n_name n_owner n_first = record {
+  pub stays_in : (a n : NodeView D) (base : Base) (name clock : ℕ) (owner : Owner) (first : ℕ) → a.base ≡ base → (state a.disk).name ≡ name → (state a.disk).clock ≡ clock → a.owner ≡ owner → a.first ≡ first → IsLegal base n.entries → n.base ≡ base → (state n.disk).name ≡ name → n.owner ≡ owner → n.first ≡ first → (keeps → CoversEra (state n.disk) owner base clock n.entries) → StaysIn keeps state a n
+  stays_in a n base name clock owner first a_base a_name a_clock a_owner a_first legal n_base n_name n_owner n_first covers = record {
     base = n_base ∙ sym a_base;
     legal = subst (λ (b : Base). IsLegal b n.entries) (sym n_base) legal;
     disk = n_name ∙ sym a_name;
     owner = n_owner ∙ sym a_owner;
     first = n_first ∙ sym a_first;
+    covers = λ model.
+        subst (λ (o : Owner). CoversEra (state n.disk) o a.base (state a.disk).clock n.entries) (sym a_owner)
+        (subst (λ (b : Base). CoversEra (state n.disk) owner b (state a.disk).clock n.entries) (sym a_base)
+        (subst (λ (t : ℕ). CoversEra (state n.disk) owner base t n.entries) (sym a_clock) (covers model)));
   }
 
   is_legal : (n : NodeView D) → n.entries ≡ [] → IsLegal n.base n.entries
   is_legal n none = subst (λ (es : List Entry). IsLegal n.base es) (sym none) (record { each = tt; within = omega arith })
 
-  pub stays_same : (a n : NodeView D) → n ≡ a → a.entries ≡ [] → StaysIn state a n
-  stays_same a n is none = subst (StaysIn state a) (sym is) (record { base = refl; legal = is_legal a none; disk = refl; owner = refl; first = refl })
+  pub stays_same : (a n : NodeView D) → n ≡ a → a.entries ≡ [] → (keeps → Held n.owner (state n.disk) (granted_of n.base n.entries)) → AreAtMost (granted_of n.base n.entries) (owns n.base n.entries) → StaysIn keeps state a n
+  stays_same a n is none held sent =
+      let empty : n.entries ≡ [] = ap (λ (x : NodeView D). x.entries) is ∙ none in
+      record {
+        base = ap (λ (x : NodeView D). x.base) is;
+        legal = is_legal n empty;
+        disk = ap (λ (x : NodeView D). (state x.disk).name) is;
+        owner = ap (λ (x : NodeView D). x.owner) is;
+        first = ap (λ (x : NodeView D). x.first) is;
+        covers = λ model. begins_node state a.owner a.base (state a.disk).clock n (ap (λ (x : NodeView D). x.owner) is) (ap (λ (x : NodeView D). x.base) is) empty (ap (λ (x : NodeView D). (state x.disk).clock) is) (held model) sent;
+      }
 
   pub through_none : (a b : NodeView D) → GoesOn state a b → LivesThrough state a [] b
   through_none a b goes settings limit opened eras living =
       subst (λ (es : List Era). IsLiving state b.owner (life_of settings limit opened es b)) (sym (append-nil eras)) (goes settings limit opened eras living)
 
   -- and one era more has ended at its end
-  pub through_era : (a n b : NodeView D) → StaysIn state a n → EndsEra state n b → LivesThrough state a (era_of n ∷ []) b
+  pub through_era : (a n b : NodeView D) → StaysIn keeps state a n → EndsEra state n b → LivesThrough state a (era_of n ∷ []) b
   through_era a n b stays ends settings limit opened eras living = ends settings limit opened eras (same_life a n stays settings limit opened eras living)
 
   pub through_both : (a b c : NodeView D) (es fs : List Era) → LivesThrough state a es b → LivesThrough state b fs c → LivesThrough state a (es ++ fs) c
@@ -58,8 +76,8 @@ module _ {D : Type 0} (state : D → DiskState) where
       subst (λ (xs : List Era). IsLiving state c.owner (life_of settings limit opened xs c)) (append_assoc eras es fs) (then settings limit opened (eras ++ es) (first settings limit opened eras living))
 
   -- a whole era: the node n had its journal, and the next one begins with b
-  pub era_done : (a n b : NodeView D) (receives ticks sends serves : List Entry → Type 0) → StaysIn state a n → receives n.entries → ticks n.entries → sends n.entries → serves n.entries → IsRaised (next_base n.base n.entries) b.base → (state b.disk).name ≡ (state n.disk).name → b.owner ≡ n.owner → b.first ≡ n.first → EndsEra state n b → EraOf state a b (era_of n) receives ticks sends serves
-  era_done a n b receives ticks sends serves stays received ticked sent served raised disk owner first ends = record {
+  pub era_done : (a n b : NodeView D) (receives ticks sends serves : List Entry → Type 0) → StaysIn keeps state a n → receives n.entries → ticks n.entries → sends n.entries → serves n.entries → IsRaised (next_base n.base n.entries) b.base → (state b.disk).name ≡ (state n.disk).name → b.owner ≡ n.owner → b.first ≡ n.first → EndsEra state n b → (keeps → Through (Covers n.owner (granted_of n.base n.entries)) (state n.disk) (state b.disk)) → EraOf keeps state a b (era_of n) receives ticks sends serves
+  era_done a n b receives ticks sends serves stays received ticked sent served raised disk owner first ends through = record {
     base = stays.base;
     legal = stays.legal;
     receiver = received;
@@ -71,6 +89,11 @@ module _ {D : Type 0} (state : D → DiskState) where
     owner = owner ∙ stays.owner;
     first = first ∙ stays.first;
     life = through_era a n b stays ends;
+    covers = λ model.
+        let same : Through (Covers a.owner (granted_of a.base n.entries)) (state n.disk) (state b.disk) =
+        subst (λ (o : Owner). Through (Covers o (granted_of a.base n.entries)) (state n.disk) (state b.disk)) stays.owner
+        (subst (λ (x : Base). Through (Covers n.owner (granted_of x n.entries)) (state n.disk) (state b.disk)) stays.base (through model)) in
+        goes_on a.owner a.base (state n.disk) (state b.disk) (state a.disk).clock n.entries same (stays.covers model);
   }
 
 -- what a keeper is given after an era with a fault, and after one without
@@ -87,23 +110,23 @@ is_given false None before now era is on off = off refl
 is_given false (Some why) before now era is on off = off refl
 
 -- whole eras of a member
-module _ {D M Rd Wr : Type 0} (state : D → DiskState) (came tells : Type 0) (took : M → List (ℕ × List ℕ)) (failures : M → ℕ) (remaining : Rd → _) (contents : Wr → _) where
+module _ {D M Rd Wr : Type 0} (keeps : Type 0) (state : D → DiskState) (came tells : Type 0) (took : M → List (ℕ × List ℕ)) (failures : M → ℕ) (remaining : Rd → _) (contents : Wr → _) where
   -- the node p was shared, which is that of the member
-  pub era_served : (p a n b : NodeView D) (receiver receiver' : ReceiverView) (deals deals' : Stream) (link link' : M) (owed owed' : ℕ) (desk desk' : DeskView (Conversation Rd Wr)) (ends : EraEnds) → p ≡ a → StaysIn state p n → Served (Received came p.base.limit) receiver (new_caller 0) receiver' ends.receiver n.entries → Served (Ticked p.base.limit) deals (new_caller 1) deals' ends.ticker n.entries → SendsAll tells took failures p.base.limit owed owed' link link' ends.sender n.entries → Served (Tended remaining contents p.base.limit) desk (new_caller 3) desk' ends.control n.entries → IsRaised (next_base n.base n.entries) b.base → (state b.disk).name ≡ (state n.disk).name → b.owner ≡ n.owner → b.first ≡ n.first → EndsEra state n b → ServesEra state came tells took failures remaining contents (member_of a receiver deals link owed desk) (member_of b receiver' deals' link' owed' desk') ends (era_of n)
-  era_served p a n b receiver receiver' deals deals' link link' owed owed' desk desk' ends is stays received ticked sent served raised disk owner first goes_on =
-      subst (λ (x : NodeView D). ServesEra state came tells took failures remaining contents (member_of x receiver deals link owed desk) (member_of b receiver' deals' link' owed' desk') ends (era_of n)) is (era_done state p n b _ _ _ _ stays received ticked sent served raised disk owner first goes_on)
+  pub era_served : (p a n b : NodeView D) (receiver receiver' : ReceiverView) (deals deals' : Stream) (link link' : M) (owed owed' : ℕ) (desk desk' : DeskView (Conversation Rd Wr)) (ends : EraEnds) → p ≡ a → StaysIn keeps state p n → Served (Received came p.base.limit) receiver (new_caller 0) receiver' ends.receiver n.entries → Served (Ticked p.base.limit) deals (new_caller 1) deals' ends.ticker n.entries → SendsAll tells took failures p.base.limit owed owed' link link' ends.sender n.entries → Served (Tended remaining contents p.base.limit) desk (new_caller 3) desk' ends.control n.entries → IsRaised (next_base n.base n.entries) b.base → (state b.disk).name ≡ (state n.disk).name → b.owner ≡ n.owner → b.first ≡ n.first → EndsEra state n b → (keeps → Through (Covers n.owner (granted_of n.base n.entries)) (state n.disk) (state b.disk)) → ServesEra keeps state came tells took failures remaining contents (member_of a receiver deals link owed desk) (member_of b receiver' deals' link' owed' desk') ends (era_of n)
+  era_served p a n b receiver receiver' deals deals' link link' owed owed' desk desk' ends is stays received ticked sent served raised disk owner first ends_era through =
+      subst (λ (x : NodeView D). ServesEra keeps state came tells took failures remaining contents (member_of x receiver deals link owed desk) (member_of b receiver' deals' link' owed' desk') ends (era_of n)) is (era_done keeps state p n b _ _ _ _ stays received ticked sent served raised disk owner first ends_era through)
 
 -- lives through many of them
-module _ {D M Rd Wr : Type 0} (state : D → DiskState) (came tells : Type 0) (took : M → List (ℕ × List ℕ)) (failures : M → ℕ) (remaining : Rd → _) (contents : Wr → _) (relists : Type 0) where
-  pub eras_live : (a : MemberView D M (Conversation Rd Wr)) (es : List Era) (b : MemberView D M (Conversation Rd Wr)) → Eras (ServesEra state came tells took failures remaining contents) (Hosts state came tells took failures remaining contents relists) a es b → LivesThrough state a.node es b.node
-  eras_live a _ _ (Here _) = through_none state a.node a.node (λ settings limit opened eras living. living)
+module _ {D M Rd Wr : Type 0} (keeps : Type 0) (state : D → DiskState) (came tells : Type 0) (took : M → List (ℕ × List ℕ)) (failures : M → ℕ) (remaining : Rd → _) (contents : Wr → _) (relists : Type 0) where
+  pub eras_live : (a : MemberView D M (Conversation Rd Wr)) (es : List Era) (b : MemberView D M (Conversation Rd Wr)) → Eras (ServesEra keeps state came tells took failures remaining contents) (Hosts keeps state came tells took failures remaining contents relists) a es b → LivesThrough state a.node es b.node
+  eras_live a _ _ (Here _) = through_none keeps state a.node a.node (λ settings limit opened eras living. living)
   eras_live a _ d (Next _ b c _ before ends last eras era then) =
-      let to_c = through_both state a.node b.node c.node before (last ∷ []) (eras_live a before b eras) era.life in
+      let to_c = through_both keeps state a.node b.node c.node before (last ∷ []) (eras_live a before b eras) era.life in
       subst (λ (n : NodeView D). LivesThrough state a.node (before ++ last ∷ []) n) (sym (ap (λ m. m.node) then.rest)) to_c
 
   -- and so is the last one, whole or cut short
-  pub whole_live : (a : MemberView D M (Conversation Rd Wr)) (es : List Era) (b : MemberView D M (Conversation Rd Wr)) (last : Era) (left : NodeView D) → Eras (ServesEra state came tells took failures remaining contents) (Hosts state came tells took failures remaining contents relists) a es b → LivesThrough state b.node (last ∷ []) left → LivesThrough state a.node (es ++ last ∷ []) left
-  whole_live a es b last left eras life = through_both state a.node b.node left es (last ∷ []) (eras_live a es b eras) life
+  pub whole_live : (a : MemberView D M (Conversation Rd Wr)) (es : List Era) (b : MemberView D M (Conversation Rd Wr)) (last : Era) (left : NodeView D) → Eras (ServesEra keeps state came tells took failures remaining contents) (Hosts keeps state came tells took failures remaining contents relists) a es b → LivesThrough state b.node (last ∷ []) left → LivesThrough state a.node (es ++ last ∷ []) left
+  whole_live a es b last left eras life = through_both keeps state a.node b.node left es (last ∷ []) (eras_live a es b eras) life
 
-  pub cut_live : (a : MemberView D M (Conversation Rd Wr)) (es : List Era) (b : MemberView D M (Conversation Rd Wr)) (left : NodeView D) → Eras (ServesEra state came tells took failures remaining contents) (Hosts state came tells took failures remaining contents relists) a es b → StaysIn state b.node left → LivesThrough state a.node es left
-  cut_live a es b left eras stays settings limit opened past living = same_life state b.node left stays settings limit opened (past ++ es) (eras_live a es b eras settings limit opened past living)
+  pub cut_live : (a : MemberView D M (Conversation Rd Wr)) (es : List Era) (b : MemberView D M (Conversation Rd Wr)) (left : NodeView D) → Eras (ServesEra keeps state came tells took failures remaining contents) (Hosts keeps state came tells took failures remaining contents relists) a es b → StaysIn keeps state b.node left → LivesThrough state a.node es left
+  cut_live a es b left eras stays settings limit opened past living = same_life keeps state b.node left stays settings limit opened (past ++ es) (eras_live a es b eras settings limit opened past living)

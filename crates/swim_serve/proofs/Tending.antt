@@ -42,12 +42,20 @@ module _ {S : Type 0} (fresh : S → Type 0) (worked : S → CallerView → S �
   tending_joined s j k x y us vs p q r n e did o t = joined_from s j k x y t.since us vs p q r t.then n t.steps e did o t.done t.goes_on
 
   refused_from : (s : DeskView S) (j k : JoinerView) (x y since : Option S) (us vs : List S) (p q r then : CallerView) (n : ℕ) (ss : List (Step S)) (why : Refusal) → x ≡ None → y ≡ None → vs ≡ us → TurnedInVain limit why j p k q → Steps fresh worked ended limit s.joiner s.conversation s.others r ss j since us then → IsOpen fresh worked ended limit since then x p → TendedBy fresh worked ended limit (ends.Refused why) s r (desk_of k y vs) q (n + 1)
-  refused_from s j k x y None us vs p q r then n ss why e f same did done (g, h) = record { steps = ss; joiner = j; since = None; then = then; done = subst (λ w. Steps fresh worked ended limit s.joiner s.conversation s.others r ss j None w then) (sym same) done; ends_by = (why, f, refl, subst (λ w. TurnedInVain limit why j w k q) h did) }
+  refused_from s j k x y None us vs p q r then n ss why e f same did done (g, h) = record { steps = ss; joiner = j; since = None; then = then; done = subst (λ w. Steps fresh worked ended limit s.joiner s.conversation s.others r ss j None w then) (sym same) done; ends_by = (f, inl (why, refl, subst (λ w. TurnedInVain limit why j w k q) h did)) }
   refused_from s j k x y (Some d) us vs p q r then n ss why e f same did done (b, i, g, h) = absurd (cc (sym e ∙ g))
 
   -- a call of the joiner was refused
   pub tending_refused : (s : DeskView S) (j k : JoinerView) (x y : Option S) (us vs : List S) (p q r : CallerView) (n : ℕ) (why : Refusal) → x ≡ None → y ≡ None → vs ≡ us → TurnedInVain limit why j p k q → Tending fresh worked ended limit s r (desk_of j x us) p n → TendedBy fresh worked ended limit (ends.Refused why) s r (desk_of k y vs) q (n + 1)
   tending_refused s j k x y us vs p q r n why e f same did t = refused_from s j k x y t.since us vs p q r t.then n t.steps why e f same did t.done t.goes_on
+
+  renewed_from : (s : DeskView S) (j : JoinerView) (x y since : Option S) (us : List S) (p r then : CallerView) (n : ℕ) (ss : List (Step S)) → x ≡ None → y ≡ None → Steps fresh worked ended limit s.joiner s.conversation s.others r ss j since us then → IsOpen fresh worked ended limit since then x p → TendedBy fresh worked ended limit ends.Renewed s r (desk_of j y us) p (n + 1)
+  renewed_from s j x y None us p r then n ss e f done (g, h) = record { steps = ss; joiner = j; since = None; then = then; done = done; ends_by = (f, inr (refl, refl, h)) }
+  renewed_from s j x y (Some d) us p r then n ss e f done (b, i, g, h) = absurd (cc (sym e ∙ g))
+
+  -- what is seen to beside the connections asked for the end of the era
+  pub tending_renewed : (s : DeskView S) (j : JoinerView) (x y : Option S) (us : List S) (p r : CallerView) (n : ℕ) → x ≡ None → y ≡ None → Tending fresh worked ended limit s r (desk_of j x us) p n → TendedBy fresh worked ended limit ends.Renewed s r (desk_of j y us) p (n + 1)
+  tending_renewed s j x y us p r n e f t = renewed_from s j x y t.since us p r t.then n t.steps e f t.done t.goes_on
 
   -- the conversation that has the turns has had so many since it got them
   pub record Talked (since : Option S) (then : CallerView) (a : S) (p : CallerView) : Type 0 where

@@ -96,11 +96,14 @@ module _ {S : Type 0} (fresh : S → Type 0) (worked : S → CallerView → S �
     pub done : Steps a.joiner a.conversation a.others p steps b.joiner since b.others then
     pub goes_on : IsOpen since then b.conversation q
 
-  -- how a desk ends: a call of its joiner was refused, or the open conversation ended so
+  -- how a desk ends: a call of its joiner was refused, or what it sees to beside its connections
+  -- asked for the end of the era, or the open conversation ended so
   abbrev pub EndsDesk : ControlEnd → JoinerView → Option S → CallerView → JoinerView → Option S
       → CallerView → Type 0
   EndsDesk end j None then k now q =
-      (why : Refusal) × (now ≡ None) × (end ≡ ends.Refused why) × TurnedInVain limit why j then k q
+      (now ≡ None) × (((why : Refusal) × (end ≡ ends.Refused why)
+      × TurnedInVain limit why j then k q)
+      ⊎ ((end ≡ ends.Renewed) × (k ≡ j) × (q ≡ then)))
   EndsDesk end j (Some c) then k now q =
       (k ≡ j) × (d : S) × (n : ℕ) × (now ≡ Some d) × OfMember end × ended end c then d q n
 

@@ -10,6 +10,7 @@ use Rattle.swim_member.specs.declared.settings.Settings.{Settings}
 use Rattle.swim_node.specs.History.{Base, IsLegal, calls_by}
 use Rattle.swim_node.specs.Lives.{Era, IsLiving, IsRaised, life_of}
 use Rattle.swim_node.specs.Node.{NodeView, next_base}
+use Rattle.swim_shared.specs.Moments.{CoversEra}
 use Rattle.swim_shared.specs.Outboxes.{SenderView, owed_after}
 use Rattle.swim_shared.specs.Passes.{PassView, IsPass}
 use Rattle.swim_shared.specs.Taken.{taken_of}
@@ -103,13 +104,17 @@ module _ {M : Type 0} (tells : Type 0) (took : M → List (ℕ × List ℕ)) (fa
       (ring : SenderView) × (ring.got ≡ []) × Sends limit owed ring link after end owes journal
 
 -- a node after some calls of its era: the same life of the same owner, on the same disk, with a
--- journal that is a legal history
-pub record StaysIn {D : Type 0} (state : D → DiskState) (a b : NodeView D) : Type 0 where
+-- journal that is a legal history; and no moment of them left less on that disk, after a crash,
+-- than had been sent by then, if the disk keeps its model
+pub record StaysIn {D : Type 0} (keeps : Type 0) (state : D → DiskState) (a b : NodeView D)
+    : Type 0 where
   pub base : b.base ≡ a.base
   pub legal : IsLegal b.base b.entries
   pub disk : (state b.disk).name ≡ (state a.disk).name
   pub owner : b.owner ≡ a.owner
   pub first : b.first ≡ a.first
+  pub covers : keeps
+      → CoversEra (state b.disk) a.owner a.base (state a.disk).clock b.entries
 
 -- whichever life goes on with the one node goes on with the other, and these eras of it more have
 -- ended
@@ -121,8 +126,10 @@ LivesThrough {D} state a more b =
     → IsLiving state b.owner (life_of settings limit opened (eras ++ more) b)
 
 -- one era of a member, from its node as the era begins to that of the next one: its journal is a
--- legal history, which each worker's calls are of; and it is an era of the node's life
-pub record EraOf {D : Type 0} (state : D → DiskState) (a b : NodeView D) (era : Era)
+-- legal history, which each worker's calls are of; it is an era of the node's life; and no moment
+-- up to the next one left less on the disk, after a crash, than had been sent by then
+pub record EraOf {D : Type 0} (keeps : Type 0) (state : D → DiskState) (a b : NodeView D)
+    (era : Era)
     (receives ticks sends serves : List Entry → Type 0)
     : Type 0 where
   pub base : era.base ≡ a.base
@@ -136,3 +143,5 @@ pub record EraOf {D : Type 0} (state : D → DiskState) (a b : NodeView D) (era 
   pub owner : b.owner ≡ a.owner
   pub first : b.first ≡ a.first
   pub life : LivesThrough state a (era ∷ []) b
+  pub covers : keeps
+      → CoversEra (state b.disk) a.owner a.base (state a.disk).clock era.entries

@@ -85,15 +85,15 @@ pub data Eras {V : Type 0} (era : V → V → EraEnds → Era → Type 0) (then 
   Next : (a b c d : V) (before : List Era) (ends : EraEnds) (last : Era) → Eras era then a before b
       → era b c ends last → then ends c d → Eras era then a (before ++ last ∷ []) d
 
--- a disk tells its state, a link and an inbound what they did, a reader what is to come, and a
--- writer what it has
-module _ {D M Rd Wr : Type 0} (state : D → DiskState) (came : Type 0) (tells : Type 0)
+-- a disk tells whether it keeps its model, and its state; a link and an inbound what they did, a
+-- reader what is to come, and a writer what it has
+module _ {D M Rd Wr : Type 0} (keeps : Type 0) (state : D → DiskState) (came tells : Type 0)
     (took : M → List (ℕ × List ℕ)) (failures : M → ℕ) (remaining : Rd → Option (List ℕ))
     (contents : Wr → Option (List ℕ)) where
   -- one era took the member from one view to the other, and its workers ended so
   abbrev pub ServesEra : MemberView D M (Conversation Rd Wr) → MemberView D M (Conversation Rd Wr)
       → EraEnds → Era → Type 0
-  ServesEra a b ends era = EraOf state a.node b.node era
+  ServesEra a b ends era = EraOf keeps state a.node b.node era
       (Served (Received came a.node.base.limit) a.receiver (new_caller 0) b.receiver ends.receiver)
       (Served (Ticked a.node.base.limit) a.deals (new_caller 1) b.deals ends.ticker)
       (SendsAll tells took failures a.node.base.limit a.owed b.owed a.link b.link ends.sender)
@@ -123,7 +123,7 @@ module _ {D M Rd Wr : Type 0} (state : D → DiskState) (came : Type 0) (tells :
       : Type 0 where
     pub failed : IfErr how CutsEra
     pub not_ended : OnOk how ⊥
-    pub stays : StaysIn state before.node left
+    pub stays : StaysIn keeps state before.node left
 
   -- eras took it from this view to one from which on it ends so, and this node is left; after each
   -- of them its host was asked, which ever changes whom it joins, or never. All of these are eras

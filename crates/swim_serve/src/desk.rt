@@ -11,6 +11,7 @@ ghost use Rattle.swim_serve.specs.Desks.{TalkGoes};
 ghost use Rattle.swim_serve.specs.Desks.{HasAnswer, OfConnection, OfMember, Opens};
 
 use crate::aside::{Aside, OPEN_MAX};
+use crate::chores::Chores;
 use arrayvec::ArrayVec;
 use log::Log;
 use std::alloc::{AllocError, Global};
@@ -21,10 +22,11 @@ use swim_shell::{
 use swim_wire::Endpoint;
 
 /// Serves control connections, a line a turn: the one that has the turns keeps them until its answer is written, and then stands
-/// aside for the next. Between two of them the joiner has a turn. It waits only when none of them has anything to say.
+/// aside for the next. Between two of them what is due beside them is seen to, which may end the era, and the joiner has a turn. It
+/// waits only when none of them has anything to say.
 /// Connections that are open at the end of an era stay so, and go on in the next one.
 #[derive(Drop)]
-pub struct Desk<W: Log + Clock + Drop, O: Doors + Drop> {
+pub struct Desk<W: Log + Clock + Drop, O: Doors + Chores + Drop> {
     rt: W,
     joiner: Joiner,
     doors: O,
@@ -61,7 +63,7 @@ fn silent_after(silent: usize, is_silent: bool) -> usize
     }
 }
 
-impl<W: Log + Clock + Drop, O: Doors + Drop> Desk<W, O> {
+impl<W: Log + Clock + Drop, O: Doors + Chores + Drop> Desk<W, O> {
     /// A desk at these doors, with no connection open.
     pub fn new(alloc: Global, rt: W, joiner: Joiner, doors: O) -> Result<Desk<W, O>, AllocError>
         ensures joiner { IfOk result (λ desk. desk.joiner ≡ joiner) }
@@ -215,7 +217,7 @@ impl<W: Log + Clock + Drop, O: Doors + Drop> Desk<W, O> {
     }
 }
 
-impl<C: Observer, W: Log + Clock + Drop, O: Doors + Drop> Worker<C> for Desk<W, O> {
+impl<C: Observer, W: Log + Clock + Drop, O: Doors + Chores + Drop> Worker<C> for Desk<W, O> {
     ghost use Rattle.swim_serve.specs.Desks.{desk_of, Tends, TendsTo};
 
     type End = ControlEnd;
@@ -235,9 +237,12 @@ impl<C: Observer, W: Log + Clock + Drop, O: Doors + Drop> Worker<C> for Desk<W, 
         }
     }
 
-    #[tactic(auto, using(crate::proofs::Tending::tending_joined, crate::proofs::Tending::tending_refused))]
+    #[tactic(auto, using(crate::proofs::Tending::tending_joined, crate::proofs::Tending::tending_refused, crate::proofs::Tending::tending_renewed))]
     fn turn(&mut self, caller: &mut C) -> Option<ControlEnd> {
         let Some(mut conversation) = self.conversation.take() else {
+            if self.doors.see_to() {
+                return Some(ControlEnd::Renewed);
+            }
             return match self.stand_by(caller) {
                 Ok(()) => None,
                 Err(refusal) => Some(ControlEnd::Refused(refusal)),

@@ -2,6 +2,7 @@
 
 ghost use Rattle.std.specs.Prelude.{◌≡◌, ◌∷◌, [], IfErr, IfOk, IfSome, IsSomeAnd, length};
 ghost use Rattle.swim_node.specs.History.{IsLegal};
+ghost use Rattle.swim_shared.specs.Moments.{CoversEra};
 ghost use Rattle.swim_shared.specs.Passes.{IsPass, new_pass, new_passes};
 ghost use Rattle.swim_shell.specs.Calls.{NewCalls};
 ghost use Rattle.swim_shell.specs.Ticks.{answers};
@@ -14,6 +15,7 @@ ghost use Rattle.swim_serve.specs.Views.{known_of, new_caller};
 use crate::attending::{Attended, Callers, Workers, attend};
 use crate::beat::Beat;
 use crate::board::Board;
+use crate::chores::Chores;
 use crate::crew::{Ends, Work};
 use crate::desk::Desk;
 use crate::ending::Ending;
@@ -180,7 +182,12 @@ fn begin<'x, N: Name, D: Disk, R: Wait + Log + Clock + Drop>(
 
 /// What a member works with from one era to the next.
 #[derive(Drop)]
-pub struct Outside<I: Inbound + Drop, M: Link + Drop, R: Log + Clock + Drop, O: Doors + Drop> {
+pub struct Outside<
+    I: Inbound + Drop,
+    M: Link + Drop,
+    R: Log + Clock + Drop,
+    O: Doors + Chores + Drop,
+> {
     /// The worker that hands datagrams in.
     pub receiver: Receiver<I>,
     /// The worker that counts the ticks.
@@ -212,7 +219,13 @@ pub struct EraEnds {
 
 /// What comes back of an era's workers.
 #[derive(Drop)]
-struct Back<N: Name, I: Inbound + Drop, M: Link + Drop, R: Log + Clock + Drop, O: Doors + Drop> {
+struct Back<
+    N: Name,
+    I: Inbound + Drop,
+    M: Link + Drop,
+    R: Log + Clock + Drop,
+    O: Doors + Chores + Drop,
+> {
     passes: Passes<N>,
     /// An empty list, in which the passes were.
     room: Vec<Pass<N>>,
@@ -240,7 +253,7 @@ fn take_apart<
     R: Wait + Log + Clock + Drop,
     I: Inbound + Drop,
     M: Link + Drop,
-    O: Doors + Drop,
+    O: Doors + Chores + Drop,
 >(
     receiver: ReceiverLeft<'x, N, D, R, I>,
     ticker: Left<Share<'x, N, D, R>, Ticker>,
@@ -361,7 +374,7 @@ fn work<
     R: Threads + Wait + Log + Clock + Send + Sync + Copy + Drop,
     I: Alarmed<Alarm: Sync> + Send + Drop,
     M: Link + Send + Drop,
-    O: Doors + Drop,
+    O: Doors + Chores + Drop,
 >(
     rt: &'x R,
     shared: &'x Shared<N, D, Outbox, R>,
@@ -442,7 +455,7 @@ pub struct EraEnd<
     I: Inbound + Drop,
     M: Link + Drop,
     R: Log + Clock + Drop,
-    O: Doors + Drop,
+    O: Doors + Chores + Drop,
 > {
     /// The node with the era's journal.
     pub node: Node<D>,
@@ -484,6 +497,7 @@ fn share<N: Name, D: Disk + Drop, R: Wait + Copy + Drop>(
     requires book { parts.book ≡ N.book }
     requires base { parts.node.base ≡ N.base }
     requires disk { (D.state parts.node.disk).name ≡ N.disk }
+    requires clock { (D.state parts.node.disk).clock ≡ N.clock }
     requires owner { parts.node.owner ≡ N.owner }
     requires first { parts.node.first ≡ N.first }
     requires link { parts.link.ring ≡ N.link }
@@ -507,6 +521,8 @@ fn cut_short<N: Name, D: Disk, R: Wait + Drop>(
     ensures disk { (D.state result.node.disk).name ≡ N.disk }
     ensures owner { result.node.owner ≡ N.owner }
     ensures first { result.node.first ≡ N.first }
+    ensures covers { D.keeps_model
+        → CoversEra (D.state result.node.disk) N.owner N.base N.clock result.node.entries }
 {
     let closed = shared.close(Vec::new(alloc), Vec::new(alloc));
     CutEra {
@@ -524,7 +540,7 @@ pub fn run_era<
     R: Threads + Wait + Log + Clock + Send + Sync + Copy + Drop,
     I: Alarmed<Alarm: Sync> + Send + Drop,
     M: Link + Send + Drop,
-    O: Doors + Drop,
+    O: Doors + Chores + Drop,
 >(
     rt: &R,
     alloc: Global,
@@ -536,6 +552,7 @@ pub fn run_era<
     requires book { parts.book ≡ N.book }
     requires base { parts.node.base ≡ N.base }
     requires disk { (D.state parts.node.disk).name ≡ N.disk }
+    requires clock { (D.state parts.node.disk).clock ≡ N.clock }
     requires owner { parts.node.owner ≡ N.owner }
     requires first { parts.node.first ≡ N.first }
     requires link { parts.link.ring ≡ N.link }
@@ -543,8 +560,8 @@ pub fn run_era<
     requires ring { N.link ≡ ring.ring }
     requires nothing { N.start ≡ [] }
     requires callers { parts.callers ≡ CALLERS }
-    ensures node { IfOk result (λ end. StaysIn D.state parts.node end.node) }
-    ensures cut { IfErr result (λ cut. StaysIn D.state parts.node cut.node) }
+    ensures node { IfOk result (λ end. StaysIn D.keeps_model D.state parts.node end.node) }
+    ensures cut { IfErr result (λ cut. StaysIn D.keeps_model D.state parts.node cut.node) }
     ensures receiver { IfOk result (λ end. Served (Received I.tells N.base.limit)
         (receiver_of I.came I.failures outside.receiver) (new_caller 0)
         (receiver_of I.came I.failures end.outside.receiver) end.ends.receiver
@@ -567,6 +584,8 @@ pub fn run_era<
         Ok(made) => made,
         Err(parts) => {
             let (node, _) = parts.into_inner();
+            // what the disk holds
+            let _ = node.disk();
             let why = EraFault::Refused(Refusal::Memory);
             return Err(CutEra { node, why });
         }

@@ -3,6 +3,7 @@
 ghost use Rattle.std.specs.Prelude.{◌≡◌};
 ghost use Rattle.swim_serve.specs.Desks.{IsHosted, desk_of};
 
+use crate::chores::Chores;
 use crate::desk::Desk;
 use arrayvec::ArrayVec;
 use log::Log;
@@ -53,7 +54,7 @@ impl Host for Unkept {
 }
 
 /// Asks the host of a member after an era whose control ended so. The line `reload` gets its answer.
-pub(crate) fn ask_host<W: Log + Clock + Drop, O: Doors + Drop, H: Host>(
+pub(crate) fn ask_host<W: Log + Clock + Drop, O: Doors + Chores + Drop, H: Host>(
     desk: &mut Desk<W, O>,
     control: Option<ControlEnd>,
     stored: &Peers,

@@ -3,9 +3,11 @@
 ghost use Rattle.std.specs.Prelude.{◌≡◌, ◌≤◌, ◌∷◌, [], ◌++◌, None, false, IfNone, IfOk, IfSome};
 ghost use Rattle.std.specs.Prelude.{IfErr, IsOk, IsSome, IsTrue};
 ghost use Rattle.swim_member.specs.declared.state.Phase.TheVariants as phases;
+ghost use Rattle.swim_node.specs.History.{granted_of};
 ghost use Rattle.swim_node.specs.Lives.{EndsEra, Era, GoesOn, IsRaised};
 ghost use Rattle.swim_node.specs.Node.{next_base};
 ghost use Rattle.swim_recorder.specs.Handing.{begun_at, recorded};
+ghost use Rattle.swim_state.specs.Held.{Covers, Through};
 ghost use Rattle.swim_shell.specs.Ticks.{answers};
 ghost use Rattle.swim_serve.specs.Desks.{desk_of};
 ghost use Rattle.swim_serve.specs.EraCounts.{number_saves};
@@ -17,6 +19,7 @@ ghost use Rattle.swim_serve.specs.Peers.{BecameOf, BeginsKept, HasKnown, KeepsPe
 ghost use Rattle.swim_serve.specs.Works.{receiver_of};
 
 use crate::beat::Beat;
+use crate::chores::Chores;
 use crate::era::{CALLERS, CutEra, EraEnd, EraEnds, EraFault, Outside, WATCHES, run_era};
 use crate::era_saves::{EraSaves, PeersSave, number_saves};
 use crate::expulsion::Expulsion;
@@ -143,6 +146,8 @@ fn keep_peers<D: Disk, T: Log>(rt: &T, node: &mut Node<D>) -> PeersSave
     ensures first { node.new.first ≡ node.old.first }
     ensures disk { (D.state node.new.disk).name ≡ (D.state node.old.disk).name }
     ensures living { GoesOn D.state node.old node.new }
+    ensures moments { D.keeps_model → Through (Covers node.old.owner node.old.base.granted)
+        (D.state node.old.disk) (D.state node.new.disk) }
     ensures kept { (HasKnown node.old → ⊥)
         → KeepsPeers D.keeps_model D.state node.old node.new }
     ensures spared { HasKnown node.old → node.new ≡ node.old }
@@ -179,6 +184,9 @@ fn end_era<D: Disk, T: Log, K: Keeper>(
     ensures first { node.new.first ≡ node.old.first }
     ensures disk { (D.state node.new.disk).name ≡ (D.state node.old.disk).name }
     ensures living { EndsEra D.state node.old node.new }
+    ensures moments { D.keeps_model
+        → Through (Covers node.old.owner (granted_of node.old.base node.old.entries))
+        (D.state node.old.disk) (D.state node.new.disk) }
     ensures kept { (HasKnown (next_era node.old) → ⊥)
         → KeepsPeers D.keeps_model D.state (next_era node.old) node.new }
     ensures spared { HasKnown (next_era node.old) → node.new ≡ next_era node.old }
@@ -208,7 +216,7 @@ fn one_era<
     R: Threads + Wait + Log + Clock + Send + Sync + Copy + Drop,
     I: Alarmed<Alarm: Sync> + Send + Drop,
     M: Link + Send + Drop,
-    O: Doors + Drop,
+    O: Doors + Chores + Drop,
     K: Keeper,
 >(
     rt: &R,
@@ -222,8 +230,8 @@ fn one_era<
     ensures entries { IfOk result (λ end. end.node.entries ≡ []) }
     ensures kept { IfOk result (λ end. fault_of end.ends ≡ None → BeginsKept end.node) }
     ensures let_go { K.keeps keeper.old ≡ false → keeper.new ≡ keeper.old }
-    ensures era { IfOk result (λ end. (era : Era) × ServesEra D.state I.tells M.tells M.took
-        M.failures O.Reader.remaining O.Writer.contents
+    ensures era { IfOk result (λ end. (era : Era) × ServesEra D.keeps_model D.state I.tells
+        M.tells M.took M.failures O.Reader.remaining O.Writer.contents
         (member_of node (receiver_of I.came I.failures outside.receiver)
         (answers outside.ticker.rng) outside.link outside.owed
         (desk_of outside.desk.joiner outside.desk.conversation outside.desk.others))
@@ -233,12 +241,15 @@ fn one_era<
         end.outside.desk.others)) end.ends era
         × IsGiven (K.keeps keeper.old) (fault_of end.ends) (K.given keeper.old)
         (K.given keeper.new) (recorded era.base era.entries)) }
-    ensures cut { IfErr result (λ cut. CutsEra cut.why × StaysIn D.state node cut.node) }
+    ensures cut { IfErr result (λ cut. CutsEra cut.why
+        × StaysIn D.keeps_model D.state node cut.node) }
     ensures not_given { IfErr result (λ _. keeper.new ≡ keeper.old) }
 {
     let (outbox, ring) = match outbox_of(alloc) {
         Some(made) => made,
         None => {
+            // what the disk holds
+            let _ = node.disk();
             let why = Fault::Memory;
             return Err(CutEra { node, why });
         }
@@ -400,7 +411,7 @@ pub fn run_member<
     R: Threads + Wait + Log + Clock + Send + Sync + Copy + Drop,
     I: Alarmed<Alarm: Sync> + Send + Drop,
     M: Link + Send + Drop,
-    O: Doors + Drop,
+    O: Doors + Chores + Drop,
 >(
     rt: &R,
     alloc: Global,
@@ -410,7 +421,7 @@ pub fn run_member<
     expelled_ends: Option<u64>,
 ) -> EndedMember<D>
     requires { node.entries ≡ [] }
-    ensures { Lived D.state I.tells M.tells M.took M.failures O.Reader.remaining
+    ensures { Lived D.keeps_model D.state I.tells M.tells M.took M.failures O.Reader.remaining
         O.Writer.contents expelled_ends
         (member_of node (receiver_of I.came I.failures outside.receiver)
         (answers outside.ticker.rng) outside.link outside.owed
@@ -428,7 +439,7 @@ pub fn run_kept<
     R: Threads + Wait + Log + Clock + Send + Sync + Copy + Drop,
     I: Alarmed<Alarm: Sync> + Send + Drop,
     M: Link + Send + Drop,
-    O: Doors + Drop,
+    O: Doors + Chores + Drop,
     H: Host,
 >(
     rt: &R,
@@ -440,7 +451,7 @@ pub fn run_kept<
     host: &mut H,
 ) -> EndedMember<D>
     requires { node.entries ≡ [] }
-    ensures { LivedBy D.state I.tells M.tells M.took M.failures O.Reader.remaining
+    ensures { LivedBy D.keeps_model D.state I.tells M.tells M.took M.failures O.Reader.remaining
         O.Writer.contents H.relists expelled_ends
         (member_of node (receiver_of I.came I.failures outside.receiver)
         (answers outside.ticker.rng) outside.link outside.owed

@@ -1,8 +1,9 @@
-pub mod Passes
-pub mod Odd
-pub mod Published
-pub mod Taken
-pub mod Outboxes
-pub mod Parts
 pub mod Locked
 pub mod Machinery
+pub mod Moments
+pub mod Odd
+pub mod Outboxes
+pub mod Parts
+pub mod Passes
+pub mod Published
+pub mod Taken

@@ -3,6 +3,7 @@
 ghost use Rattle.std.specs.Prelude.{◌≡◌, ◌<◌, ◌^◌, [], vec_len};
 ghost use mathlib.Core.List.{IsPrefix};
 ghost use Rattle.swim_node.specs.History.{IsLegal};
+ghost use Rattle.swim_shared.specs.Moments.{CoversEra};
 ghost use Rattle.swim_shared.specs.Taken.{taken_of};
 ghost use Rattle.swim_shared.specs.Outboxes.{Handed, owed_after};
 ghost use Rattle.swim_shared.specs.Odd.{odd_of, AllBegin, AllWatchesBegin};
@@ -47,6 +48,8 @@ impl<N: Name, D: Disk, R: Wait + Drop> Shared<N, D, Outbox, R> {
         ensures legal { IsLegal N.base result.node.entries }
         ensures base { result.node.base ≡ N.base }
         ensures disk { (D.state result.node.disk).name ≡ N.disk }
+        ensures covers { D.keeps_model
+            → CoversEra (D.state result.node.disk) N.owner N.base N.clock result.node.entries }
         ensures owner { result.node.owner ≡ N.owner }
         ensures first { result.node.first ≡ N.first }
         ensures link { M.name link.new ≡ M.name link.old }

@@ -3,6 +3,7 @@
 ghost use Rattle.std.specs.Prelude.{◌≡◌, ◌↔◌, ◌+◌, ◌<◌, ◌≤◌, ◌^◌, ◌++◌};
 ghost use Rattle.std.specs.Prelude.{length, true, false, IfOk, IfErr, IfSome, IsSome, IsTrue, OnOk, OnErr};
 ghost use Rattle.swim_node.specs.History.{IsLegal};
+ghost use Rattle.swim_shared.specs.Moments.{CoversEra};
 ghost use Rattle.swim_shared.specs.Taken.{taken_of};
 ghost use Rattle.swim_shared.specs.Machinery.Rules.{head_of, MayAdd};
 ghost use Rattle.swim_shared.specs.Published.{KnowsOf};
@@ -43,6 +44,7 @@ impl<N: Name, D: Disk, L: Link, R: Wait + Drop> Model for Locked<N, D, L, R> {
     ghost use Rattle.swim_shared.specs.Taken.{taken_of};
     ghost use Rattle.swim_shared.specs.Machinery.Rules.{head_of, MayAdd};
     ghost use Rattle.swim_shared.specs.Locked.{LockedView};
+    ghost use Rattle.swim_shared.specs.Moments.{CoversEra};
 
     ghost Value = { LockedView };
 
@@ -52,14 +54,17 @@ impl<N: Name, D: Disk, L: Link, R: Wait + Drop> Model for Locked<N, D, L, R> {
       has_pen = is_some l.pen;
     } };
 
-    // The front is the whole history; node and link are those that the name has, and what the link
-    // took since the start is what the journal marks as taken.
+    // The front is the whole history; node and link are those that the name has, what the link
+    // took since the start is what the journal marks as taken, and no moment since then left less
+    // on the disk than had been sent.
     ghost invariant = { λ l. (l.front.book ≡ N.book) × (l.head ≡ head_of N.book)
         × (l.node.entries ≡ l.front.entries) × (l.node.base ≡ N.base)
         × ((D.state l.node.disk).name ≡ N.disk) × (l.node.owner ≡ N.owner)
         × (l.node.first ≡ N.first) × (L.name l.link ≡ N.link)
         × (L.tells → L.took l.link ≡ N.start ++ taken_of l.node.entries)
-        × IfSome l.pen (λ pen. MayAdd l.front pen) };
+        × IfSome l.pen (λ pen. MayAdd l.front pen)
+        × (D.keeps_model
+        → CoversEra (D.state l.node.disk) N.owner N.base N.clock l.node.entries) };
 }
 
 impl<N: Name, D: Disk, L: Link, R: Wait + Drop> Locked<N, D, L, R> {
@@ -75,6 +80,8 @@ impl<N: Name, D: Disk, L: Link, R: Wait + Drop> Locked<N, D, L, R> {
         requires book { front.book ≡ N.book }
         requires base { node.base ≡ N.base }
         requires disk { (D.state node.disk).name ≡ N.disk }
+        requires covers { D.keeps_model
+            → CoversEra (D.state node.disk) N.owner N.base N.clock node.entries }
         requires owner { node.owner ≡ N.owner }
         requires first { node.first ≡ N.first }
         requires link { L.name link ≡ N.link }
@@ -127,6 +134,8 @@ impl<N: Name, D: Disk, L: Link, R: Wait + Drop> Locked<N, D, L, R> {
         };
         match self.node.apply(&mut self.link, tag, event) {
             Ok(reply) => {
+                // what the disk holds now
+                let _ = self.node.disk();
                 let entry = self.node.last();
                 self.pen = None;
                 self.front.add(&self.head, pen, entry);
@@ -240,6 +249,8 @@ impl<N: Name, D: Disk, L: Link, R: Wait + Drop> Locked<N, D, L, R> {
         ensures legal { IsLegal N.base self.journal }
         ensures base { result.0.base ≡ N.base }
         ensures disk { (D.state result.0.disk).name ≡ N.disk }
+        ensures covers { D.keeps_model
+            → CoversEra (D.state result.0.disk) N.owner N.base N.clock self.journal }
         ensures owner { result.0.owner ≡ N.owner }
         ensures first { result.0.first ≡ N.first }
         ensures link { L.name result.1 ≡ N.link }

@@ -2,6 +2,7 @@
 
 ghost use Rattle.std.specs.Prelude.{◌≡◌, ◌<◌, ◌^◌, ◌++◌, IfOk, IfErr, IsTrue, false, vec_len};
 ghost use Rattle.swim_node.specs.History.{IsLegal};
+ghost use Rattle.swim_shared.specs.Moments.{CoversEra};
 ghost use Rattle.swim_shared.specs.Taken.{taken_of};
 ghost use Rattle.swim_shared.specs.Passes.{Called, FullFor, Unseen, new_passes, new_watches};
 ghost use Rattle.swim_shared.specs.Published.{KnowsOf};
@@ -51,6 +52,7 @@ impl<N: Name, D: Disk, L: Link, R: Wait + Drop> Shared<N, D, L, R> {
         requires book { parts.book ≡ N.book }
         requires base { parts.node.base ≡ N.base }
         requires disk { (D.state parts.node.disk).name ≡ N.disk }
+        requires clock { (D.state parts.node.disk).clock ≡ N.clock }
         requires owner { parts.node.owner ≡ N.owner }
         requires first { parts.node.first ≡ N.first }
         requires link { L.name parts.link ≡ N.link }
@@ -69,6 +71,8 @@ impl<N: Name, D: Disk, L: Link, R: Wait + Drop> Shared<N, D, L, R> {
         match set_up::<N, D, R>(alloc, rt, &node, &opened.front, callers, watches) {
             Ok((publisher, passes, views)) => {
                 let Opened { head, front } = opened;
+                // what the disk holds as the era begins
+                let _ = node.disk();
                 let locked = Locked::new(node, link, head, front, publisher);
                 let lock = Mutex::new(locked);
                 Ok((Shared { lock }, passes, views))
@@ -120,13 +124,16 @@ impl<N: Name, D: Disk, L: Link, R: Wait + Drop> Shared<N, D, L, R> {
     }
 
     /// Ends what is shared, and counts the passes and watches handed in that do not fit the
-    /// journal; what each of the others has seen is a beginning of it. What `Node::into_disk` says
-    /// of crashes holds of the node that comes back.
+    /// journal; what each of the others has seen is a beginning of it. No moment of the era left
+    /// less on the disk, after a crash, than had been sent by then (`covers`); what
+    /// `Node::into_disk` says of crashes holds of the node that comes back.
     pub fn close(self, passes: Vec<Pass<N>>, watches: Vec<Watch<N>>) -> Closed<D, L>
         requires few { (vec_len passes < 2 ^ 16) × (vec_len watches < 2 ^ 16) }
         ensures legal { IsLegal N.base result.node.entries }
         ensures base { result.node.base ≡ N.base }
         ensures disk { (D.state result.node.disk).name ≡ N.disk }
+        ensures covers { D.keeps_model
+            → CoversEra (D.state result.node.disk) N.owner N.base N.clock result.node.entries }
         ensures owner { result.node.owner ≡ N.owner }
         ensures first { result.node.first ≡ N.first }
         ensures link { L.name result.link ≡ N.link }

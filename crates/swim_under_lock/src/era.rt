@@ -66,6 +66,7 @@ fn named<
     requires book { parts.book ≡ N.book }
     requires base { parts.node.base ≡ N.base }
     requires disk { (D.state parts.node.disk).name ≡ N.disk }
+    requires clock { (D.state parts.node.disk).clock ≡ N.clock }
     requires owner { parts.node.owner ≡ N.owner }
     requires first { parts.node.first ≡ N.first }
     requires link { L.name parts.link ≡ N.link }

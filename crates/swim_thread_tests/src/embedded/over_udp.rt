@@ -4,9 +4,9 @@ ghost use Rattle.std.specs.Prelude.{◌≡◌, [], IfOk};
 
 use log::Log;
 use rollerblack::{
-    ArrayVec, Beat, ChaCha20Rng, Desk, Disk, Endpoint, Joiner, Logs, MemDisk, Node, Outside, Owner,
-    Paces, Receiver, SeedableRng, Settings, TcpDoors, Ticker, Waits, bind_datagrams, init,
-    run_member,
+    ArrayVec, Beat, ChaCha20Rng, Desk, Disk, DoorsAndChores, Endpoint, Joiner, Logs, MemDisk,
+    NoChores, Node, Outside, Owner, Paces, Receiver, SeedableRng, Settings, TcpDoors, Ticker,
+    Waits, bind_datagrams, init, run_member,
 };
 use std::alloc::Global;
 use std::io::{Read, Write};
@@ -52,6 +52,7 @@ where
     let (inbound, link, datagrams) = bound.map_err(|_| "a socket")?;
     let (waits, connections) = Waits::new(rt, alloc).map_err(|_| "waits")?;
     let doors = TcpDoors::new(control, &waits, logged, tick).map_err(|_| "control")?;
+    let doors = DoorsAndChores::new(doors, NoChores);
     let node = open(alloc, disk, settings)?;
     let mut key = [0; 32];
     rt.fill_bytes(&mut key).map_err(|_| "a random key")?;

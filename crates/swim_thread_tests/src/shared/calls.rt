@@ -33,6 +33,7 @@ fn first<N: Name, D: Disk + Drop, R: Wait + Abort>(
     requires book { parts.book ≡ N.book }
     requires base { parts.node.base ≡ N.base }
     requires disk { (D.state parts.node.disk).name ≡ N.disk }
+    requires clock { (D.state parts.node.disk).clock ≡ N.clock }
     requires owner { parts.node.owner ≡ N.owner }
     requires first { parts.node.first ≡ N.first }
     requires link { link_number 0 ≡ N.link }
@@ -81,6 +82,7 @@ fn one_era<N: Name, D: Disk + Drop, R: Wait + Abort>(
     requires book { parts.book ≡ N.book }
     requires base { parts.node.base ≡ N.base }
     requires disk { (D.state parts.node.disk).name ≡ N.disk }
+    requires clock { (D.state parts.node.disk).clock ≡ N.clock }
     requires owner { parts.node.owner ≡ N.owner }
     requires first { parts.node.first ≡ N.first }
     requires link { link_number 0 ≡ N.link }
@@ -131,6 +133,7 @@ fn fill<N: Name + Send + Sync, D: Disk + Drop + Send, R: Threads + Wait + Abort 
     requires book { parts.book ≡ N.book }
     requires base { parts.node.base ≡ N.base }
     requires disk { (D.state parts.node.disk).name ≡ N.disk }
+    requires clock { (D.state parts.node.disk).clock ≡ N.clock }
     requires owner { parts.node.owner ≡ N.owner }
     requires first { parts.node.first ≡ N.first }
     requires link { link_number 0 ≡ N.link }

@@ -35,6 +35,7 @@ fn read_beside<N: Name + Send + Sync, D: Disk + Drop + Send, R: Threads + Wait +
     requires book { parts.book ≡ N.book }
     requires base { parts.node.base ≡ N.base }
     requires disk { (D.state parts.node.disk).name ≡ N.disk }
+    requires clock { (D.state parts.node.disk).clock ≡ N.clock }
     requires owner { parts.node.owner ≡ N.owner }
     requires first { parts.node.first ≡ N.first }
     requires link { link_number 0 ≡ N.link }

@@ -35,6 +35,7 @@ fn narrow<N: Name, D: Disk + Drop, R: Wait + Abort>(
     requires book { parts.book ≡ N.book }
     requires base { parts.node.base ≡ N.base }
     requires disk { (D.state parts.node.disk).name ≡ N.disk }
+    requires clock { (D.state parts.node.disk).clock ≡ N.clock }
     requires owner { parts.node.owner ≡ N.owner }
     requires first { parts.node.first ≡ N.first }
     requires link { parts.link.ring ≡ N.link }
@@ -96,6 +97,7 @@ fn told<N: Name, D: Disk + Drop, R: Wait + Abort>(
     requires book { parts.book ≡ N.book }
     requires base { parts.node.base ≡ N.base }
     requires disk { (D.state parts.node.disk).name ≡ N.disk }
+    requires clock { (D.state parts.node.disk).clock ≡ N.clock }
     requires owner { parts.node.owner ≡ N.owner }
     requires first { parts.node.first ≡ N.first }
     requires link { parts.link.ring ≡ N.link }
@@ -188,6 +190,7 @@ fn call_beside<N: Name + Send + Sync, D: Disk + Drop + Send, R: Threads + Wait +
     requires book { parts.book ≡ N.book }
     requires base { parts.node.base ≡ N.base }
     requires disk { (D.state parts.node.disk).name ≡ N.disk }
+    requires clock { (D.state parts.node.disk).clock ≡ N.clock }
     requires owner { parts.node.owner ≡ N.owner }
     requires first { parts.node.first ≡ N.first }
     requires link { parts.link.ring ≡ N.link }

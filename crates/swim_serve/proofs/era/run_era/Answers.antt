@@ -1,4 +1,4 @@
-use Rattle.std.proofs.Common.{◌≡◌, [], ◌∷◌, subst, rules, tests}
+use Rattle.std.proofs.Common.{◌≡◌, ◌∙◌, [], ◌∷◌, ap, subst, sym, rules, tests}
 use Rattle.swim_shared.specs.Odd.{odd_of}
 use Rattle.swim_shared.specs.Outboxes.{Handed, owed_after}
 use Rattle.swim_shared.specs.Taken.{taken_of}
@@ -12,7 +12,29 @@ use Rattle.swim_serve.proofs.era.run_era.Goals as goal
 pub returns-clause-node : goal.returns-clause-node
 returns-clause-node g c =
     let closed = c.close_sent-closed.ensures in
-    stays_in g.D.Disk.state c.args.parts.node _ g.N.Name.base g.N.Name.disk g.N.Name.owner g.N.Name.first c.requires.base c.requires.disk c.requires.owner c.requires.first closed.legal closed.base closed.disk closed.owner closed.first
+    stays_in g.D.Disk.keeps_model g.D.Disk.state c.args.parts.node _ g.N.Name.base g.N.Name.disk g.N.Name.clock g.N.Name.owner g.N.Name.first c.requires.base c.requires.disk c.requires.clock c.requires.owner c.requires.first closed.legal closed.base closed.disk closed.owner closed.first closed.covers
+
+-- and so is that of an era that was cut short
+pub returns-in-Err-clause-cut : goal.returns-in-Err-clause-cut
+returns-in-Err-clause-cut g c =
+    let left = c.in-Err.ensures.parts in
+    let none = sym (ap (λ p. p.node.entries) left.0) ∙ left.1 in
+    stays_same g.D.Disk.keeps_model g.D.Disk.state c.args.parts.node _ (c.into_inner-node.ensures.0 ∙ ap (λ p. p.node) left.0) none c.disk.ensures.held c.disk.ensures.owns
+
+pub returns-in-Err-work-clause-cut : goal.returns-in-Err-work-clause-cut
+returns-in-Err-work-clause-cut g c =
+    let closed = c.cut_short.ensures in
+    stays_in g.D.Disk.keeps_model g.D.Disk.state c.args.parts.node _ g.N.Name.base g.N.Name.disk g.N.Name.clock g.N.Name.owner g.N.Name.first c.requires.base c.requires.disk c.requires.clock c.requires.owner c.requires.first closed.legal closed.base closed.disk closed.owner closed.first closed.covers
+
+pub returns-in_default-clause-cut : goal.returns-in_default-clause-cut
+returns-in_default-clause-cut g c =
+    let closed = c.cut_short-in_default.ensures in
+    stays_in g.D.Disk.keeps_model g.D.Disk.state c.args.parts.node _ g.N.Name.base g.N.Name.disk g.N.Name.clock g.N.Name.owner g.N.Name.first c.requires.base c.requires.disk c.requires.clock c.requires.owner c.requires.first closed.legal closed.base closed.disk closed.owner closed.first closed.covers
+
+pub returns-then-closed-ne0-clause-cut : goal.returns-then-closed-ne0-clause-cut
+returns-then-closed-ne0-clause-cut g c =
+    let closed = c.close_sent-closed.ensures in
+    stays_in g.D.Disk.keeps_model g.D.Disk.state c.args.parts.node _ g.N.Name.base g.N.Name.disk g.N.Name.clock g.N.Name.owner g.N.Name.first c.requires.base c.requires.disk c.requires.clock c.requires.owner c.requires.first closed.legal closed.base closed.disk closed.owner closed.first closed.covers
 
 pub returns-clause-receiver : goal.returns-clause-receiver
 returns-clause-receiver g c =

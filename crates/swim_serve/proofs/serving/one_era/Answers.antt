@@ -3,6 +3,9 @@ use Rattle.std.specs.Prelude.{IfSome, is_some}
 use Rattle.swim_node.specs.Lives.{era_of}
 use Rattle.swim_recorder.specs.Handing.{begun_at}
 use Rattle.swim_serve.proofs.Keeping.{none_gives, some_gives}
+use Rattle.swim_node.specs.History.{granted_of}
+use Rattle.swim_state.specs.Held.{Covers, Through}
+use Rattle.swim_shared.proofs.Moments.{unmoved}
 use Rattle.swim_shell.specs.declared.caller.Refusal.TheVariants as refusal
 use Rattle.swim_serve.specs.declared.era.EraFault.TheVariants as cause
 use Rattle.swim_serve.proofs.Lives.{era_served, is_given, not_given, raised, stays_same}
@@ -17,7 +20,7 @@ end_era-saves-requires g c =
 
 -- without memory there was none
 pub returns-in-None-clause-cut : goal.returns-in-None-clause-cut
-returns-in-None-clause-cut g c = ((cause.Refused refusal.Memory, refl), stays_same g.D.Disk.state c.args.node c.args.node refl c.requires)
+returns-in-None-clause-cut g c = ((cause.Refused refusal.Memory, refl), stays_same g.D.Disk.keeps_model g.D.Disk.state c.args.node c.args.node refl c.requires c.disk.ensures.held c.disk.ensures.owns)
 
 -- one whose worker failed is let go
 pub returns-then-is_some-clause-era : goal.returns-then-is_some-clause-era
@@ -27,7 +30,7 @@ returns-then-is_some-clause-era g c =
     let next = c.rebase.ensures in
     let failed = ap is_some (sym c.fault_of.ensures) ∙ sym c.is_some.ensures ∙ c.if-is_some.true in (
       era_of end.node,
-      era_served g.D.Disk.state g.I.Inbound.tells g.M.Link.tells g.M.Link.took g.M.Link.failures g.O.Reader.Read.remaining g.O.Writer.Write.contents c.new-parts.result.node c.args.node end.node c.rebase.new.self _ _ _ _ _ _ _ _ _ _ end.ends c.new-parts.ensures.node was.node was.receiver was.ticker (c.in-Some.made.1, c.in-Some.ensures.got, was.sender) was.control (raised _ _ next.base) (ap (λ d. (g.D.Disk.state d).name) next.disk) next.owner next.first next.living,
+      era_served g.D.Disk.keeps_model g.D.Disk.state g.I.Inbound.tells g.M.Link.tells g.M.Link.took g.M.Link.failures g.O.Reader.Read.remaining g.O.Writer.Write.contents c.new-parts.result.node c.args.node end.node c.rebase.new.self _ _ _ _ _ _ _ _ _ _ end.ends c.new-parts.ensures.node was.node was.receiver was.ticker (c.in-Some.made.1, c.in-Some.ensures.got, was.sender) was.control (raised _ _ next.base) (ap (λ d. (g.D.Disk.state d).name) next.disk) next.owner next.first next.living (λ model. subst (λ d. Through (Covers end.node.owner (granted_of end.node.base end.node.entries)) (g.D.Disk.state end.node.disk) (g.D.Disk.state d)) (sym next.disk) (unmoved _ _)),
       not_given (g.K.Keeper.keeps c.args.keeper.now) _ (g.K.Keeper.given c.args.keeper.now) _ failed,
     )
 
@@ -44,6 +47,6 @@ returns-clause-era g c =
     let began = c.begin-beginning in
     let sound = ap is_some (sym c.fault_of.ensures) ∙ sym c.is_some.ensures ∙ c.if-is_some.false in (
       era_of end.node,
-      era_served g.D.Disk.state g.I.Inbound.tells g.M.Link.tells g.M.Link.took g.M.Link.failures g.O.Reader.Read.remaining g.O.Writer.Write.contents c.new-parts.result.node c.args.node end.node c.end_era-saves.new.node _ _ _ _ _ _ _ _ _ _ end.ends c.new-parts.ensures.node was.node was.receiver was.ticker (c.in-Some.made.1, c.in-Some.ensures.got, was.sender) was.control next.base next.disk next.owner next.first next.living,
+      era_served g.D.Disk.keeps_model g.D.Disk.state g.I.Inbound.tells g.M.Link.tells g.M.Link.took g.M.Link.failures g.O.Reader.Read.remaining g.O.Writer.Write.contents c.new-parts.result.node c.args.node end.node c.end_era-saves.new.node _ _ _ _ _ _ _ _ _ _ end.ends c.new-parts.ensures.node was.node was.receiver was.ticker (c.in-Some.made.1, c.in-Some.ensures.got, was.sender) was.control next.base next.disk next.owner next.first next.living next.moments,
       is_given (g.K.Keeper.keeps c.args.keeper.now) _ (g.K.Keeper.given c.args.keeper.now) _ _ sound (λ on. some_gives began.result _ next.given (began.ensures.asked ∙ on)) (λ off. ap g.K.Keeper.given (none_gives began.result _ next.none (began.ensures.asked ∙ off))),
     )

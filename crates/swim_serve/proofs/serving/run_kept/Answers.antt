@@ -22,7 +22,7 @@ pub returns-in-Err : goal.returns-in-Err
 returns-in-Err g c =
     let before = c.loop.invariant in
     let cut = c.in-Err.ensures.cut in
-    let life = cut_live g.D.Disk.state g.I.Inbound.tells g.M.Link.tells g.M.Link.took g.M.Link.failures g.O.Reader.Read.remaining g.O.Writer.Write.contents g.H.Host.relists _ before.eras.0 _ c.in-Err.field-0.node before.eras.1 cut.1 in
+    let life = cut_live g.D.Disk.keeps_model g.D.Disk.state g.I.Inbound.tells g.M.Link.tells g.M.Link.took g.M.Link.failures g.O.Reader.Read.remaining g.O.Writer.Write.contents g.H.Host.relists _ before.eras.0 _ c.in-Err.field-0.node before.eras.1 cut.1 in
     record { before = _; eras = before.eras.0; done = before.eras.1; last = inr (record { failed = cut.0; not_ended = tt; stays = cut.1 }, life) }
 
 -- or it was the last one
@@ -34,7 +34,7 @@ returns-in-Some-how g c =
     let how = c.in-Some-how.how in
     let phase : c.status-phase.result.phase ≡ node.base.state.phase = search rules in
     let ended = subst (λ w. IfOk how (EndsMember w c.in-Ok.era.ends c.status-phase.result.phase)) before.wait c.in-Some-how.ensures.ended in
-    let life = whole_live g.D.Disk.state g.I.Inbound.tells g.M.Link.tells g.M.Link.took g.M.Link.failures g.O.Reader.Read.remaining g.O.Writer.Write.contents g.H.Host.relists _ before.eras.0 _ era.0 node before.eras.1 era.1.life in
+    let life = whole_live g.D.Disk.keeps_model g.D.Disk.state g.I.Inbound.tells g.M.Link.tells g.M.Link.took g.M.Link.failures g.O.Reader.Read.remaining g.O.Writer.Write.contents g.H.Host.relists _ before.eras.0 _ era.0 node before.eras.1 era.1.life in
     record {
       before = _;
       eras = before.eras.0;

@@ -18,8 +18,8 @@ invariant-loop g l =
       wait : l.grace.expulsion.wait ≡ l.fn.expelled_ends;
       known : IsSome l.grace.expulsion.end_at → IsSome l.grace.expulsion.wait;
       eras : (past : List Era) × Eras
-          (ServesEra g.D.Disk.state g.I.Inbound.tells g.M.Link.tells g.M.Link.took g.M.Link.failures g.O.Reader.Read.remaining g.O.Writer.Write.contents)
-          (Hosts g.D.Disk.state g.I.Inbound.tells g.M.Link.tells g.M.Link.took g.M.Link.failures g.O.Reader.Read.remaining g.O.Writer.Write.contents g.H.Host.relists)
+          (ServesEra g.D.Disk.keeps_model g.D.Disk.state g.I.Inbound.tells g.M.Link.tells g.M.Link.took g.M.Link.failures g.O.Reader.Read.remaining g.O.Writer.Write.contents)
+          (Hosts g.D.Disk.keeps_model g.D.Disk.state g.I.Inbound.tells g.M.Link.tells g.M.Link.took g.M.Link.failures g.O.Reader.Read.remaining g.O.Writer.Write.contents g.H.Host.relists)
           (member_of l.fn.node (came first.receiver) (answers first.ticker.rng) first.link first.owed (desk_of first.desk.joiner first.desk.conversation first.desk.others))
           past
           (member_of l.left.0 (came now.receiver) (answers now.ticker.rng) now.link now.owed (desk_of now.desk.joiner now.desk.conversation now.desk.others));

@@ -6,6 +6,7 @@ ghosts-named g a = record {
   book = a.parts.book;
   base = a.parts.node.base;
   disk = (g.D.Disk.state a.parts.node.disk).name;
+  clock = (g.D.Disk.state a.parts.node.disk).clock;
   owner = a.parts.node.owner;
   first = a.parts.node.first;
   link = g.L.Link.name a.parts.link;

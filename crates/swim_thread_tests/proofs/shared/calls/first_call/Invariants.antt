@@ -10,6 +10,7 @@ ghosts-first g a = record {
   book = a.parts.book;
   base = a.parts.node.base;
   disk = (state_of memory_of a.parts.node.disk).name;
+  clock = (state_of memory_of a.parts.node.disk).clock;
   owner = a.parts.node.owner;
   first = a.parts.node.first;
   link = link_number 0;

@@ -9,6 +9,7 @@ ghosts-narrow g a = record {
   book = a.parts.book;
   base = a.parts.node.base;
   disk = (state_of memory_of a.parts.node.disk).name;
+  clock = (state_of memory_of a.parts.node.disk).clock;
   owner = a.parts.node.owner;
   first = a.parts.node.first;
   link = a.parts.link.ring;
