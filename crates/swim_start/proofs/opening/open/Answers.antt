@@ -1,5 +1,5 @@
 use Rattle.std.proofs.Common.{◌≡◌, ℕ}
-use Rattle.swim_disk.specs.File.{file_state}
+use Rattle.swim_disk.specs.File.{FileView, file_state}
 use Rattle.swim_node.specs.Node.{owner_of}
 use Rattle.swim_start.specs.WatchedDisk.{disk_below, watched_state}
 use Rattle.swim_start.specs.declared.watched_disk.WatchedDisk.{WatchedDisk}
