@@ -1,9 +1,10 @@
-/* Refuses memory or a thread to the program that it is loaded before (LD_PRELOAD). tests/refuse builds it.
+/* Refuses memory, a thread or the time to the program that it is loaded before (LD_PRELOAD). tests/refuse builds it.
 
    REFUSE_AT=N      refuses the N-th allocation, and that one alone
    REFUSE_FROM=N    refuses the N-th allocation and each one after it
    REFUSE_THREAD=N  refuses the N-th thread, and that one alone
    REFUSE_THREADS=N refuses the N-th thread and each one after it
+   REFUSE_CLOCK=PATH refuses to read a clock while there is a file at this path
    REFUSE_TOLD=FD   writes one byte to this descriptor at the first refusal */
 
 #define _GNU_SOURCE
@@ -13,6 +14,8 @@
 #include <stdatomic.h>
 #include <stddef.h>
 #include <stdlib.h>
+#include <sys/syscall.h>
+#include <time.h>
 #include <unistd.h>
 
 extern void *__libc_malloc(size_t);
@@ -92,4 +95,14 @@ int pthread_create(pthread_t *thread, const pthread_attr_t *shape, void *(*run)(
         return EAGAIN;
     }
     return ((begin *)dlsym(RTLD_NEXT, "pthread_create"))(thread, shape, run, with);
+}
+
+int clock_gettime(clockid_t clock, struct timespec *now)
+{
+    const char *path = getenv("REFUSE_CLOCK");
+    if (path && access(path, F_OK) == 0) {
+        errno = EINVAL;
+        return -1;
+    }
+    return (int)syscall(SYS_clock_gettime, clock, now);
 }
