@@ -174,6 +174,17 @@ class Reader:
             data, (_, at) = call.texts()[0], call.numbers()[:2]
             yield self.event(call, "written" if call.ends else "write", file=file, at=at, data=data, answer=call.answer)
 
+    def appends(self, call):
+        """A write at the place where the last one ended."""
+        file, descriptor = self.files.get(call.descriptor()), call.descriptor()
+        if file:
+            data, at = call.texts()[0], self.places.get(descriptor)
+            if at is None:
+                raise NotModelled(f"{call.name} at a place that is not followed")
+            yield self.event(call, "written" if call.ends else "write", file=file, at=at, data=data, answer=call.answer)
+            if call.ends and call.succeeded():
+                self.places[descriptor] = at + call.answer
+
     def cuts(self, call):
         file = self.files.get(call.descriptor())
         if file:
@@ -249,6 +260,7 @@ RULES = {
     **dict.fromkeys(("sendto", "sendmsg", "sendmmsg"), Reader.sends),
     "close": Reader.closes,
     "pwrite64": Reader.writes,
+    "write": Reader.appends,
     "ftruncate": Reader.cuts,
     "fadvise64": Reader.drops,
     "lseek": Reader.seeks,

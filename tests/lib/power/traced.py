@@ -4,6 +4,7 @@ import contextlib
 import itertools
 import os
 import select
+import shutil
 import signal
 import socket
 import subprocess
@@ -13,12 +14,20 @@ from pathlib import Path
 from lib.datagrams import ACK, ALIVE, GROUP, PING, SUSPECT, Datagram, encode, is_kind, own_numbers, sequence_of, six_bytes
 from lib.members import Member, toml
 from lib.power.state_file import owner_bytes
-from lib.power.trace import WATCHED
+from lib.power.trace import NAMING, WATCHED
 from lib.processes import PLACE, start
 from lib.trials import PATIENCE, Wrong, undisturbed
 
 CONTROL_SECONDS = 0.9  # that a control connection may be open
 TEXT_MAX = 1 << 20  # bytes that strace shows of a text
+
+
+def why_not_traced():
+    """Why no process can be traced here; none if it can."""
+    if not shutil.which("strace"):
+        return "there is no strace"
+    ran = subprocess.run(["strace", "-f", "-o", "/dev/null", "true"], stderr=subprocess.PIPE, check=False)
+    return ran.stderr.decode().strip() if ran.returncode else None
 
 
 class Traced(Member):
@@ -66,7 +75,7 @@ class Traced(Member):
         """Starts it under strace; these rules say which calls fail."""
         self.trace = self.place / f"trace.{next(self.runs)}"
         rules = itertools.chain.from_iterable(("-e", f"inject={rule}") for rule in inject)
-        options = ("-f", "-q", "-o", self.trace, "-xx", "-s", TEXT_MAX, "-e", "trace=" + ",".join(f"?{name}" for name in WATCHED))
+        options = ("-f", "-q", "-o", self.trace, "-xx", "-s", TEXT_MAX, "-e", "trace=" + ",".join(f"?{name}" for name in (*WATCHED, *NAMING)))
         self.launch(words, ("strace", *options, *rules), prefix)
 
     def init_words(self):
