@@ -1,5 +1,7 @@
 //! Standard error as the log's stream.
 
+ghost use Rattle.std.specs.Prelude.{◌≡◌, ◌+◌, min, IsTrue, false};
+
 use mio::unix::SourceFd;
 use mio::{Events, Interest, Poll, Token};
 use std::alloc::Global;
@@ -55,7 +57,11 @@ pub(crate) struct Stream {
 impl Stream {
     /// Whether it takes a line at once: else a reader that reads nothing would hold up who writes. A line that it does not
     /// take is counted.
-    pub(crate) fn takes_line(&mut self) -> bool {
+    pub(crate) fn takes_line(&mut self) -> bool
+        ensures taken { IsTrue result → self.new.left_out ≡ self.old.left_out }
+        ensures left_out { result ≡ false
+            → self.new.left_out ≡ min (self.old.left_out + 1) u64.MAX }
+    {
         let is_ready = match &mut self.watch {
             Some(watch) => watch.is_ready(),
             None => true,
