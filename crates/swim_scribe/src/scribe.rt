@@ -1,5 +1,7 @@
 //! Who writes the eras of a member that ended, beside the member.
 
+ghost use Rattle.std.specs.Prelude.{◌≡◌, ◌≤◌, ◌<◌, Some, length};
+
 use log::{Log, warn};
 use std::alloc::{AllocError, Global};
 use std::io::ErrorKind;
@@ -290,14 +292,21 @@ impl<'a, T: Threads + Log + Clock> Scribe<'a, T> {
     }
 
     /// Passes an era over, and takes its room.
-    fn pass_over(&mut self, passed: Named) {
+    fn pass_over(&mut self, passed: Named)
+        ensures { self.new.waiting ≡ self.old.waiting }
+    {
         let _ = self.spare.push(passed.era.into_room());
         self.passed = self.passed.saturating_add(1);
     }
 
     /// Passes a full era over: its room is in the processor's cache, and the next era fills it. One that was ended on purpose waits, in
     /// the place of one that does so already.
-    fn stand_by(&mut self, last: Named) {
+    fn stand_by(&mut self, last: Named)
+        ensures full { last.era.base.limit ≤ length last.era.entries
+            → self.new.waiting ≡ self.old.waiting }
+        ensures waits { length last.era.entries < last.era.base.limit
+            → self.new.waiting ≡ Some last }
+    {
         if last.era.is_full() {
             self.pass_over(last);
         } else if let Some(passed) = self.waiting.replace(last) {
