@@ -25,7 +25,7 @@ pub fn make<R: Files<File = File> + AllocGlobal>(
     }
     let refused = |error: io::Error| Ending::of(&error, Ending::File);
     let opened = open_locked(rt, file, true).map_err(refused)?;
-    let loaded = FileDisk::load(rt.alloc(), opened);
+    let loaded = FileDisk::load(rt.alloc(), opened.into_file());
     let mut disk = loaded.map_err(|error| Ending::of(&error, Ending::Init(InitFault::Device)))?;
     init(&mut disk, Owner { group, me }, ceiling).map_err(Ending::Init)?;
     sync_folder(rt, file).map_err(refused)

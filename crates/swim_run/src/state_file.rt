@@ -4,13 +4,12 @@ ghost use Rattle.std.specs.Prelude.{◌≡◌, [], IfOk};
 ghost use Rattle.swim_member.specs.Checks.{AreSound};
 
 use std::alloc::Global;
-use std::fs::File;
 use std::io;
 use swim_disk::FileDisk;
 use swim_ending::Ending;
 use swim_member::Settings;
 use swim_node::OpenFault;
-use swim_start::{FileNode, OwnFile, Watch, open, open_locked};
+use swim_start::{FileNode, LockedFile, OwnFile, Watch, open, open_locked};
 use swim_state::RecoverFault;
 
 /// What the opening of a state file answers where a call of the disk failed.
@@ -19,7 +18,7 @@ const DEVICE: OpenFault = OpenFault::Refused(RecoverFault::Device);
 /// A state file that is locked, and who looks whether it is still the member's own: one for the doors, and one for the disk.
 #[derive(Drop)]
 pub(crate) struct StateFile {
-    pub(crate) opened: File,
+    pub(crate) opened: LockedFile,
     pub(crate) own: OwnFile<HostRuntime>,
     pub(crate) watched: OwnFile<HostRuntime>,
 }
@@ -42,7 +41,7 @@ impl StateFile {
 /// Opens the member on its state file, which is written only while the watch says that it may be.
 pub(crate) fn open_node<W: Watch + Drop>(
     alloc: Global,
-    file: File,
+    file: LockedFile,
     watch: W,
     settings: Settings,
     limit: u32,
@@ -50,7 +49,7 @@ pub(crate) fn open_node<W: Watch + Drop>(
     requires { AreSound settings }
     ensures { IfOk result (λ node. node.entries ≡ []) }
 {
-    let loaded = FileDisk::load(alloc, file);
+    let loaded = FileDisk::load(alloc, file.into_file());
     let disk = loaded.map_err(|error| Ending::of(&error, Ending::Open(DEVICE)))?;
     match open(alloc, disk, watch, settings, limit) {
         Ok(node) => Ok(node),

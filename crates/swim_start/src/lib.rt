@@ -4,6 +4,7 @@
 mod drawing;
 mod joining;
 mod locked_file;
+mod named_file;
 mod opening;
 mod own_file;
 mod paces;
@@ -11,7 +12,7 @@ mod watched_disk;
 
 pub use drawing::{generators, key_of};
 pub use joining::peers_of;
-pub use locked_file::{open_locked, sync_folder};
+pub use locked_file::{LockedFile, open_locked, sync_folder};
 pub use opening::{FileNode, open};
 pub use own_file::OwnFile;
 pub use paces::paces_of;

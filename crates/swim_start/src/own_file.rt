@@ -1,35 +1,18 @@
 //! Whether a path still names the file that was opened there.
 
-ghost use Rattle.std.specs.Prelude.{◌≡◌};
-ghost use Rattle.swim_start.specs.OwnFile.{is_missing, is_same_file};
+ghost use Rattle.std.specs.Prelude.{◌≡◌, [], false, true, max, IfOk, IsTrue};
+ghost use Rattle.swim_start.specs.OwnFile.{LooksOnce, is_missing, is_same_file};
 
+use crate::locked_file::LockedFile;
+use crate::named_file::{Found, NamedFile};
 use crate::watched_disk::Watch;
 use std::alloc::{AllocError, Global};
-use std::fs::{self, File, Metadata};
+use std::fs::File;
 use std::io::{self, ErrorKind};
-use std::os::unix::fs::MetadataExt;
 use std::rt::Files;
 use std::sync::Arc;
 use std::sync::atomic::{AtomicBool, AtomicU64, Ordering};
 use swim_trace::Trace;
-
-/// What the system says of a file: which one it is, and how many bytes it has.
-#[derive(Clone, Copy, Drop)]
-struct Found {
-    device: u64,
-    inode: u64,
-    length: u64,
-}
-
-impl Found {
-    fn of(metadata: &Metadata) -> Found {
-        Found {
-            device: metadata.dev(),
-            inode: metadata.ino(),
-            length: metadata.len(),
-        }
-    }
-}
 
 /// Whether what was found is the file that was opened, and no shorter than it once was.
 fn is_same_file(opened: &Found, longest: u64, found: &Found) -> bool
@@ -45,89 +28,123 @@ fn is_missing(kind: ErrorKind) -> bool
     matches!(kind, ErrorKind::NotFound | ErrorKind::NotADirectory)
 }
 
-/// What all know who watch the same file.
+/// What all have seen who watch the same file. What one of them reads here is not known to proofs.
 #[derive(Drop)]
-struct Known {
-    path: String,
-    opened: Found,
-    /// The greatest length that it was seen to have, in bytes.
+struct Seen {
+    /// The greatest length, in bytes.
     longest: AtomicU64,
     is_lost: AtomicBool,
-}
-
-impl Known {
-    /// Whether this is the file, and no shorter than it was.
-    fn is_of(&self, found: &Found) -> bool {
-        let longest = self.longest.fetch_max(found.length, Ordering::SeqCst);
-        is_same_file(&self.opened, longest, found)
-    }
 }
 
 /// A file that was opened at a path, as it stands there. It is lost where the path names no file, another one, or this one cut
 /// short. Once lost it stays so, for all who watch it: what was written meanwhile may be in another file.
 #[derive(Drop)]
 pub struct OwnFile<R> {
-    files: R,
-    known: Arc<Known, Global>,
+    named: NamedFile<R>,
+    opened: Found,
+    /// The greatest length that it has seen itself, in bytes.
+    longest: u64,
+    is_lost: bool,
+    seen: Arc<Seen, Global>,
     asked: Trace<bool>,
 }
 
 impl<R: Files<File = File> + Copy> OwnFile<R> {
     /// This open file at this path. An error is the system's, or there was no memory.
-    pub fn new(files: R, alloc: Global, path: &str, file: &File) -> io::Result<OwnFile<R>> {
-        let opened = Found::of(&file.metadata()?);
-        let known = Known {
-            path: String::from_str(alloc, path)?,
-            opened,
+    pub fn new(files: R, alloc: Global, path: &str, opened: &LockedFile) -> io::Result<OwnFile<R>>
+        ensures { IfOk result (λ own. (own.longest ≡ own.opened.length)
+            × (own.is_lost ≡ false) × (own.named.looks ≡ [])) }
+    {
+        let opened = Found::of(opened.file())?;
+        let seen = Seen {
             longest: AtomicU64::new(opened.length),
             is_lost: AtomicBool::new(false),
         };
         Ok(OwnFile {
-            files,
-            known: Arc::new(alloc, known)?,
+            named: NamedFile::new(files, alloc, path)?,
+            opened,
+            longest: opened.length,
+            is_lost: false,
+            seen: Arc::new(alloc, seen)?,
             asked: Trace::new(),
         })
     }
 
     /// One more who watches the file.
-    pub fn try_clone(&self) -> Result<OwnFile<R>, AllocError> {
+    pub fn try_clone(&self) -> Result<OwnFile<R>, AllocError>
+        ensures { IfOk result (λ own. (own.opened ≡ self.now.opened)
+            × (own.longest ≡ self.now.longest) × (own.is_lost ≡ self.now.is_lost)
+            × (own.named.looks ≡ [])) }
+    {
         Ok(OwnFile {
-            files: self.files,
-            known: Arc::try_clone(&self.known)?,
+            named: self.named.try_clone()?,
+            opened: self.opened,
+            longest: self.longest,
+            is_lost: self.is_lost,
+            seen: Arc::try_clone(&self.seen)?,
             asked: Trace::new(),
         })
     }
 
     /// Its path.
     pub fn path(&self) -> &str {
-        self.known.path.as_str()
+        self.named.path()
+    }
+
+    /// Whether this is the file, and no shorter than anyone saw it.
+    fn is_of(&mut self, found: &Found) -> bool
+        ensures same { IsTrue result
+            → IsTrue (is_same_file self.old.opened self.old.longest found.now) }
+        ensures longest { self.new.longest ≡ max self.old.longest found.now.length }
+        ensures rest { self.new ≡ record self.old { longest = self.new.longest } }
+    {
+        let known = self.longest;
+        let seen = self.seen.longest.fetch_max(found.length, Ordering::SeqCst);
+        self.longest = known.max(found.length);
+        is_same_file(&self.opened, known.max(seen), found)
     }
 
     /// Whether the path names the file now. What the system cannot tell is no loss.
-    fn is_there(&self) -> bool {
-        match fs::metadata(&self.files, self.path()) {
-            Ok(found) => self.known.is_of(&Found::of(&found)),
-            Err(error) => !is_missing(error.kind()),
+    fn is_there(&mut self) -> bool
+        ensures looks { LooksOnce result self.old self.new }
+        ensures lost { self.new.is_lost ≡ self.old.is_lost }
+        ensures asked { self.new.asked ≡ self.old.asked }
+    {
+        match self.named.look() {
+            Ok(found) => self.is_of(&found),
+            Err(kind) => !is_missing(kind),
         }
     }
 
     /// Whether it is lost, by now or since an earlier look of anyone.
-    fn is_lost(&self) -> bool {
-        let was_lost = self.known.is_lost.load(Ordering::SeqCst);
-        let is_lost = was_lost || !self.is_there();
-        if is_lost {
-            self.known.is_lost.store(true, Ordering::SeqCst);
+    fn is_lost(&mut self) -> bool
+        ensures lost { self.new.is_lost ≡ result }
+        ensures looks { result ≡ false → LooksOnce true self.old self.new }
+        ensures before { IsTrue self.old.is_lost → IsTrue result }
+        ensures asked { self.new.asked ≡ self.old.asked }
+    {
+        let was_lost = self.is_lost || self.seen.is_lost.load(Ordering::SeqCst);
+        self.is_lost = was_lost || !self.is_there();
+        if self.is_lost {
+            self.seen.is_lost.store(true, Ordering::SeqCst);
         }
-        is_lost
+        self.is_lost
     }
 }
 
 impl<R: Files<File = File> + Copy> Watch for OwnFile<R> {
-    ghost use Rattle.std.specs.Prelude.{◌≡◌};
+    ghost use Rattle.std.specs.Prelude.{◌≡◌, ◌++◌, ◌∷◌, [], true};
 
     ghost asked = { λ f. f.asked };
 
-    fn is_own(&mut self) -> bool {
+    fn is_own(&mut self) -> bool
+        ensures told { self.new.asked ≡ self.old.asked ++ result ∷ [] }
+
+        // It says yes only if it has looked, and was shown the file, and never said no.
+        ensures yes { IsTrue result
+            → (self.old.is_lost ≡ false) × LooksOnce true self.old self.new }
+        ensures no { result ≡ false → IsTrue self.new.is_lost }
+    {
         let is_own = !self.is_lost();
         self.asked = self.asked.and(&is_own);
         is_own
