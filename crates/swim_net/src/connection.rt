@@ -2,6 +2,7 @@
 
 ghost use Rattle.std.specs.Prelude.{◌≡◌};
 
+use crate::control_socket::IncomingStream;
 use crate::waits::Waits;
 use mio::Interest;
 use mio::unix::SourceFd;
@@ -48,25 +49,37 @@ impl<'a, C: Clock> Patience<'a, C> {
 
 /// Reads from a stream that never waits, within the connection's second.
 #[derive(Drop)]
-pub struct ConnectionReader<'a, S: Read + Drop, C: Clock> {
-    stream: S,
+pub struct ConnectionReader<'a, C: Clock> {
+    stream: IncomingStream,
     patience: Patience<'a, C>,
 }
 
-impl<'a, S: Read + Drop, C: Clock> ConnectionReader<'a, S, C> {
+impl<'a, C: Clock> ConnectionReader<'a, C> {
     /// A reader of this stream.
-    pub(crate) fn new(stream: S, patience: Patience<'a, C>) -> ConnectionReader<'a, S, C>
+    pub(crate) fn new(stream: IncomingStream, patience: Patience<'a, C>) -> ConnectionReader<'a, C>
         ensures { result.stream ≡ stream }
     {
         ConnectionReader { stream, patience }
     }
 }
 
-impl<'a, S: Read + Drop, C: Clock> Read for ConnectionReader<'a, S, C> {
-    ghost remaining = { λ r. S.remaining r.stream };
+impl<'a, C: Clock> Read for ConnectionReader<'a, C> {
+    ghost use Rattle.std.specs.Prelude.{◌≡◌, ◌++◌, ◌∷◌, [], None, OnErr, OnOk};
+    ghost use Rattle.std.specs.Io.{ReadsAtMost};
+    ghost use Rattle.std.specs.Io.KnownBytes.{ReadConsumes};
+    ghost use Rattle.swim_net.specs.Control.{moved_in, reads_of};
 
     /// Gives `WouldBlock` if nothing has come, and `TimedOut` if the second is over.
-    fn read(&mut self, buf: &mut [u8]) -> io::Result<usize> {
+    #[tactic(auto, using(crate::proofs::Moving::moved_same))]
+    fn read(&mut self, buf: &mut [u8]) -> io::Result<usize>
+        ensures bound { ReadsAtMost result buf.new }
+        ensures bytes { ReadConsumes None None result buf.new }
+
+        // It gives what one read was answered, and a failure has taken no bytes.
+        ensures given { OnOk result
+            (reads_of self.new ≡ reads_of self.old ++ (buf.new, result) ∷ []) }
+        ensures failed { OnErr result (moved_in (reads_of self.new) ≡ moved_in (reads_of self.old)) }
+    {
         self.patience.left()?;
         self.stream.read(buf)
     }

@@ -1,6 +1,7 @@
 //! Control connections over TCP.
 
 use crate::connection::{ConnectionReader, ConnectionWriter, Patience};
+use crate::control_socket::{IncomingStream, ListeningSocket, OutgoingStream};
 use crate::waits::Waits;
 use mio::Interest;
 use mio::net::{TcpListener as Listener, TcpStream as Stream};
@@ -12,7 +13,7 @@ use swim_shell::Doors;
 /// Control connections over TCP.
 #[derive(Drop)]
 pub struct TcpDoors<'a, C: Clock> {
-    listener: Listener,
+    listener: ListeningSocket,
     waits: &'a Waits,
     clock: &'a C,
     wait: Duration,
@@ -20,8 +21,8 @@ pub struct TcpDoors<'a, C: Clock> {
 
 /// Both ends of a connection.
 type Ends<'a, C> = (
-    ConnectionReader<'a, Stream, C>,
-    ConnectionWriter<'a, Stream, C>,
+    ConnectionReader<'a, C>,
+    ConnectionWriter<'a, OutgoingStream, C>,
 );
 
 impl<'a, C: Clock> TcpDoors<'a, C> {
@@ -38,7 +39,7 @@ impl<'a, C: Clock> TcpDoors<'a, C> {
         let mut listener = Listener::from_std(listener);
         waits.watch(&mut listener, Interest::READABLE)?;
         Ok(TcpDoors {
-            listener,
+            listener: ListeningSocket::new(listener),
             waits,
             clock,
             wait,
@@ -62,19 +63,19 @@ impl<'a, C: Clock> TcpDoors<'a, C> {
         let mut stream = Stream::from_std(stream);
         self.waits.watch(&mut stream, Interest::READABLE)?;
         Ok((
-            ConnectionReader::new(stream, self.patience(began)),
-            ConnectionWriter::new(other, self.patience(began)),
+            ConnectionReader::new(IncomingStream::new(stream), self.patience(began)),
+            ConnectionWriter::new(OutgoingStream::new(other), self.patience(began)),
         ))
     }
 }
 
 impl<'a, C: Clock> Doors for TcpDoors<'a, C> {
-    type Reader = ConnectionReader<'a, Stream, C>;
+    type Reader = ConnectionReader<'a, C>;
 
-    type Writer = ConnectionWriter<'a, Stream, C>;
+    type Writer = ConnectionWriter<'a, OutgoingStream, C>;
 
     fn next(&mut self) -> Option<Ends<'a, C>> {
-        let (stream, _) = self.listener.accept().ok()?;
+        let stream = self.listener.accept().ok()?;
         self.ends_of(stream).ok()
     }
 

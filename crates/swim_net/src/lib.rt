@@ -4,6 +4,7 @@
 #![tactic(auto)]
 
 mod connection;
+mod control_socket;
 mod doors;
 mod hosts;
 mod socket;
@@ -11,6 +12,7 @@ mod udp;
 mod waits;
 
 pub use connection::{ConnectionReader, ConnectionWriter};
+pub use control_socket::OutgoingStream;
 pub use doors::TcpDoors;
 pub use hosts::first_address;
 pub use udp::{UdpInbound, UdpLink, address_of, bind_datagrams, endpoint_of, take};
