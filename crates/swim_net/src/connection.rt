@@ -78,7 +78,8 @@ impl<'a, C: Clock> Read for ConnectionReader<'a, C> {
         // It gives what one read was answered, and a failure has taken no bytes.
         ensures given { OnOk result
             (reads_of self.new ≡ reads_of self.old ++ (buf.new, result) ∷ []) }
-        ensures failed { OnErr result (moved_in (reads_of self.new) ≡ moved_in (reads_of self.old)) }
+        ensures failed { OnErr result
+            (moved_in (reads_of self.new) ≡ moved_in (reads_of self.old)) }
     {
         self.patience.left()?;
         self.stream.read(buf)

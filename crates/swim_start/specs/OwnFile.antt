@@ -1,6 +1,6 @@
 -- Which file a path names.
-use Rattle.std.specs.Prelude.{◌≡◌, ℕ, Bool, true, false, ◌&&◌, ◌==◌, nat_le, not, max, [], ◌∷◌, ◌++◌}
-use Rattle.std.specs.Prelude.{Result, Ok, Err}
+use Rattle.std.specs.Prelude.{◌≡◌, ℕ, Bool, true, false, ◌&&◌, ◌==◌, nat_le, not, max}
+use Rattle.std.specs.Prelude.{[], ◌∷◌, ◌++◌, Result, Ok, Err}
 use Rattle.std.specs.declared.io.ErrorKind.{ErrorKind}
 use Rattle.std.specs.declared.io.ErrorKind.TheVariants as kinds
 use Rattle.swim_start.specs.declared.named_file.Found.{Found}
@@ -17,7 +17,7 @@ is_missing kinds.NotFound = true
 is_missing kinds.NotADirectory = true
 is_missing _ = false
 
--- what the system answers where a path still names a file that had so many bytes, or where it cannot tell
+-- what the system answers where a path still names a file that had so many bytes, or cannot tell
 abbrev pub shows : Found → ℕ → Result Found ErrorKind → Bool
 shows opened longest (Ok found) = is_same_file opened longest found
 shows opened longest (Err kind) = not (is_missing kind)
@@ -27,7 +27,7 @@ abbrev pub longest_after : ℕ → Result Found ErrorKind → ℕ
 longest_after longest (Ok found) = max longest found.length
 longest_after longest (Err kind) = longest
 
--- one look at the path. Whoever says that the file is there was shown it, no shorter than it saw it before
+-- one look at the path. Whoever says that the file is there was shown it, no shorter than before
 pub record LooksOnce {R : Type 0} (is_there : Bool) (old new : OwnFile R) : Type 0 where
   pub answer : Result Found ErrorKind
   pub once : new.named.looks ≡ old.named.looks ++ answer ∷ []
