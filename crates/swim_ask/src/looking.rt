@@ -7,7 +7,6 @@ use crate::place::find;
 use crate::status::read_status;
 use std::net::{Net, TcpStream};
 use std::rt::Clock;
-use swim_ending::Ending;
 use swim_news::Rows;
 use swim_node::Status;
 use swim_shell::Counters;
@@ -24,17 +23,14 @@ pub struct Shown {
 }
 
 /// Asks the member whose control socket a word names for its status, all rows, and what it has done. Each of its answers takes at
-/// most 5 seconds. An error says that it did not answer, or not so.
-pub fn look<R: Net<Stream = TcpStream> + Clock + AllocGlobal>(
-    rt: &R,
-    word: &str,
-) -> Result<Shown, Ending> {
-    let to = find(rt, word)?;
-    let answer = exchange(rt, to, "status")?;
-    let status = read_status(answer.as_slice()).ok_or(Ending::Answer)?;
-    let rows = read_rows(rt, to)?;
-    let answer = exchange(rt, to, "counters")?;
-    Ok(Shown {
+/// most 5 seconds. None where it did not answer, or not so.
+pub fn look<R: Net<Stream = TcpStream> + Clock + AllocGlobal>(rt: &R, word: &str) -> Option<Shown> {
+    let to = find(rt, word).ok()?;
+    let answer = exchange(rt, to, "status").ok()?;
+    let status = read_status(answer.as_slice())?;
+    let rows = read_rows(rt, to).ok()?;
+    let answer = exchange(rt, to, "counters").ok()?;
+    Some(Shown {
         status,
         rows,
         counters: read_counters(answer.as_slice()),

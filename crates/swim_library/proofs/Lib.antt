@@ -1,4 +1,5 @@
 mod Crosses
+mod Dealing
 mod Doing
 mod Owned
 mod Waiting

@@ -1,4 +1,5 @@
 pub mod Codes
+pub mod Deal
 pub mod Handle
 pub mod Holding
 pub mod Opening

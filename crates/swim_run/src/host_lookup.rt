@@ -1,5 +1,8 @@
 //! Looking up the hosts of the join list now and then.
 
+ghost use Rattle.std.specs.Prelude.{◌≡◌, ◌*◌, ◌-◌, ◌≤◌, ◌↔◌, IfSome, IsTrue, None};
+ghost use Rattle.std.specs.Time.{instant_nanos};
+
 use crate::errand::{Errand, outcome_of};
 use crate::listing::{Listing, Places};
 use crate::lookup::{Found, start_lookup};
@@ -12,6 +15,21 @@ use swim_settings::Place;
 
 /// From the beginning of one lookup to the next one at least, in seconds.
 const LOOKUP_SECONDS: u64 = 10;
+
+/// Whether it is time for the next lookup, where the last one began then. The first one is due at once.
+fn is_due(began: Option<Instant>, now: Instant) -> bool
+    ensures first { began ≡ None → IsTrue result }
+    ensures next { IfSome began (λ began. IsTrue result
+        ↔ (LOOKUP_SECONDS * 1000000000 ≤ instant_nanos now - instant_nanos began)) }
+{
+    match began {
+        Some(began) => {
+            let rest = Duration::from_secs(LOOKUP_SECONDS);
+            rest.as_nanos() <= now.duration_since(began).as_nanos()
+        }
+        None => true,
+    }
+}
 
 /// Has the hosts which the settings file names looked up now and then, in a thread of its own. Where other addresses are found, the
 /// era is to end, so that the joiner gets them. A host that is not found is told once in the log, until it is found.
@@ -44,14 +62,6 @@ impl<'a, T: Threads + Wait + Log + Clock> HostLookup<'a, T> {
         }
     }
 
-    /// Whether it is time for the next lookup.
-    fn is_due(&self, now: Instant) -> bool {
-        match self.began {
-            Some(began) => now.duration_since(began) >= Duration::from_secs(LOOKUP_SECONDS),
-            None => true,
-        }
-    }
-
     /// The places that are to be looked up, if a host is named and it is time: at once where they were not looked up yet.
     fn next_places(&mut self) -> Option<Places> {
         let mut listing = self.listing.lock(self.logged);
@@ -59,7 +69,7 @@ impl<'a, T: Threads + Wait + Log + Clock> HostLookup<'a, T> {
             return None;
         }
         let now = Instant::now(self.logged).ok()?;
-        if !listing.is_unasked() && !self.is_due(now) {
+        if !listing.is_unasked() && !is_due(self.began, now) {
             return None;
         }
         self.began = Some(now);

@@ -26,6 +26,13 @@ fn wait_of(tick_millis: u64) -> Duration
     Duration::from_millis(tick_millis.min(WAIT_MAX_MILLIS))
 }
 
+/// How long the control socket waits at most, where the others wait so long.
+fn doors_wait_of(wait: Duration) -> Duration
+    ensures { as_nanos result ≡ min (as_nanos wait) (DOORS_WAIT_MAX_MILLIS * 1000000) }
+{
+    wait.min(Duration::from_millis(DOORS_WAIT_MAX_MILLIS))
+}
+
 /// The address that the others reach this member by. A machine binds the unspecified one and those of multicast too, but a
 /// datagram that is sent there does not come back to this member alone.
 fn own_address(me: Endpoint) -> Result<SocketAddr, Ending> {
@@ -57,8 +64,7 @@ fn bind_doors<'a, R: Net<Listener = TcpListener, Stream = TcpStream>, C: Clock>(
     let bound = TcpListener::bind(rt, address_of(control));
     let listener = bound.map_err(unbound)?;
     let again = listener.try_clone().map_err(unbound)?;
-    let wait = wait.min(Duration::from_millis(DOORS_WAIT_MAX_MILLIS));
-    let doors = TcpDoors::new(listener, waits, clock, wait).map_err(unbound)?;
+    let doors = TcpDoors::new(listener, waits, clock, doors_wait_of(wait)).map_err(unbound)?;
     Ok((doors, again))
 }
 

@@ -101,7 +101,7 @@ pub(crate) fn follow<R: Net<Stream = TcpStream> + Clock + AllocGlobal, T: Wait>(
     known: &Mutex<Known>,
 ) {
     for _ in wait.forever() {
-        let look = look(rt, word).ok();
+        let look = look(rt, word);
         known.lock(wait).take(rt, look);
         thread::sleep(rt, Duration::from_millis(EVERY_MILLIS));
     }

@@ -1,5 +1,9 @@
 //! One connection: its request is read, it is answered once, and it ends.
 
+ghost use Rattle.std.specs.Prelude.{◌≡◌, ◌⊎◌, ◌↔◌, [], IfSome, IsOk, OnOk};
+ghost use Rattle.std.specs.IoError.{error_kind};
+ghost use Rattle.std.specs.declared.io.ErrorKind.TheVariants.{Interrupted, WouldBlock};
+
 use mio::net::TcpStream as Stream;
 use std::alloc::Global;
 use std::io::{self, ErrorKind, Read, Write};
@@ -31,7 +35,10 @@ pub(crate) struct Peer {
 }
 
 /// The same error, or none if it says only that the call is to be tried later.
-fn unless_later(error: io::Error) -> io::Result<()> {
+fn unless_later(error: io::Error) -> io::Result<()>
+    ensures { IsOk result
+        ↔ ((error_kind error ≡ WouldBlock) ⊎ (error_kind error ≡ Interrupted)) }
+{
     match error.kind() {
         ErrorKind::WouldBlock | ErrorKind::Interrupted => Ok(()),
         _ => Err(error),
@@ -66,7 +73,9 @@ impl Peer {
     }
 
     /// Reads what has come.
-    fn hear(&mut self) -> io::Result<()> {
+    fn hear(&mut self) -> io::Result<()>
+        ensures { self.new.answer ≡ self.old.answer }
+    {
         for _ in 0..CALLS_MAX {
             let mut bytes = [0u8; READ_MAX];
             match self.stream.read(&mut bytes) {
@@ -104,8 +113,10 @@ impl Peer {
     }
 
     /// Reads what has come, and says what it asks for, once it was not answered and all of that has come. An error says that it has
-    /// ended.
-    pub(crate) fn listen(&mut self) -> io::Result<Option<Reading>> {
+    /// ended. Of what comes once it is answered nothing is kept.
+    pub(crate) fn listen(&mut self) -> io::Result<Option<Reading>>
+        ensures { IfSome self.old.answer (λ _. OnOk result (self.new.heard.items ≡ [])) }
+    {
         self.hear()?;
         if self.answer.is_some() {
             self.heard.clear();

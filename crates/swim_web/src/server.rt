@@ -1,5 +1,7 @@
 //! All connections, on one thread.
 
+ghost use Rattle.std.specs.Prelude.{◌≡◌, ◌+◌, ◌<◌};
+
 use crate::known::Known;
 use crate::peer::Peer;
 use mio::net::{TcpListener as Listener, TcpStream as Stream};
@@ -55,6 +57,15 @@ fn empty_places(alloc: Global) -> Result<Vec<Option<Peer>>, AllocError> {
         places.push(None)?;
     }
     Ok(places)
+}
+
+/// The place that follows this one; the first one follows the last.
+fn place_after(place: usize) -> usize
+    ensures next { place + 1 < PEERS_MAX → result ≡ place + 1 }
+    ensures first { result < PEERS_MAX }
+{
+    let next = place.saturating_add(1);
+    if next < PEERS_MAX { next } else { 0 }
 }
 
 /// One turn of a connection. An error, or true, says that it has ended.
@@ -150,8 +161,7 @@ impl Server {
         if let Some(place) = self.peers.get_mut(self.next) {
             *place = Some(peer);
         }
-        let next = self.next.saturating_add(1);
-        self.next = if next < PEERS_MAX { next } else { 0 };
+        self.next = place_after(self.next);
         Ok(())
     }
 
