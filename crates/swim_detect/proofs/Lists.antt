@@ -1,12 +1,13 @@
 -- What each item of a list has.
-use Rattle.std.proofs.Common.{◌≡◌, ℕ, ◌+◌, ◌==◌, nat_lt, Bool, true, false, cond, not, refl, sym, List, [], ◌∷◌, ◌++◌, map, take, zero, suc, Some, replicate}
+use Rattle.std.proofs.Common.{inl, inr, subst, ◌≡◌, ℕ, ◌+◌, ◌==◌, nat_lt, Bool, true, false, cond, not, refl, sym, List, [], ◌∷◌, ◌++◌, map, take, zero, suc, Some, replicate}
 use Rattle.std.specs.List.{find, filter, AllByRecursion}
 use Rattle.swim_wire.specs.declared.update.Update.{Update}
 use Rattle.swim_rules.specs.declared.table.Row.{Row}
-use Rattle.swim_rules.specs.Rows.{put_row, remove_row}
+use Rattle.swim_rules.specs.Rows.{put_row, remove_row, row_of}
 use Rattle.swim_gossip.specs.declared.buffer.Waiting.{Waiting}
 use Rattle.swim_gossip.specs.Queue.{is_of, without, offered_queue, raise_all, in_turn, sent_times, update_of, picked_updates}
 use Rattle.swim_member.specs.Events.{Action, each_from}
+use Rattle.swim_detect.specs.Causes.{Has}
 
 pub all-append : {X : Type 0} (Q : X → Type 0) (xs ys : List X) → AllByRecursion Q xs → AllByRecursion Q ys → AllByRecursion Q (xs ++ ys)
 all-append Q [] ys a b = b
@@ -50,6 +51,11 @@ all-found {X} Q test (x ∷ xs) r a e = at (test x) e (λ k. all-found Q test xs
     at true k f = let same : x ≡ r = cc in rw (sym same) a.0
     at false k f = f k
 
+pub all-has : {X : Type 0} (Q : X → Type 0) (xs : List X) (x : X) → Has x xs → AllByRecursion Q xs → Q x
+all-has Q [] x h a = absurd h
+all-has Q (y ∷ xs) x (inl e) a = subst Q e a.0
+all-has Q (y ∷ xs) x (inr h) a = all-has Q xs x h a.1
+
 pub all-replicate : {X : Type 0} (Q : X → Type 0) (n : ℕ) (x : X) → Q x → AllByRecursion Q (replicate n x)
 all-replicate Q zero x q = tt
 all-replicate Q (suc n) x q = (q, all-replicate Q n x q)
@@ -59,6 +65,14 @@ all-each Q k zero f q = tt
 all-each Q k (suc n) f q = (q k, all-each Q (k + 1) n f q)
 
 -- Rows
+
+pub all-held : (Q : Update → Type 0) (rows : List Row) (x : ℕ) (r : Row) → row_of rows x ≡ Some r → AllByRecursion (λ (q : Row). Q q.update) rows → Q r.update
+all-held Q [] x r e a = absurd (cc)
+all-held Q (t ∷ rows) x r e a = at (t.update.who == x) e (λ k. all-held Q rows x r k a.1)
+  where
+    at : (b : Bool) → cond b (Some t) (row_of rows x) ≡ Some r → (row_of rows x ≡ Some r → Q r.update) → Q r.update
+    at true k f = let same : t ≡ r = cc in subst (λ (q : Row). Q q.update) same a.0
+    at false k f = f k
 
 pub all-put : (Q : Row → Type 0) (rows : List Row) (r : Row) → Q r → AllByRecursion Q rows → AllByRecursion Q (put_row rows r)
 all-put Q [] r q a = (q, tt)

@@ -24,9 +24,10 @@ use Rattle.swim_group.proofs.Telling.{IsKept, kept-move, kept-moves, kept-begins
 use Rattle.swim_group.proofs.Passing.{within-kept}
 use Rattle.swim_detect.specs.Silence.{IsSilentOn, AreSilentOn}
 use Rattle.swim_detect.proofs.Lists.{all-weaker}
+use Rattle.swim_detect.proofs.Judged.{judged-datagram}
 use Rattle.swim_detect.proofs.Silent.{silent-found}
 use Rattle.swim_detect_group.specs.Stopping.{steps_of, NeverRestarts, IsFoundBy, HasStopped, BringNoAcks, FindsStopped}
-use Rattle.swim_detect_group.proofs.Accused.{read-as, was-sent}
+use Rattle.swim_detect_group.proofs.Accused.{was-sent}
 use Rattle.swim_group.proofs.Viewing.{at-unchanged}
 
 -- the member after more steps
@@ -79,7 +80,7 @@ event-silent : (g : Group) (o p : Place) (other : ℕ) (e : Event) → IsKept g 
     → (d : Datagram) → (own : OwnNumber) → judge (state_at p) e ≡ judged.Datagram d own → IsSilentOn (name_at o) (state_at o).number d
 event-silent g o p other e kept at come acks d own j =
     let unpassed : IsUnpassed g o = all-at (IsUnpassed g) g.places other o at (within-kept g kept) in
-    let low : AreNoHigher (name_at o) (state_at o).number d.updates.items = sent-low (name_at o) (state_at o).number g.sent d unpassed.sent (was-sent g.sent e d come (read-as (state_at p) e d own j)) in
+    let low : AreNoHigher (name_at o) (state_at o).number d.updates.items = sent-low (name_at o) (state_at o).number g.sent d unpassed.sent (was-sent g.sent e d come (judged-datagram (state_at p) e d own j).read) in
     record {
       no_ack = acks d own j;
       low = all-weaker (λ (u : Update). u.who ≡ name_at o → u.number ≤ (state_at o).number) (λ (u : Update). u.who ≡ name_at o → (u.kind ≡ Confirm) ⊎ (u.number ≤ (state_at o).number)) (λ u f same. inr (f same)) d.updates.items low;

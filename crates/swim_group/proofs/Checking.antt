@@ -13,7 +13,7 @@ use Rattle.swim_group.specs.declared.checker.Breach.{Breach}
 use Rattle.swim_group.specs.declared.checker.Breach.TheVariants.{Invented, Passed, WentBack}
 use Rattle.swim_group.specs.Numbers.{HasNumber, HasTold}
 use Rattle.swim_group.specs.Checking.{MaySay, Breaks, MayFollow, IsRemembered, Remembers, IsAdded, IsNoted, told_numbers}
-use Rattle.swim_group.proofs.Lists.{all-weaker}
+use Rattle.swim_detect.proofs.Lists.{all-weaker}
 use Rattle.swim_group.specs.Checking.{KeepTheLaw, as_sent}
 use Rattle.swim_group.proofs.Holding.{all-of}
 use Rattle.std.proofs.lemmas.List.{append-nil}

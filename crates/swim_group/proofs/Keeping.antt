@@ -14,7 +14,7 @@ use Rattle.swim_group.specs.declared.checker.Breach.TheVariants.{Invented, Passe
 use Rattle.swim_group.specs.declared.checker.CheckFault.{CheckFault}
 use Rattle.swim_group.specs.declared.checker.CheckFault.TheVariants.{Broken, NoMemory}
 use Rattle.swim_group.specs.Checking.{MaySay, Breaks, MayFollow, KeepTheLaw, IsBroken, IsFirstBroken, as_sent, datagrams_of}
-use Rattle.swim_group.proofs.Lists.{all-weaker}
+use Rattle.swim_detect.proofs.Lists.{all-weaker}
 use Rattle.swim_group.proofs.Saying.{Says, IsGoodOut}
 use Rattle.swim_group.proofs.Stepping.{Stepped}
 use Rattle.swim_group.proofs.Telling.{IsPlaced, HasOwns, IsKept, all-at, told-before, comes-told, placed-event, owns-weaker, owns-equal, owns-said, owns-append, kept-begins, kept-move}

@@ -7,7 +7,7 @@ use Rattle.swim_group.specs.Network.{WasSent}
 use Rattle.swim_group.specs.Nodes.{after_node_moves}
 use Rattle.swim_group.specs.declared.seat.Seat.{Seat}
 use Rattle.swim_group.specs.RealNodes.{HasNodeRun}
-use Rattle.swim_group.proofs.Lists.{all-take}
+use Rattle.swim_detect.proofs.Lists.{all-take}
 
 all-get : {X : Type 0} (Q : X → Type 0) (xs : List X) (i : ℕ) (x : X) → slice_get xs i ≡ Some x → AllByRecursion Q xs → Q x
 all-get Q [] i x e a = absurd (cc)

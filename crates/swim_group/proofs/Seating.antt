@@ -17,7 +17,7 @@ use Rattle.swim_group.specs.Network.{WasSent, IsNotInvented}
 use Rattle.swim_group.specs.Nodes.{NodeGroup, NodeMove, Calls, Rebases, Opens, NodeMayMove, LivesAt, IsMoveOf, IsNodeRun, IsOpened, name_in, node_of, life_after, sent_in, moved_at, after_node_move, after_node_moves, members_of}
 use Rattle.swim_group.specs.RealNodes.{RealNodes, NodeDisk, node_disk_state, IsLifeOf, IsLifeIn, SitsThere, AreLivesOf, HasNodeRun, HasSoundNodeRun, HearsThere, HearsAt, OpensThere, OpensAt, LeavesAt, EraEndsThere, EraEndsAt, PlansThere, PlansAt, IsNewNode, AreNewNodes}
 use Rattle.swim_group.specs.Real.{MayBegin, names_in}
-use Rattle.swim_group.proofs.Lists.{all-append, all-weaker, all-take}
+use Rattle.swim_detect.proofs.Lists.{all-append, all-weaker, all-take}
 use Rattle.swim_group.proofs.Telling.{told-kept}
 use Rattle.swim_group.proofs.Passing.{within-kept}
 use Rattle.swim_group.proofs.Holding.{AreSentIn, was-before, was-after, all-sent, come-kept, all-of, get-at}

@@ -37,7 +37,7 @@ use Rattle.swim_member.proofs.Keeping.{find-passes}
 use Rattle.swim_member.proofs.Showing.{Lacks, IsQuiet, Tells, perform-no, settled-other}
 use Rattle.swim_group.specs.Group.{Place, Group, Move, Happens, Restarts, begun, state_at, place_at, change_at, with_event, new_place, OfPlace, after_move, after_moves}
 use Rattle.swim_group.specs.Views.{held_by, held_at, RisesOrGoes, IsNoRestart, HoldsOn}
-use Rattle.swim_group.proofs.Lists.{all-append, all-map, all-replicate, all-each}
+use Rattle.swim_detect.proofs.Lists.{all-append, all-map, all-replicate, all-each}
 
 -- how what is held of a member may change: whether it may come to be held, and whether it may be forgotten
 abbrev pub Goes_by : (comes goes : Type 0) → Rules → Option Row → Option Row → Type 0
