@@ -66,6 +66,27 @@ fn a_plan_takes_another_number_in_its_range(rt: HostRuntime) {
     );
 }
 
+/// The most ticks that a lone member made in a minute of 60, of which it begins at one of the first two, by any of some seeds.
+fn most_ticks(alloc: Global) -> Result<u64, Fail> {
+    let text = b"members = 1\nminutes = 1\ntick_ms = 1000\nperiod = 2\ndirect = 1\nkills = 0\n";
+    let plan = Plan::read(alloc, text)?;
+    let mut most = 0;
+    for seed in 1..9 {
+        most = simulate(alloc, &plan, seed, 0)?
+            .measures
+            .counts
+            .ticks
+            .max(most);
+    }
+    Ok(most)
+}
+
+#[test]
+fn who_begins_at_once_makes_each_tick(rt: HostRuntime) -> Result<(), Fail> {
+    same(&rt, most_ticks(rt.alloc())?, 60);
+    Ok(())
+}
+
 #[test]
 fn who_is_killed_is_confirmed(rt: HostRuntime) -> Result<(), Fail> {
     let text = b"members = 5\nminutes = 1\nloss = 0\nkills = 1\n";

@@ -4,7 +4,7 @@ use crate::same::{given, holds, holds_at, same, same_at};
 use std::alloc::{AllocError, Global};
 use std::test::Fail;
 use swim_group::Breach;
-use swim_simulate::{Key, Kill, Plan, SimulateFault, Stop, simulate};
+use swim_simulate::{Broken, Key, Kill, Plan, SimulateFault, Stop, simulate};
 use swim_survey::{
     Gathered, Made, Series, Span, Stage, Sweep, Trial, draw_runs, draw_sweep, numbers_of, placed,
     read_span, report, run_all, run_sweep, shrunk, told, write_plan,
@@ -282,7 +282,7 @@ fn planted_stop(tick: u64) -> Stop {
         tick,
         sender: who,
         update,
-        breach: Breach::WentBack,
+        broken: Broken::Group(Breach::WentBack),
     }
 }
 

@@ -1,3 +1,5 @@
 pub mod Keys
 pub mod Plan
 pub mod Network
+pub mod Detection
+pub mod Laws

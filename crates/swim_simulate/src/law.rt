@@ -1,22 +1,36 @@
-//! The law of a group, held against each datagram that is sent.
+//! The law of a group, held against each datagram that is sent, and that of detection, held against what each member holds.
+
+ghost use Rattle.std.specs.Prelude.{◌≡◌, ◌≢◌, None, OnOk};
+ghost use Rattle.swim_simulate.specs.Laws.{LooksAt, KeepsFirst};
 
 use crate::fault::SimulateFault;
+use crate::shadow::Lapse;
 use std::alloc::Global;
 use std::fmt;
+use std::marker::Model;
 use swim_group::{Breach, CheckFault, Checker};
 use swim_wire::{Datagram, Endpoint, Update};
 
-/// Where a run broke the law.
+/// Which law is broken, and how.
+#[derive(Clone, Copy, Debug, PartialEq, Eq)]
+pub enum Broken {
+    /// That of a group, by an update that was told.
+    Group(Breach),
+    /// That of detection, by an update that was held or told.
+    Detection(Lapse),
+}
+
+/// Where a run broke a law.
 #[derive(Clone, Copy, Debug, PartialEq, Eq)]
 pub struct Stop {
     /// In which tick.
     pub tick: u64,
-    /// Who sent it.
+    /// Who told or held it.
     pub sender: Endpoint,
-    /// What it said.
+    /// What that was.
     pub update: Update,
-    /// How that breaks the law.
-    pub breach: Breach,
+    /// How that breaks a law.
+    pub broken: Broken,
 }
 
 impl fmt::Display for Stop {
@@ -25,14 +39,21 @@ impl fmt::Display for Stop {
             tick,
             sender,
             update,
-            breach,
+            broken,
         } = self;
+        let kind = update.kind.name();
         let who = update.who;
         let number = update.number;
-        write!(
-            f,
-            "tick {tick}: {sender} told number {number} of {who}: {breach}"
-        )
+        match broken {
+            Broken::Group(breach) => write!(
+                f,
+                "tick {tick}: {sender} told number {number} of {who}: {breach}"
+            ),
+            Broken::Detection(lapse) => write!(
+                f,
+                "tick {tick}: {sender} has {kind} {who} {number}: {lapse}"
+            ),
+        }
     }
 }
 
@@ -44,18 +65,39 @@ pub struct Law {
     stop: Option<Stop>,
 }
 
+impl Model for Law {
+    ghost use Rattle.swim_simulate.specs.Laws.{LawView};
+
+    ghost Value = { LawView };
+
+    ghost view = { λ l. record { told = l.checker; stop = l.stop } };
+}
+
 impl Law {
     /// Nothing was told yet.
-    pub fn new(alloc: Global) -> Law {
+    pub fn new(alloc: Global) -> Law
+        ensures { result.stop ≡ None }
+    {
         Law {
             checker: Some(Checker::new(alloc)),
             stop: None,
         }
     }
 
-    /// Where the law was broken, if it was.
-    pub fn stop(&self) -> Option<Stop> {
+    /// Where a law was broken first, if one was.
+    pub fn stop(&self) -> Option<Stop>
+        ensures { result ≡ self.now.stop }
+    {
         self.stop
+    }
+
+    /// Notes where a law was broken. What was noted first stays.
+    pub fn note(&mut self, stop: Stop)
+        ensures first { KeepsFirst self.old self.new }
+        ensures said { self.new.stop ≢ None }
+        ensures told { self.new.told ≡ self.old.told }
+    {
+        self.stop = self.stop.or(Some(stop));
     }
 
     /// From here on not every datagram is seen.
@@ -64,7 +106,10 @@ impl Law {
     }
 
     /// Looks at the datagram that was sent next. `Memory` where there is none to remember it.
-    pub fn look(&mut self, tick: u64, datagram: &Datagram) -> Result<(), SimulateFault> {
+    pub fn look(&mut self, tick: u64, datagram: &Datagram) -> Result<(), SimulateFault>
+        ensures look { OnOk result (LooksAt self.old self.new datagram.now) }
+        ensures first { KeepsFirst self.old self.new }
+    {
         let Some(checker) = &mut self.checker else {
             return Ok(());
         };
@@ -72,13 +117,12 @@ impl Law {
             Ok(()) => Ok(()),
             Err(CheckFault::NoMemory) => Err(SimulateFault::Memory),
             Err(CheckFault::Broken(update, breach)) => {
-                let stop = Stop {
+                self.note(Stop {
                     tick,
                     sender: datagram.sender,
                     update,
-                    breach,
-                };
-                self.stop = self.stop.or(Some(stop));
+                    broken: Broken::Group(breach),
+                });
                 Ok(())
             }
         }

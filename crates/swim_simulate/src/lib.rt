@@ -2,6 +2,7 @@
 //! and cuts, kills and restarts, and what the others noticed of them.
 #![tactic(auto)]
 
+mod detection;
 mod dice;
 mod fault;
 mod joining;
@@ -14,11 +15,13 @@ mod plan;
 mod refusal;
 mod run;
 mod script;
+mod shadow;
 mod views;
 
+pub use detection::{Deadline, cause_at_tick, looks_keep_the_law};
 pub use fault::SimulateFault;
 pub use key::{KEYS, Key, Range};
-pub use law::{Law, Stop};
+pub use law::{Broken, Law, Stop};
 pub use measures::{Counts, Kill, Measures};
 pub use network::{Draw, Fate, fate_by, is_cut};
 pub use place::endpoint_of;
@@ -26,4 +29,5 @@ pub use plan::Plan;
 pub use refusal::PlanRefusal;
 pub use run::{Done, script_of, simulate};
 pub use script::Script;
+pub use shadow::{Lapse, Shadow};
 pub use views::View;

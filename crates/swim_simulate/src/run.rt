@@ -7,17 +7,18 @@ use crate::dice::Dice;
 use crate::fault::SimulateFault;
 use crate::joining::{Due, Joins};
 use crate::key::Key;
-use crate::law::{Law, Stop};
+use crate::law::{Broken, Law, Stop};
 use crate::measures::{Awaited, Measures, count};
 use crate::network::{Fate, fate_by, is_cut, size_of_datagram};
 use crate::place::{Place, endpoint_of, place_of, settings_of};
 use crate::plan::Plan;
 use crate::script::{Given, Script};
+use crate::shadow::Shadow;
 use crate::views::{View, Views};
 use std::alloc::Global;
 use swim_charts::Tally;
 use swim_disk::Choice;
-use swim_group::{Failure, Nodes, NodesFault};
+use swim_group::{Failure, Nodes, NodesFault, Seat};
 use swim_member::{Event, Phase};
 use swim_node::{Save, Status};
 use swim_wire::{Cursor, Endpoint, MEMBERS_MAX, UPDATES_MAX};
@@ -38,6 +39,23 @@ struct Flight {
     is_lost: bool,
 }
 
+/// A member that does what the node does that sits there, in a group of so many.
+fn shadow_of(alloc: Global, seat: &Seat, members: usize) -> Result<Option<Shadow>, SimulateFault> {
+    match &seat.node {
+        Some(node) => Shadow::new(alloc, &seat.settings, node.first(), members),
+        None => Ok(None),
+    }
+}
+
+/// A member for each node that does what it does.
+fn shadows_of(alloc: Global, nodes: &Nodes) -> Result<Vec<Option<Shadow>>, SimulateFault> {
+    let mut shadows = Vec::new(alloc);
+    for seat in nodes.seats() {
+        shadows.push(shadow_of(alloc, seat, nodes.seats().len())?)?;
+    }
+    Ok(shadows)
+}
+
 /// A run.
 #[derive(Drop)]
 pub(crate) struct Run {
@@ -46,6 +64,7 @@ pub(crate) struct Run {
     nodes: Nodes,
     flights: Vec<Flight>,
     places: Vec<Place>,
+    shadows: Vec<Option<Shadow>>,
     views: Views,
     measures: Measures,
     law: Law,
@@ -70,12 +89,14 @@ impl Run {
         }
         let limit = plan.get(Key::Limit) as u32;
         let nodes = Nodes::new(alloc, settings.as_slice(), limit, ROOM)?;
+        let shadows = shadows_of(alloc, &nodes)?;
         Ok(Run {
             plan: *plan,
             dice,
             nodes,
             flights: Vec::new(alloc),
             places,
+            shadows,
             views: Views::new(alloc, members)?,
             measures: Measures::new(alloc),
             law: Law::new(alloc),
@@ -198,8 +219,34 @@ impl Run {
         self.draw_save(who)
     }
 
+    /// What a member did last is held against the law of detection.
+    fn follow(&mut self, who: usize) -> Result<(), SimulateFault> {
+        let (Some(seat), Some(Some(shadow))) = (
+            self.nodes.seats().get(who),
+            self.shadows.get_mut(who),
+        ) else {
+            return Ok(());
+        };
+        let Some(node) = &seat.node else {
+            return Ok(());
+        };
+        if node.len() == 0 {
+            return Ok(());
+        }
+        if let Some((update, lapse)) = shadow.follow(node.last())? {
+            self.law.note(Stop {
+                tick: self.now,
+                sender: seat.settings.me,
+                update,
+                broken: Broken::Detection(lapse),
+            });
+        }
+        Ok(())
+    }
+
     /// What a member did goes into the network and the counts. Its era ends where it is full.
     fn settle(&mut self, who: usize, status: &Status) -> Result<(), SimulateFault> {
+        self.follow(who)?;
         self.note_save(who)?;
         self.send(who)?;
         if status.length as u64 >= self.plan.get(Key::Limit) {
@@ -506,6 +553,16 @@ impl Run {
         }
     }
 
+    /// What a member does from its new beginning on is held against the law of detection.
+    fn shadow_again(&mut self, who: usize) -> Result<(), SimulateFault> {
+        let (Some(seat), Some(shadow)) = (self.nodes.seats().get(who), self.shadows.get_mut(who))
+        else {
+            return Ok(());
+        };
+        *shadow = shadow_of(*self.places.allocator(), seat, self.places.len())?;
+        Ok(())
+    }
+
     /// A member that was killed is opened again. It knows nobody.
     fn restart(&mut self, who: usize) -> Result<(), SimulateFault> {
         let choice = self.choice();
@@ -521,6 +578,7 @@ impl Run {
         for other in 0..self.places.len() {
             let _ = self.views.set(who, other, View::Unknown);
         }
+        self.shadow_again(who)?;
         if let Some(place) = self.places.get_mut(who) {
             *place = Place::new(0);
             place.begins = None;

@@ -26,7 +26,7 @@ pub enum AskedFault {
     #[error("simulation ended {0}")]
     Run(SimulateFault),
     /// A run broke the law of a group: where, and by which plan that is as small as was found.
-    #[error("the law of a group is broken\n{0}")]
+    #[error("a law is broken\n{0}")]
     Broken(String),
 }
 
