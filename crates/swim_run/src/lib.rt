@@ -8,7 +8,7 @@ mod host_lookup;
 mod listing;
 mod live_settings;
 mod lookup;
-mod member_chores;
+mod member_doors;
 mod reading;
 mod rereading;
 mod running;

@@ -8,7 +8,7 @@ use crate::file_watch::FileWatch;
 use crate::host_lookup::HostLookup;
 use crate::listing::Listing;
 use crate::live_settings::{LiveSettings, log_from};
-use crate::member_chores::MemberChores;
+use crate::member_doors::MemberDoors;
 use crate::reading::settings_at;
 use crate::rereading::Read;
 use crate::settings_reading::SettingsReading;
@@ -23,7 +23,7 @@ use std::thread::Threads;
 use std::time::{Clock, Duration};
 use swim_ending::Ending;
 use swim_log::LogLevel;
-use swim_serve::{Beat, Desk, DoorsAndChores, Logs, Outside, run_kept};
+use swim_serve::{Beat, Desk, Logs, Outside, run_kept};
 use swim_settings::{RunSettings, show_settings};
 use swim_shell::{Joiner, Receiver, Ticker};
 use swim_start::{generators, key_of};
@@ -95,12 +95,12 @@ fn live<'a, T: Threads + Wait + Log + Clock + Send + Sync + Copy + Drop>(
         joins.paces,
         draws,
     );
-    let chores = MemberChores {
+    let doors = MemberDoors {
+        doors: sockets.doors,
         file: FileWatch::new(held.own, *logged),
         hosts: HostLookup::new(*rt, logged, listing),
         settings: SettingsReading::new(*rt, logged, config, reread),
     };
-    let doors = DoorsAndChores::new(sockets.doors, chores);
     let desk = Desk::new(rt.alloc(), *logged, joiner, doors).map_err(|_| Ending::Memory)?;
     let outside = Outside {
         receiver: Receiver::new(sockets.inbound),
