@@ -104,6 +104,36 @@
 //!     Node::open(alloc, disk, settings, LIMIT).map_err(|_| "a state file")
 //! }
 //!
+//! /// Control connections, beside which nothing is to be seen to.
+//! #[derive(Drop)]
+//! struct Connections<O> {
+//!     doors: O,
+//! }
+//!
+//! impl<O: Doors> Doors for Connections<O> {
+//!     type Reader = O::Reader;
+//!
+//!     type Writer = O::Writer;
+//!
+//!     fn next(&mut self) -> Option<(O::Reader, O::Writer)> {
+//!         self.doors.next()
+//!     }
+//!
+//!     fn wait(&mut self) {
+//!         self.doors.wait();
+//!     }
+//! }
+//!
+//! impl<O> Chores for Connections<O> {
+//!     fn see_to(&mut self) -> bool {
+//!         false
+//!     }
+//!
+//!     fn prepare_reload(&mut self) -> bool {
+//!         true
+//!     }
+//! }
+//!
 //! /// Runs a member until a control connection says `stop`. An error is what was refused. Its datagrams come in at the
 //! /// address `at`, by which the others have to know it: that of `settings.me`.
 //! fn run_over_udp<D, R, T>(
@@ -125,7 +155,7 @@
 //!     let (inbound, link, datagrams) = bound.map_err(|_| "a socket")?;
 //!     let (waits, connections) = Waits::new(rt, alloc).map_err(|_| "waits")?;
 //!     let doors = TcpDoors::new(control, &waits, logged, tick).map_err(|_| "control")?;
-//!     let doors = DoorsAndChores::new(doors, NoChores);
+//!     let doors = Connections { doors };
 //!     let node = open(alloc, disk, settings)?;
 //!     let mut key = [0; 32];
 //!     rt.fill_bytes(&mut key).map_err(|_| "a random key")?;

@@ -4,9 +4,9 @@ ghost use Rattle.std.specs.Prelude.{◌≡◌, [], IfOk};
 
 use log::Log;
 use rollerblack::{
-    ArrayVec, Beat, ChaCha20Rng, Desk, Disk, DoorsAndChores, Endpoint, Joiner, Logs, MemDisk,
-    NoChores, Node, Outside, Owner, Paces, Receiver, SeedableRng, Settings, TcpDoors, Ticker,
-    Waits, bind_datagrams, init, run_member,
+    ArrayVec, Beat, ChaCha20Rng, Chores, Desk, Disk, Doors, Endpoint, Joiner, Logs, MemDisk, Node,
+    Outside, Owner, Paces, Receiver, SeedableRng, Settings, TcpDoors, Ticker, Waits,
+    bind_datagrams, init, run_member,
 };
 use std::alloc::Global;
 use std::io::{Read, Write};
@@ -31,6 +31,36 @@ fn open<D: Disk + Drop>(alloc: Global, disk: D, settings: Settings) -> Result<No
     Node::open(alloc, disk, settings, LIMIT).map_err(|_| "a state file")
 }
 
+/// Control connections, beside which nothing is to be seen to.
+#[derive(Drop)]
+struct Connections<O> {
+    doors: O,
+}
+
+impl<O: Doors> Doors for Connections<O> {
+    type Reader = O::Reader;
+
+    type Writer = O::Writer;
+
+    fn next(&mut self) -> Option<(O::Reader, O::Writer)> {
+        self.doors.next()
+    }
+
+    fn wait(&mut self) {
+        self.doors.wait();
+    }
+}
+
+impl<O> Chores for Connections<O> {
+    fn see_to(&mut self) -> bool {
+        false
+    }
+
+    fn prepare_reload(&mut self) -> bool {
+        true
+    }
+}
+
 /// Runs a member until a control connection says `stop`. An error is what was refused. Its datagrams come in at the
 /// address `at`, by which the others have to know it: that of `settings.me`.
 fn run_over_udp<D, R, T>(
@@ -52,7 +82,7 @@ where
     let (inbound, link, datagrams) = bound.map_err(|_| "a socket")?;
     let (waits, connections) = Waits::new(rt, alloc).map_err(|_| "waits")?;
     let doors = TcpDoors::new(control, &waits, logged, tick).map_err(|_| "control")?;
-    let doors = DoorsAndChores::new(doors, NoChores);
+    let doors = Connections { doors };
     let node = open(alloc, disk, settings)?;
     let mut key = [0; 32];
     rt.fill_bytes(&mut key).map_err(|_| "a random key")?;
