@@ -104,36 +104,6 @@
 //!     Node::open(alloc, disk, settings, LIMIT).map_err(|_| "a state file")
 //! }
 //!
-//! /// Control connections, beside which nothing is to be seen to.
-//! #[derive(Drop)]
-//! struct Connections<O> {
-//!     doors: O,
-//! }
-//!
-//! impl<O: Doors> Doors for Connections<O> {
-//!     type Reader = O::Reader;
-//!
-//!     type Writer = O::Writer;
-//!
-//!     fn next(&mut self) -> Option<(O::Reader, O::Writer)> {
-//!         self.doors.next()
-//!     }
-//!
-//!     fn wait(&mut self) {
-//!         self.doors.wait();
-//!     }
-//! }
-//!
-//! impl<O> Chores for Connections<O> {
-//!     fn see_to(&mut self) -> bool {
-//!         false
-//!     }
-//!
-//!     fn prepare_reload(&mut self) -> bool {
-//!         true
-//!     }
-//! }
-//!
 //! /// Runs a member until a control connection says `stop`. An error is what was refused. Its datagrams come in at the
 //! /// address `at`, by which the others have to know it: that of `settings.me`.
 //! fn run_over_udp<D, R, T>(
@@ -155,33 +125,25 @@
 //!     let (inbound, link, datagrams) = bound.map_err(|_| "a socket")?;
 //!     let (waits, connections) = Waits::new(rt, alloc).map_err(|_| "waits")?;
 //!     let doors = TcpDoors::new(control, &waits, logged, tick).map_err(|_| "control")?;
-//!     let doors = Connections { doors };
+//!     let doors = DoorsAndChores::new(doors, NoChores);
 //!     let node = open(alloc, disk, settings)?;
 //!     let mut key = [0; 32];
 //!     rt.fill_bytes(&mut key).map_err(|_| "a random key")?;
-//!     let rng = ChaCha20Rng::from_seed(key);
-//!     let mut draws = ChaCha20Rng::from_seed(key);
-//!     draws.set_stream(1);
-//!     let paces = Paces {
-//!         answer: tick.saturating_mul(3),
-//!         period: tick.saturating_mul(10),
-//!         rejoin: None,
-//!         forget: tick.saturating_mul(6000),
+//!     let setup = Setup {
+//!         settings,
+//!         number: node.first(),
+//!         tick,
+//!         joins: Joins {
+//!             peers: ArrayVec::new(),
+//!             paces: Paces::of(&settings, 0, TICK_MILLIS),
+//!         },
+//!         key,
+//!         expelled_ends: None,
 //!     };
-//!     let peers = ArrayVec::new();
-//!     let joiner = Joiner::new(settings.me, settings.rules_of(), peers, paces, draws);
-//!     let desk = Desk::new(alloc, *logged, joiner, doors).map_err(|_| "memory")?;
-//!     let outside = Outside {
-//!         receiver: Receiver::new(inbound),
-//!         ticker: Ticker { rng },
-//!         beat: Beat::new(tick, settings.period.saturating_mul(2)),
-//!         link,
-//!         owed: 0,
-//!         desk,
-//!         logs: Logs::new(settings.me, node.first()),
-//!     };
+//!     let outside = Outside::new(alloc, *logged, setup, inbound, link, doors);
+//!     let outside = outside.map_err(|_| "memory")?;
 //!     let alarms = [datagrams, connections];
-//!     let ended = run_member(logged, alloc, node, outside, &alarms, None);
+//!     let ended = run_member(logged, alloc, node, outside, &alarms);
 //!     ended.how.map_err(|_| "a worker")?;
 //!     Ok(())
 //! }
@@ -227,8 +189,7 @@
 //!
 //! What takes the place of the sockets is a type of one's own: an `Inbound` that is `Alarmed` gives datagrams, a `Link` takes them,
 //! `Doors` give control connections, and `Chores` are what else has to be seen to. A check asks that the disk, the inbound and the link
-//! may go to another thread: for these sockets `proofs/tests/over_udp` has the answers, and for a `FileDisk` `proofs/running` of
-//! `swim_cli`.
+//! may go to another thread, and finds by itself that a `FileDisk` and these sockets may.
 //!
 //! A program names this crate in its line of `crates.txt`, and no other for what stands here.
 #![tactic(auto)]
@@ -257,12 +218,12 @@ pub use swim_shared::{CallFault, Closed, ClosedSent, Name, Outbox, Parts, Pass, 
 
 // The workers of a member that runs, and what they ask of their surroundings.
 pub use swim_serve::{
-    Beat, Chores, Desk, DoorsAndChores, EndedMember, Fault, Logs, MemberEnd, NoChores, Outside,
+    Chores, DoorsAndChores, EndedMember, Fault, Joins, MemberEnd, NoChores, Outside, Setup,
     run_member,
 };
 pub use swim_shell::{
-    Alarm, Alarmed, COUNTERS, Caller, ControlEnd, Counter, Counters, Doors, Inbound, Joiner,
-    LIST_MAX, Observer, Paces, ReceiveFault, Receiver, Refusal, Ticker, WorkerEnd,
+    Alarm, Alarmed, COUNTERS, Caller, ControlEnd, Counter, Counters, Doors, Inbound, LIST_MAX,
+    Observer, Paces, ReceiveFault, Refusal, WorkerEnd,
 };
 
 // The sockets that it usually has.
@@ -270,5 +231,3 @@ pub use swim_net::{SocketAlarm, TcpDoors, UdpInbound, UdpLink, Waits, address_of
 
 // What some of these are made of.
 pub use arrayvec::ArrayVec;
-pub use rand_chacha::ChaCha20Rng;
-pub use rand_core::SeedableRng;

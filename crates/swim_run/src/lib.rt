@@ -8,12 +8,13 @@ mod host_lookup;
 mod listing;
 mod live_settings;
 mod lookup;
-mod member_doors;
+mod member_chores;
 mod reading;
 mod rereading;
 mod running;
 mod settings_reading;
 mod sockets;
 mod state_file;
+mod surroundings;
 
 pub use running::{run, shown_settings};

@@ -5,15 +5,16 @@ ghost use Rattle.std.specs.Prelude.{option_map};
 ghost use Rattle.std.specs.Duration.{as_nanos};
 ghost use Rattle.swim_settings.specs.Ranges.{AreInRange};
 ghost use Rattle.swim_settings.specs.Reloads.{taken_anew};
-ghost use Rattle.swim_start.specs.Starting.{lasting, peers_to_join};
+ghost use Rattle.swim_shell.specs.Joins.{lasting};
+ghost use Rattle.swim_start.specs.Starting.{peers_to_join};
 
-use crate::listing::Listing;
 use crate::reading::checked_at;
 use crate::rereading::Read;
+use crate::surroundings::{HandedOver, Surroundings};
 use arrayvec::ArrayString;
 use log::{LevelFilter, Log, info, warn};
 use std::fmt::{self, Display, Formatter, Write};
-use std::sync::{Mutex, Wait};
+use std::sync::Wait;
 use std::thread::Threads;
 use std::time::Clock;
 use swim_log::LogLevel;
@@ -22,8 +23,8 @@ use swim_recorder::{Finished, Keeper};
 use swim_scribe::Scribe;
 use swim_serve::{Host, Joins};
 use swim_settings::{JOIN_MAX, Key, Level, RunSettings, restart_keys};
-use swim_shell::{Answer, SETTINGS_REFUSED, answer_of};
-use swim_start::{paces_of, peers_of};
+use swim_shell::{Answer, Paces, SETTINGS_REFUSED, answer_of};
+use swim_start::peers_of;
 use swim_state::Peers;
 
 /// The answer where it was read again, and has nothing that needs a restart.
@@ -84,43 +85,31 @@ pub(crate) fn log_from(level: &LogLevel, told: Option<Level>) {
 /// file is read again, and what a running member may take is in force then.
 #[derive(Drop)]
 pub(crate) struct LiveSettings<'a, T> {
-    rt: HostRuntime,
-    logged: &'a T,
-    level: &'a LogLevel,
-    /// The path of the settings file.
-    config: &'a str,
+    around: Surroundings<'a, T>,
     told: RunSettings,
     scribe: Scribe<'a, T>,
-    listing: &'a Mutex<Listing>,
-    reread: &'a Mutex<Option<Read>>,
+    handed: &'a HandedOver,
     ghost range: { AreInRange told },
 }
 
-impl<'a, T: Threads + Wait + Log + Clock> LiveSettings<'a, T> {
+impl<'a, T: Threads + Wait + Log + Clock + Copy> LiveSettings<'a, T> {
     ghost use Rattle.std.specs.Prelude.{◌≡◌};
 
-    /// These settings, which the file at this path said, with the list of whom it names to join, and with what is read of it again.
+    /// These settings, which the settings file said, with what the thread of the doors hands over: the list of whom the file names to
+    /// join, and what is read of it again.
     pub(crate) fn new(
-        rt: HostRuntime,
-        logged: &'a T,
-        level: &'a LogLevel,
-        config: &'a str,
+        around: Surroundings<'a, T>,
         told: RunSettings,
-        listing: &'a Mutex<Listing>,
-        reread: &'a Mutex<Option<Read>>,
+        handed: &'a HandedOver,
     ) -> LiveSettings<'a, T>
         requires { AreInRange told }
     {
-        let scribe = Scribe::new(logged, rt, told.folder(), told.record_eras);
+        let scribe = Scribe::new(around.logged, around.rt, told.folder(), told.record_eras);
         LiveSettings {
-            rt,
-            logged,
-            level,
-            config,
+            around,
             told,
             scribe,
-            listing,
-            reread,
+            handed,
         }
     }
 
@@ -137,16 +126,16 @@ impl<'a, T: Threads + Wait + Log + Clock> LiveSettings<'a, T> {
     {
         let told = &self.told;
         let settings = &told.settings;
-        let listed = self.listing.lock(self.logged).endpoints();
+        let listed = self.handed.listing.lock(self.around.logged).endpoints();
         Joins {
             peers: peers_of(settings.me, listed.as_slice(), stored.as_slice()),
-            paces: paces_of(settings, told.rejoin, told.tick_ms),
+            paces: Paces::of(settings, told.rejoin, told.tick_ms),
         }
     }
 
     /// Has the list name the places that the settings name now.
     fn name_places(&self) {
-        let mut listing = self.listing.lock(self.logged);
+        let mut listing = self.handed.listing.lock(self.around.logged);
         listing.name(self.told.join.as_slice());
     }
 
@@ -158,8 +147,8 @@ impl<'a, T: Threads + Wait + Log + Clock> LiveSettings<'a, T> {
     {
         let keys = restart_keys(&self.told, &then);
         self.told.take_anew(then);
-        log_from(self.level, self.told.log);
-        tell(self.logged, keys.as_slice());
+        log_from(self.around.level, self.told.log);
+        tell(self.around.logged, keys.as_slice());
         self.name_places();
         let eras = self.told.record_eras;
         self.scribe.redirect(self.told.folder(), eras);
@@ -168,10 +157,10 @@ impl<'a, T: Threads + Wait + Log + Clock> LiveSettings<'a, T> {
 
     /// What the settings file says now. The desk has read it when it heard the line `reload`.
     fn read_again(&self) -> Read {
-        let read = self.reread.lock(self.logged).take();
+        let read = self.handed.reread.lock(self.around.logged).take();
         match read {
             Some(read) => read,
-            None => checked_at(&self.rt, self.config),
+            None => checked_at(&self.around.rt, self.around.config),
         }
     }
 
@@ -181,7 +170,7 @@ impl<'a, T: Threads + Wait + Log + Clock> LiveSettings<'a, T> {
     }
 }
 
-impl<'a, T: Threads + Log + Clock> Keeper for LiveSettings<'a, T> {
+impl<'a, T: Threads + Log + Clock + Copy> Keeper for LiveSettings<'a, T> {
     ghost use Rattle.std.specs.Prelude.{is_some};
 
     ghost given = { λ s. s.scribe.given };
@@ -197,21 +186,21 @@ impl<'a, T: Threads + Log + Clock> Keeper for LiveSettings<'a, T> {
     }
 }
 
-impl<'a, T: Threads + Wait + Log + Clock> Host for LiveSettings<'a, T> {
+impl<'a, T: Threads + Wait + Log + Clock + Copy> Host for LiveSettings<'a, T> {
     ghost relists = { Unit {0} };
 
     fn reload(&mut self) -> Answer {
         match self.read_again() {
             Ok(then) => self.take(then.told),
             Err(ending) => {
-                warn!(self.logged; "the settings were not read again, and stay as they are: {ending}");
+                warn!(self.around.logged; "the settings were not read again, and stay as they are: {ending}");
                 answer_of(SETTINGS_REFUSED)
             }
         }
     }
 
     fn joins(&mut self, stored: &Peers) -> Option<Joins> {
-        let is_new = self.listing.lock(self.logged).take_new();
+        let is_new = self.handed.listing.lock(self.around.logged).take_new();
         if is_new {
             Some(self.joins_with(stored))
         } else {

@@ -8,12 +8,12 @@ use crate::file_watch::FileWatch;
 use crate::host_lookup::HostLookup;
 use crate::listing::Listing;
 use crate::live_settings::{LiveSettings, log_from};
-use crate::member_doors::MemberDoors;
+use crate::member_chores::MemberChores;
 use crate::reading::settings_at;
-use crate::rereading::Read;
 use crate::settings_reading::SettingsReading;
 use crate::sockets::{Sockets, waits};
 use crate::state_file::{StateFile, open_node};
+use crate::surroundings::{HandedOver, Surroundings};
 use log::{Log, info};
 use std::fs::File;
 use std::io;
@@ -23,10 +23,9 @@ use std::thread::Threads;
 use std::time::{Clock, Duration};
 use swim_ending::Ending;
 use swim_log::LogLevel;
-use swim_serve::{Beat, Desk, Logs, Outside, run_kept};
+use swim_serve::{DoorsAndChores, Outside, Setup, run_kept};
 use swim_settings::{RunSettings, show_settings};
-use swim_shell::{Joiner, Receiver, Ticker};
-use swim_start::{generators, key_of};
+use swim_start::key_of;
 
 /// The settings that a file says, as the text of a file with all keys, but for `random_key`. Nothing else is opened, and nothing is
 /// written. An error is why `run` would end before it opens the state file.
@@ -36,17 +35,6 @@ pub fn shown_settings<R: Files<File = File> + AllocGlobal>(
 ) -> Result<String, Ending> {
     let told = settings_at(rt, config)?;
     show_settings(rt.alloc(), &told).map_err(|_| Ending::Memory)
-}
-
-/// After how many periods of a life the peers are kept that the member has met by then.
-const PEERS_PERIODS: u64 = 2;
-
-/// When the ticks of a member are due.
-fn beat_of(told: &RunSettings) -> Beat {
-    Beat::new(
-        Duration::from_millis(told.tick_ms),
-        told.settings.period.saturating_mul(PEERS_PERIODS),
-    )
 }
 
 /// How many ticks an expelled member waits before it ends; none if it is to stay. A member that hears last of the Confirm does so within
@@ -64,63 +52,56 @@ fn expelled_wait(told: &RunSettings) -> Option<u64>
     }
 }
 
+/// What a start has taken hold of: the key of its generators, its state file, and its sockets.
+#[derive(Drop)]
+struct Start<'a, T: Clock> {
+    key: [u8; 32],
+    file: StateFile,
+    sockets: Sockets<'a, T>,
+}
+
 /// Takes a number above all that the member may have used, and serves era after era.
 fn live<'a, T: Threads + Wait + Log + Clock + Send + Sync + Copy + Drop>(
-    rt: &HostRuntime,
-    logged: &'a T,
-    level: &'a LogLevel,
-    config: &'a str,
+    around: Surroundings<'a, T>,
     told: RunSettings,
-    listing: &'a Mutex<Listing>,
-    reread: &'a Mutex<Option<Read>>,
-    key: [u8; 32],
-    held: StateFile,
-    sockets: Sockets<'a, T>,
+    handed: &'a HandedOver,
+    start: Start<'a, T>,
 ) -> Result<(), Ending>
     requires { AreInRange told }
 {
+    let Surroundings {
+        rt,
+        logged,
+        config,
+        ..
+    } = around;
+    let Start { key, file, sockets } = start;
     let settings = told.settings;
-    let node = open_node(rt.alloc(), held.opened, held.watched, settings, told.limit)?;
+    let node = open_node(rt.alloc(), file.opened, file.watched, settings, told.limit)?;
     let number = node.first();
     info!(logged; "up with number {number}, at {}, control at {}", settings.me, told.control);
-    let (rng, draws) = generators(key);
-    let beat = beat_of(&told);
+    let tick = Duration::from_millis(told.tick_ms);
     let expelled_ends = expelled_wait(&told);
-    let mut host = LiveSettings::new(*rt, logged, level, config, told, listing, reread);
-    let joins = host.joins_with(&node.peers());
-    let joiner = Joiner::new(
-        settings.me,
-        settings.rules_of(),
-        joins.peers,
-        joins.paces,
-        draws,
-    );
-    let doors = MemberDoors {
-        doors: sockets.doors,
-        file: FileWatch::new(held.own, *logged),
-        hosts: HostLookup::new(*rt, logged, listing),
-        settings: SettingsReading::new(*rt, logged, config, reread),
-    };
-    let desk = Desk::new(rt.alloc(), *logged, joiner, doors).map_err(|_| Ending::Memory)?;
-    let outside = Outside {
-        receiver: Receiver::new(sockets.inbound),
-        ticker: Ticker { rng },
-        beat,
-        link: sockets.link,
-        owed: 0,
-        desk,
-        logs: Logs::new(settings.me, number),
-    };
-    let alarms = sockets.alarms;
-    let ended = run_kept(
-        logged,
-        rt.alloc(),
-        node,
-        outside,
-        &alarms,
+    let mut host = LiveSettings::new(around, told, handed);
+    let setup = Setup {
+        settings,
+        number,
+        tick,
+        joins: host.joins_with(&node.peers()),
+        key,
         expelled_ends,
-        &mut host,
-    );
+    };
+    let chores = MemberChores {
+        file: FileWatch::new(file.own, *logged),
+        hosts: HostLookup::new(rt, logged, &handed.listing),
+        settings: SettingsReading::new(rt, logged, config, &handed.reread),
+    };
+    let doors = DoorsAndChores::new(sockets.doors, chores);
+    let (inbound, link) = (sockets.inbound, sockets.link);
+    let outside = Outside::new(rt.alloc(), *logged, setup, inbound, link, doors);
+    let outside = outside.map_err(|_| Ending::Memory)?;
+    let alarms = sockets.alarms;
+    let ended = run_kept(logged, rt.alloc(), node, outside, &alarms, &mut host);
     host.finish();
     ended_by(ended.how)
 }
@@ -137,15 +118,22 @@ pub fn run<T: Threads + Wait + Log + Clock + Send + Sync + Copy + Drop>(
 ) -> Result<(), Ending> {
     let told = settings_at(rt, config)?;
     log_from(level, told.log);
-    let held = StateFile::lock(rt, told.file.as_str())?;
+    let file = StateFile::lock(rt, told.file.as_str())?;
     let drawn = key_of(rt, told.random_key);
     let key = drawn.map_err(|error: io::Error| Ending::of(&error, Ending::File))?;
     let (waits, connections) = waits(rt, rt.alloc())?;
     // The control socket stays open until all else is closed: who finds it closed may start the next life at once.
     let (sockets, _control) = Sockets::bind(rt, logged, &waits, connections, &told)?;
-    let listing = Mutex::new(Listing::new(told.join.as_slice()));
-    let reread = Mutex::new(None);
-    live(
-        rt, logged, level, config, told, &listing, &reread, key, held, sockets,
-    )
+    let handed = HandedOver {
+        listing: Mutex::new(Listing::new(told.join.as_slice())),
+        reread: Mutex::new(None),
+    };
+    let around = Surroundings {
+        rt: *rt,
+        logged,
+        level,
+        config,
+    };
+    let start = Start { key, file, sockets };
+    live(around, told, &handed, start)
 }

@@ -2,7 +2,7 @@
 use Rattle.std.proofs.Common.{◌≡◌, ℕ, ◌+◌, ◌==◌, ◌&&◌, ◌||◌, leb, Bool, true, false, true≢false, List, [], ◌∷◌, ◌++◌, length, refl, ap, sym, subst, ◌∙◌, arith, inl, inr, ⊎_elim, length-append}
 use Rattle.std.proofs.lemmas.List.{append-nil}
 use Rattle.std.proofs.lemmas.Bool.Decides.{nat_tests}
-use Rattle.std.specs.Prelude.{Option, Some, IsSomeAnd}
+use Rattle.std.specs.Prelude.{Option}
 use mathlib.Core.List.{IsPrefix}
 use Rattle.swim_member.specs.declared.event.Event.{Event}
 use Rattle.swim_node.specs.declared.entry.Entry.{Entry}
@@ -14,13 +14,11 @@ use Rattle.swim_shared.specs.Passes.{PassView, IsPass}
 use Rattle.swim_shared.specs.Taken.{taken_of}
 use Rattle.swim_shell.specs.declared.caller.Refusal.{Refusal}
 use Rattle.swim_shell.specs.Calls.{CallerView}
-use Rattle.swim_serve.specs.Eras.{HasCalls, Knows, ByPass, Served, SendsBy, Sends, outgoing_of}
-use Rattle.swim_serve.specs.Views.{view_of}
-use Rattle.swim_serve.specs.Works.{Sent}
+use Rattle.swim_serve.specs.Eras.{HasCalls, Knows, ByPass, OutsideView, Served, Serves, SendsBy, Sends, outgoing_of}
+use Rattle.swim_serve.specs.Views.{HasCalledBy, LinkView, link_of, view_of}
+use Rattle.swim_serve.specs.Works.{EraEnds, Sent}
+use Rattle.swim_serve.specs.declared.logs.EraCounts.{EraCounts}
 use Rattle.swim_serve.proofs.Fitting.{Fits}
-
-pub of_some : {A : Type 0} (P : A → Type 0) (o : Option A) (x : A) → o ≡ Some x → IsSomeAnd o P → P x
-of_some P o x is h = subst (λ w. IsSomeAnd w P) is h
 
 both : (a b : Bool) → (a && b) ≡ true → b ≡ true
 both true b h = h
@@ -63,21 +61,33 @@ knows base p s a journal ok (steps, begins) =
     )
 
 module _ {S E : Type 0} (does : S → CallerView → S → CallerView → Option E → Type 0) where
-  -- what a worker did by a caller, which gave its pass back
-  pub by_pass : (base : Base) (a b c : S) (p : CallerView) (s : Bool) (asked : List Event) (pass back : PassView) (end ends : Option E) → does a p b (view_of pass s asked) end → c ≡ b → back ≡ pass → ends ≡ end → IsPass base back → ByPass does base a p c back ends
-  by_pass base a b c p s asked pass back end ends did is same ended ok =
-      record { spent = s; asked = asked; did = subst (λ w. does a p c (view_of w s asked) ends) (sym same) (subst (λ w. does a p c (view_of pass s asked) w) (sym ended) (subst (λ w. does a p w (view_of pass s asked) end) (sym is) did)); is_pass = ok }
+  -- a worker did so by a caller, which gave its pass back
+  pub by_pass : (base : Base) (a b c : S) (o p q : CallerView) (pass : PassView) (end ends : Option E) → does a o b q end → o ≡ p → c ≡ b → HasCalledBy pass q → ends ≡ end → IsPass base pass → ByPass does base a p c pass ends
+  by_pass base a b c o p q pass end ends did begun is called ended ok = record {
+    known = q;
+    did = subst (λ w. does a w c q ends) begun (subst (λ w. does a o w q ends) (sym is) (subst (λ w. does a o b q w) (sym ended) did));
+    called = called;
+    is_pass = ok;
+  }
 
   pub served : (base : Base) (a b : S) (p : CallerView) (pass : PassView) (end : Option E) (journal : List Entry) → ByPass does base a p b pass end → Fits journal pass → Served does a p b end journal
-  served base a b p pass end journal by fits = record { then = view_of pass by.spent by.asked; did = by.did; knows = knows base pass by.spent by.asked journal by.is_pass fits }
+  served base a b p pass end journal by fits = record {
+    then = by.known;
+    did = by.did;
+    knows = subst (Knows journal) (sym by.called.known_is) (knows base pass by.called.spent by.called.asked journal by.is_pass fits);
+  }
+
+-- what was counted of the eras is no matter
+pub counted : (came tells : Type 0) (limit : ℕ) (ring : SenderView) (a b : OutsideView) (ends : EraEnds) (journal : List Entry) (eras : EraCounts) → Serves came tells limit ring a b ends journal → Serves came tells limit ring a (record b { eras = eras }) ends journal
+counted came tells limit ring a b ends journal eras s = record { receiver = s.receiver; ticker = s.ticker; sender = s.sender; control = s.control }
 
 module _ {M : Type 0} (tells : Type 0) (took : M → List (ℕ × List ℕ)) (failures : M → ℕ) where
-  pub sends : (base : Base) (owed : ℕ) (ring turned : SenderView) (link after last : M) (pass : PassView) (end : Option Refusal) (owes : ℕ) (journal : List Entry) → SendsBy tells took failures base owed ring link turned after pass end → Fits journal pass → HandedOn tells took failures turned.got (taken_of journal) after last → owes ≡ owed_after turned.owed (failures after) (failures last) → Sends tells took failures base.limit owed ring link last end owes journal
+  pub sends : (base : Base) (owed : ℕ) (ring turned : SenderView) (link : LinkView) (after last : M) (pass : PassView) (end : Option Refusal) (owes : ℕ) (journal : List Entry) → SendsBy tells base owed ring link turned (link_of (took after) (failures after)) pass end → Fits journal pass → HandedOn tells took failures turned.got (taken_of journal) after last → owes ≡ owed_after turned.owed (failures after) (failures last) → Sends tells base.limit owed ring link (link_of (took last) (failures last)) end owes journal
   sends base owed ring turned link after last pass end owes journal by fits handed owe = record {
     first = by.first;
     told = by.told;
-    then = outgoing_of took failures by.turns turned after;
-    served = served (Sent tells base.limit) base (outgoing_of took failures 0 ring link) (outgoing_of took failures by.turns turned after) by.first pass end journal by.by fits;
+    then = outgoing_of by.turns turned (link_of (took after) (failures after));
+    served = served (Sent tells base.limit) base (outgoing_of 0 ring link) (outgoing_of by.turns turned (link_of (took after) (failures after))) by.first pass end journal by.by fits;
     fates = handed.fates;
     rest = record { out = handed.out_is; took = handed.took_is; lost = handed.failures_is };
     owes_are = owe;

@@ -2,7 +2,6 @@
 use Rattle.std.proofs.Common.{◌≡◌, ◌∙◌, ℕ, List, [], ◌∷◌, ◌++◌, ap, subst, sym, refl, append_assoc, arith}
 use Rattle.std.proofs.lemmas.List.{append-nil}
 use Rattle.std.specs.Prelude.{Bool, true, false, Option, Some, None, is_some}
-use Rattle.rand_core.specs.Stream.{Stream}
 use Rattle.swim_disk.specs.Disk.{DiskState}
 use Rattle.swim_node.specs.declared.entry.Entry.{Entry}
 use Rattle.swim_state.specs.declared.owner.Owner.{Owner}
@@ -11,18 +10,19 @@ use Rattle.swim_node.specs.History.{Base, IsLegal, granted_of}
 use Rattle.swim_node.specs.Lives.{EndsEra, Era, GoesOn, IsLiving, IsRaised, era_of, life_of}
 use Rattle.swim_node.specs.Node.{NodeView, next_base}
 use Rattle.swim_node.specs.Owns.{owns, AreAtMost}
+use Rattle.swim_recorder.specs.Handing.{recorded}
 use Rattle.swim_node.proofs.Living.{goes_raised}
+use Rattle.logbook.specs.Pages.{Book}
+use Rattle.swim_node.specs.Link.{LinkId}
 use Rattle.swim_shared.specs.Moments.{CoversEra}
+use Rattle.swim_shared.specs.Outboxes.{OutboxView, SenderView}
+use Rattle.swim_shared.specs.Parts.{PartsView}
 use Rattle.swim_shared.proofs.Moments.{begins_node, goes_on}
-use Rattle.swim_shell.specs.declared.conversation.Conversation.{Conversation}
-use Rattle.swim_shell.specs.Inbounds.{ReceiverView}
-use Rattle.swim_serve.specs.declared.era.EraEnds.{EraEnds}
 use Rattle.swim_serve.specs.declared.serving.Fault.{Fault}
-use Rattle.swim_serve.specs.Desks.{DeskView, Tended}
-use Rattle.swim_serve.specs.Eras.{EraOf, LivesThrough, SendsAll, Served, StaysIn}
+use Rattle.swim_serve.specs.Eras.{EraOf, LivesThrough, NamesParts, OutsideView, ServesAnew, StaysIn}
 use Rattle.swim_serve.specs.Members.{Eras, Here, Hosts, IsGiven, MemberView, Next, ServesEra, member_of}
-use Rattle.swim_serve.specs.Views.{new_caller}
-use Rattle.swim_serve.specs.Works.{Received, Ticked}
+use Rattle.swim_serve.specs.Faults.{fault_of}
+use Rattle.swim_serve.specs.Works.{EraEnds}
 
 -- an equal base is one that was raised
 pub raised : (start base : Base) → base ≡ start → IsRaised start base
@@ -35,7 +35,7 @@ module _ {D : Type 0} (keeps : Type 0) (state : D → DiskState) where
       goes_raised state a b (raised a.base b.base stays.base) stays.owner stays.first
 
   -- a node of the same name as these parts, and one of which nothing was called
-  pub stays_in : (a n : NodeView D) (base : Base) (name clock : ℕ) (owner : Owner) (first : ℕ) → a.base ≡ base → (state a.disk).name ≡ name → (state a.disk).clock ≡ clock → a.owner ≡ owner → a.first ≡ first → IsLegal base n.entries → n.base ≡ base → (state n.disk).name ≡ name → n.owner ≡ owner → n.first ≡ first → (keeps → CoversEra (state n.disk) owner base clock n.entries) → StaysIn keeps state a n
+  stays_in : (a n : NodeView D) (base : Base) (name clock : ℕ) (owner : Owner) (first : ℕ) → a.base ≡ base → (state a.disk).name ≡ name → (state a.disk).clock ≡ clock → a.owner ≡ owner → a.first ≡ first → IsLegal base n.entries → n.base ≡ base → (state n.disk).name ≡ name → n.owner ≡ owner → n.first ≡ first → (keeps → CoversEra (state n.disk) owner base clock n.entries) → StaysIn keeps state a n
   stays_in a n base name clock owner first a_base a_name a_clock a_owner a_first legal n_base n_name n_owner n_first covers = record {
     base = n_base ∙ sym a_base;
     legal = subst (λ (b : Base). IsLegal b n.entries) (sym n_base) legal;
@@ -47,6 +47,11 @@ module _ {D : Type 0} (keeps : Type 0) (state : D → DiskState) where
         (subst (λ (b : Base). CoversEra (state n.disk) owner b (state a.disk).clock n.entries) (sym a_base)
         (subst (λ (t : ℕ). CoversEra (state n.disk) owner base t n.entries) (sym a_clock) (covers model)));
   }
+
+  -- the same of a node that was shared as the parts of this name
+  pub stays_named : (parts : PartsView D OutboxView) (ring : SenderView) (n : NodeView D) (book : Book) (base : Base) (disk clock : ℕ) (owner : Owner) (first : ℕ) (link : LinkId) (start : List (ℕ × List ℕ)) → NamesParts state book base disk clock owner first link start parts ring → IsLegal base n.entries → n.base ≡ base → (state n.disk).name ≡ disk → n.owner ≡ owner → n.first ≡ first → (keeps → CoversEra (state n.disk) owner base clock n.entries) → StaysIn keeps state parts.node n
+  stays_named parts ring n book base disk clock owner first link start named legal n_base n_name n_owner n_first covers =
+      stays_in parts.node n base disk clock owner first named.base_is named.disk_is named.clock_is named.owner_is named.first_is legal n_base n_name n_owner n_first covers
 
   is_legal : (n : NodeView D) → n.entries ≡ [] → IsLegal n.base n.entries
   is_legal n none = subst (λ (es : List Entry). IsLegal n.base es) (sym none) (record { each = tt; within = omega arith })
@@ -76,14 +81,11 @@ module _ {D : Type 0} (keeps : Type 0) (state : D → DiskState) where
       subst (λ (xs : List Era). IsLiving state c.owner (life_of settings limit opened xs c)) (append_assoc eras es fs) (then settings limit opened (eras ++ es) (first settings limit opened eras living))
 
   -- a whole era: the node n had its journal, and the next one begins with b
-  pub era_done : (a n b : NodeView D) (receives ticks sends serves : List Entry → Type 0) → StaysIn keeps state a n → receives n.entries → ticks n.entries → sends n.entries → serves n.entries → IsRaised (next_base n.base n.entries) b.base → (state b.disk).name ≡ (state n.disk).name → b.owner ≡ n.owner → b.first ≡ n.first → EndsEra state n b → (keeps → Through (Covers n.owner (granted_of n.base n.entries)) (state n.disk) (state b.disk)) → EraOf keeps state a b (era_of n) receives ticks sends serves
-  era_done a n b receives ticks sends serves stays received ticked sent served raised disk owner first ends through = record {
+  pub era_done : (a n b : NodeView D) (serves : List Entry → Type 0) → StaysIn keeps state a n → serves n.entries → IsRaised (next_base n.base n.entries) b.base → (state b.disk).name ≡ (state n.disk).name → b.owner ≡ n.owner → b.first ≡ n.first → EndsEra state n b → (keeps → Through (Covers n.owner (granted_of n.base n.entries)) (state n.disk) (state b.disk)) → EraOf keeps state a b (era_of n) serves
+  era_done a n b serves stays served raised disk owner first ends through = record {
     base = stays.base;
     legal = stays.legal;
-    receiver = received;
-    ticker = ticked;
-    sender = sent;
-    control = served;
+    served = served;
     goes_on = raised;
     disk = disk ∙ stays.disk;
     owner = owner ∙ stays.owner;
@@ -110,23 +112,23 @@ is_given false None before now era is on off = off refl
 is_given false (Some why) before now era is on off = off refl
 
 -- whole eras of a member
-module _ {D M Rd Wr : Type 0} (keeps : Type 0) (state : D → DiskState) (came tells : Type 0) (took : M → List (ℕ × List ℕ)) (failures : M → ℕ) (remaining : Rd → _) (contents : Wr → _) where
+module _ {D : Type 0} (keeps : Type 0) (state : D → DiskState) (came tells : Type 0) where
   -- the node p was shared, which is that of the member
-  pub era_served : (p a n b : NodeView D) (receiver receiver' : ReceiverView) (deals deals' : Stream) (link link' : M) (owed owed' : ℕ) (desk desk' : DeskView (Conversation Rd Wr)) (ends : EraEnds) → p ≡ a → StaysIn keeps state p n → Served (Received came p.base.limit) receiver (new_caller 0) receiver' ends.receiver n.entries → Served (Ticked p.base.limit) deals (new_caller 1) deals' ends.ticker n.entries → SendsAll tells took failures p.base.limit owed owed' link link' ends.sender n.entries → Served (Tended remaining contents p.base.limit) desk (new_caller 3) desk' ends.control n.entries → IsRaised (next_base n.base n.entries) b.base → (state b.disk).name ≡ (state n.disk).name → b.owner ≡ n.owner → b.first ≡ n.first → EndsEra state n b → (keeps → Through (Covers n.owner (granted_of n.base n.entries)) (state n.disk) (state b.disk)) → ServesEra keeps state came tells took failures remaining contents (member_of a receiver deals link owed desk) (member_of b receiver' deals' link' owed' desk') ends (era_of n)
-  era_served p a n b receiver receiver' deals deals' link link' owed owed' desk desk' ends is stays received ticked sent served raised disk owner first ends_era through =
-      subst (λ (x : NodeView D). ServesEra keeps state came tells took failures remaining contents (member_of x receiver deals link owed desk) (member_of b receiver' deals' link' owed' desk') ends (era_of n)) is (era_done keeps state p n b _ _ _ _ stays received ticked sent served raised disk owner first ends_era through)
+  pub era_served : (p a n b : NodeView D) (outside after : OutsideView) (ends : EraEnds) → p ≡ a → StaysIn keeps state p n → ServesAnew came tells p.base.limit outside after ends n.entries → IsRaised (next_base n.base n.entries) b.base → (state b.disk).name ≡ (state n.disk).name → b.owner ≡ n.owner → b.first ≡ n.first → EndsEra state n b → (keeps → Through (Covers n.owner (granted_of n.base n.entries)) (state n.disk) (state b.disk)) → (kept kept' : Bool) (given given' : List Era) → IsGiven kept (fault_of ends) given given' (recorded n.base n.entries) → ServesEra keeps state came tells (member_of a outside kept given) (member_of b after kept' given') ends (era_of n)
+  era_served p a n b outside after ends is stays served raised disk owner first ends_era through kept kept' given given' gives =
+      subst (λ (x : NodeView D). ServesEra keeps state came tells (member_of x outside kept given) (member_of b after kept' given') ends (era_of n)) is (record { is = era_done keeps state p n b _ stays served raised disk owner first ends_era through; given = gives })
 
 -- lives through many of them
-module _ {D M Rd Wr : Type 0} (keeps : Type 0) (state : D → DiskState) (came tells : Type 0) (took : M → List (ℕ × List ℕ)) (failures : M → ℕ) (remaining : Rd → _) (contents : Wr → _) (relists : Type 0) where
-  pub eras_live : (a : MemberView D M (Conversation Rd Wr)) (es : List Era) (b : MemberView D M (Conversation Rd Wr)) → Eras (ServesEra keeps state came tells took failures remaining contents) (Hosts keeps state came tells took failures remaining contents relists) a es b → LivesThrough state a.node es b.node
+module _ {D : Type 0} (keeps : Type 0) (state : D → DiskState) (came tells relists : Type 0) where
+  pub eras_live : (a : MemberView D) (es : List Era) (b : MemberView D) → Eras (ServesEra keeps state came tells) (Hosts keeps state came tells relists) a es b → LivesThrough state a.node es b.node
   eras_live a _ _ (Here _) = through_none keeps state a.node a.node (λ settings limit opened eras living. living)
   eras_live a _ d (Next _ b c _ before ends last eras era then) =
-      let to_c = through_both keeps state a.node b.node c.node before (last ∷ []) (eras_live a before b eras) era.life in
+      let to_c = through_both keeps state a.node b.node c.node before (last ∷ []) (eras_live a before b eras) era.is.life in
       subst (λ (n : NodeView D). LivesThrough state a.node (before ++ last ∷ []) n) (sym (ap (λ m. m.node) then.rest)) to_c
 
   -- and so is the last one, whole or cut short
-  pub whole_live : (a : MemberView D M (Conversation Rd Wr)) (es : List Era) (b : MemberView D M (Conversation Rd Wr)) (last : Era) (left : NodeView D) → Eras (ServesEra keeps state came tells took failures remaining contents) (Hosts keeps state came tells took failures remaining contents relists) a es b → LivesThrough state b.node (last ∷ []) left → LivesThrough state a.node (es ++ last ∷ []) left
+  pub whole_live : (a : MemberView D) (es : List Era) (b : MemberView D) (last : Era) (left : NodeView D) → Eras (ServesEra keeps state came tells) (Hosts keeps state came tells relists) a es b → LivesThrough state b.node (last ∷ []) left → LivesThrough state a.node (es ++ last ∷ []) left
   whole_live a es b last left eras life = through_both keeps state a.node b.node left es (last ∷ []) (eras_live a es b eras) life
 
-  pub cut_live : (a : MemberView D M (Conversation Rd Wr)) (es : List Era) (b : MemberView D M (Conversation Rd Wr)) (left : NodeView D) → Eras (ServesEra keeps state came tells took failures remaining contents) (Hosts keeps state came tells took failures remaining contents relists) a es b → StaysIn keeps state b.node left → LivesThrough state a.node es left
+  pub cut_live : (a : MemberView D) (es : List Era) (b : MemberView D) (left : NodeView D) → Eras (ServesEra keeps state came tells) (Hosts keeps state came tells relists) a es b → StaysIn keeps state b.node left → LivesThrough state a.node es left
   cut_live a es b left eras stays settings limit opened past living = same_life keeps state b.node left stays settings limit opened (past ++ es) (eras_live a es b eras settings limit opened past living)

@@ -1,38 +1,35 @@
 -- What a desk does with its caller.
-use Rattle.std.specs.Prelude.{◌≡◌, ◌≢◌, ℕ, List, [], ◌∷◌, ◌++◌, ◌⊎◌, Option, Some, None}
+use Rattle.std.specs.Prelude.{◌≡◌, ◌≢◌, ℕ, Bool, List, [], ◌∷◌, ◌++◌, ◌⊎◌, Option, Some, None}
 use Rattle.swim_shell.specs.declared.caller.Refusal.{Refusal}
-use Rattle.swim_shell.specs.declared.conversation.Conversation.{Conversation}
 use Rattle.swim_shell.specs.declared.conversation.ControlEnd.{ControlEnd}
 use Rattle.swim_shell.specs.declared.conversation.ControlEnd.TheVariants as ends
 use Rattle.swim_shell.specs.Calls.{CallerView}
 use Rattle.swim_shell.specs.declared.paces.Paces.{Paces}
 use Rattle.swim_shell.specs.Joins.{JoinerView, IsRelisted}
 use Rattle.swim_shell.specs.Turns.{Turned, TurnedInVain}
-use Rattle.swim_shell.specs.Views.{ConversationView, view_of}
+use Rattle.swim_shell.specs.Views.{ConversationView}
 use Rattle.swim_shell.specs.Control.{Converses, ConversedBy, IsTold}
 use Rattle.swim_serve.specs.Works.{Worked}
 
 -- what a contract sees of a desk: its joiner, the conversation that has the turns, and those that
--- are open beside it, the next one first
-pub record DeskView (S : Type 0) : Type 0 where
+-- are open beside it, the next one first; to how many of them in a row nothing had come; and
+-- whether what the line `reload` of one of them asks for is being made ready
+pub record DeskView : Type 0 where
   pub joiner : JoinerView
-  pub conversation : Option S
-  pub others : List S
-
--- the same of these parts
-abbrev pub desk_of : {S : Type 0} → JoinerView → Option S → List S → DeskView S
-desk_of joiner conversation others =
-    record { joiner = joiner; conversation = conversation; others = others }
+  pub conversation : Option ConversationView
+  pub others : List ConversationView
+  pub silent : ℕ
+  pub preparing : Bool
 
 -- what a desk does next: its joiner has a turn, after which it is so; a conversation is opened, or
 -- the next one goes on; and the one that has the turns stands aside after so many of them, or comes
 -- to its end
-pub data Step (S : Type 0) : Type 0 where
-  Joining : JoinerView → Step S
-  Opening : S → Step S
-  Resuming : S → Step S
-  Pausing : S → (turns : ℕ) → Step S
-  Ending : S → ControlEnd → (turns : ℕ) → Step S
+pub data Step : Type 0 where
+  Joining : JoinerView → Step
+  Opening : ConversationView → Step
+  Resuming : ConversationView → Step
+  Pausing : ConversationView → (turns : ℕ) → Step
+  Ending : ConversationView → ControlEnd → (turns : ℕ) → Step
 
 -- the end of the connection alone
 abbrev pub OfConnection : ControlEnd → Type 0
@@ -54,147 +51,117 @@ OfMember ends.Renewed = Unit {0}
 OfMember ends.Reloading = Unit {0}
 OfMember (ends.Refused why) = Unit {0}
 
--- the conversation whose turn is next: a new one, or the first of the others
-abbrev pub IsTurnIn : {S : Type 0} → (S → Type 0) → S → List S → List S → Type 0
-IsTurnIn fresh c os us = (fresh c × (us ≡ os)) ⊎ (os ≡ c ∷ us)
-
--- conversations begin so, and have turns and ends so
-module _ {S : Type 0} (fresh : S → Type 0) (worked : S → CallerView → S → CallerView → ℕ → Type 0)
-    (ended : ControlEnd → S → CallerView → S → CallerView → ℕ → Type 0) (limit : ℕ) where
-  -- these steps, one after another, from this joiner, this conversation and these others: the
-  -- joiner has a turn, and a conversation is opened or goes on, only where none has the turns; one
-  -- that stands aside is the last of the others, as it is then
-  abbrev pub Steps : JoinerView → Option S → List S → CallerView → List (Step S) → JoinerView
-      → Option S → List S → CallerView → Type 0
-  Steps j from os p [] k to us q = (k ≡ j) × (to ≡ from) × (us ≡ os) × (q ≡ p)
-  Steps j from os p (Joining i ∷ ss) k to us q =
-      (from ≡ None) × (then : CallerView) × Turned j p i then × Steps i None os then ss k to us q
-  Steps j from os p (Opening c ∷ ss) k to us q =
-      (from ≡ None) × fresh c × Steps j (Some c) os p ss k to us q
-  Steps j from os p (Resuming c ∷ ss) k to us q =
-      (from ≡ None) × (rest : List S) × (os ≡ c ∷ rest) × Steps j (Some c) rest p ss k to us q
-  Steps j from os p (Pausing d n ∷ ss) k to us q =
-      (c : S) × (then : CallerView) × (from ≡ Some c) × worked c p d then n
-      × Steps j None (os ++ d ∷ []) then ss k to us q
-  Steps j from os p (Ending d end n ∷ ss) k to us q =
-      (c : S) × (then : CallerView) × (from ≡ Some c) × OfConnection end × ended end c p d then n
-      × Steps j None os then ss k to us q
-
-  -- the conversation that got the turns has had some since
-  abbrev pub IsOpen : Option S → CallerView → Option S → CallerView → Type 0
-  IsOpen None then now q = (now ≡ None) × (q ≡ then)
-  IsOpen (Some c) then now q =
-      (d : S) × (n : ℕ) × (now ≡ Some d) × worked c then d q n
-
-  -- the turns of a desk: all calls are the joiner's or of conversations, one at a time, and those
-  -- that were open at the start go on
-  pub record Tending (a : DeskView S) (p : CallerView) (b : DeskView S) (q : CallerView) (turns : ℕ)
-      : Type 0 where
-    pub steps : List (Step S)
-    pub since : Option S
-    pub then : CallerView
-    pub done : Steps a.joiner a.conversation a.others p steps b.joiner since b.others then
-    pub goes_on : IsOpen since then b.conversation q
-
-  -- how a desk ends: a call of its joiner was refused, or what it sees to beside its connections
-  -- asked for the end of the era, or the open conversation ended so
-  abbrev pub EndsDesk : ControlEnd → JoinerView → Option S → CallerView → JoinerView → Option S
-      → CallerView → Type 0
-  EndsDesk end j None then k now q =
-      (now ≡ None) × (((why : Refusal) × (end ≡ ends.Refused why)
-      × TurnedInVain limit why j then k q)
-      ⊎ ((end ≡ ends.Renewed) × (k ≡ j) × (q ≡ then)))
-  EndsDesk end j (Some c) then k now q =
-      (k ≡ j) × (d : S) × (n : ℕ) × (now ≡ Some d) × OfMember end × ended end c then d q n
-
-  -- the turns of a desk that ended so; the conversation that ended it keeps the turns
-  pub record TendedBy (end : ControlEnd) (a : DeskView S) (p : CallerView) (b : DeskView S)
-      (q : CallerView) (turns : ℕ)
-      : Type 0 where
-    pub steps : List (Step S)
-    pub joiner : JoinerView
-    pub since : Option S
-    pub then : CallerView
-    pub done : Steps a.joiner a.conversation a.others p steps joiner since b.others then
-    pub ends_by : EndsDesk end joiner since then b.joiner b.conversation q
-
-  -- ---- parts of a turn
-
-  -- it has the turns now and had none yet; or no conversation has them, and the others are the same
-  abbrev pub Opened : CallerView → List S → Option S → List S → Type 0
-  Opened p os None us = us ≡ os
-  Opened p os (Some c) us = (first : S) × IsTurnIn fresh first os us × worked first p c p 0
-
--- whom the joiner joins is the same, or, if it ever changes, it joins other peers by other paces
-abbrev pub MayRelist : Type 0 → JoinerView → JoinerView → Type 0
-MayRelist relists j k =
-    (k ≡ j) ⊎ (relists × (peers : List ℕ) × (paces : Paces) × IsRelisted peers paces j k)
-
 -- of a connection that is new nothing was heard, and nothing is left to write
 pub record IsNew (c : ConversationView) : Type 0 where
   pub kept : c.kept ≡ []
   pub left : c.left ≡ []
   pub due : c.due ≡ None
 
--- a reader tells what is to come, a writer what it has
-module _ {Rd Wr : Type 0} (remaining : Rd → Option (List ℕ)) (contents : Wr → Option (List ℕ)) where
-  abbrev pub IsNewTalk : Conversation Rd Wr → Type 0
-  IsNewTalk c = IsNew (view_of remaining contents c)
+-- the conversation whose turn is next: a new one, or the first of the others
+abbrev pub IsTurnIn : ConversationView → List ConversationView → List ConversationView → Type 0
+IsTurnIn c os us = (IsNew c × (us ≡ os)) ⊎ (os ≡ c ∷ us)
 
-  -- the conversation has the answer to its line to write, where nothing was left to write
-  pub record IsAnswered (a b : Conversation Rd Wr) : Type 0 where
-    pub told : (view_of remaining contents a).left ≡ []
-        → (text : List ℕ) × IsTold text (view_of remaining contents a)
-        (view_of remaining contents b)
-    pub busy : (view_of remaining contents a).left ≢ [] → b ≡ a
-
-  -- so has the one that has the turns, if there is one
-  abbrev pub HasAnswer : Option (Conversation Rd Wr) → Option (Conversation Rd Wr) → Type 0
-  HasAnswer None now = now ≡ None
-  HasAnswer (Some a) now = (b : Conversation Rd Wr) × (now ≡ Some b) × IsAnswered a b
-
-  -- the one that ended an era by the line `reload` has its answer to write
-  abbrev pub AnswersLine : Option ControlEnd → Option (Conversation Rd Wr)
-      → Option (Conversation Rd Wr) → Type 0
-  AnswersLine (Some ends.Reloading) before now = HasAnswer before now
-  AnswersLine _ before now = now ≡ before
-
-  -- the host of a member was asked after an era whose control ended so: whom the joiner joins may
-  -- have changed, and the line `reload` has its answer
-  pub record IsHosted (relists : Type 0) (end : Option ControlEnd)
-      (a b : DeskView (Conversation Rd Wr))
-      : Type 0 where
-    pub joiner : MayRelist relists a.joiner b.joiner
-    pub conversation : AnswersLine end a.conversation b.conversation
-    pub others : b.others ≡ a.others
-
--- the turns of a caller of so many calls
-module _ {Rd Wr : Type 0} (remaining : Rd → Option (List ℕ)) (contents : Wr → Option (List ℕ))
-    (limit : ℕ) where
-  abbrev pub TalkGoes : Conversation Rd Wr → CallerView → Conversation Rd Wr → CallerView → ℕ
+-- of a caller whose era has room for so many calls
+module _ (limit : ℕ) where
+  -- these steps, one after another, from this joiner, this conversation and these others: the
+  -- joiner has a turn, and a conversation is opened or goes on, only where none has the turns; one
+  -- that stands aside is the last of the others, as it is then
+  abbrev pub Steps : JoinerView → Option ConversationView → List ConversationView → CallerView
+      → List Step → JoinerView → Option ConversationView → List ConversationView → CallerView
       → Type 0
-  TalkGoes a p b q n = Converses limit (view_of remaining contents a) p
-      (view_of remaining contents b) q n
+  Steps j from os p [] k to us q = (k ≡ j) × (to ≡ from) × (us ≡ os) × (q ≡ p)
+  Steps j from os p (Joining i ∷ ss) k to us q =
+      (from ≡ None) × (then : CallerView) × Turned j p i then × Steps i None os then ss k to us q
+  Steps j from os p (Opening c ∷ ss) k to us q =
+      (from ≡ None) × IsNew c × Steps j (Some c) os p ss k to us q
+  Steps j from os p (Resuming c ∷ ss) k to us q =
+      (from ≡ None) × (rest : List ConversationView) × (os ≡ c ∷ rest)
+      × Steps j (Some c) rest p ss k to us q
+  Steps j from os p (Pausing d n ∷ ss) k to us q =
+      (c : ConversationView) × (then : CallerView) × (from ≡ Some c)
+      × Converses limit c p d then n × Steps j None (os ++ d ∷ []) then ss k to us q
+  Steps j from os p (Ending d end n ∷ ss) k to us q =
+      (c : ConversationView) × (then : CallerView) × (from ≡ Some c) × OfConnection end
+      × ConversedBy end limit c p d then n × Steps j None os then ss k to us q
 
-  abbrev pub TalkEnds : ControlEnd → Conversation Rd Wr → CallerView → Conversation Rd Wr
-      → CallerView → ℕ → Type 0
-  TalkEnds end a p b q n =
-      ConversedBy end limit (view_of remaining contents a) p (view_of remaining contents b) q n
+  -- the conversation that got the turns has had some since
+  abbrev pub IsOpen : Option ConversationView → CallerView → Option ConversationView → CallerView
+      → Type 0
+  IsOpen None then now q = (now ≡ None) × (q ≡ then)
+  IsOpen (Some c) then now q =
+      (d : ConversationView) × (n : ℕ) × (now ≡ Some d) × Converses limit c then d q n
 
-  -- the turns of a desk whose conversations are with such readers and writers
-  abbrev pub Tends : DeskView (Conversation Rd Wr) → CallerView → DeskView (Conversation Rd Wr)
-      → CallerView → ℕ → Type 0
-  Tends = Tending (IsNewTalk remaining contents) TalkGoes TalkEnds limit
+  -- the turns of a desk: all calls are the joiner's or of conversations, one at a time, and those
+  -- that were open at the start go on
+  pub record Tending (a : DeskView) (p : CallerView) (b : DeskView) (q : CallerView) (turns : ℕ)
+      : Type 0 where
+    pub steps : List Step
+    pub since : Option ConversationView
+    pub then : CallerView
+    pub done : Steps a.joiner a.conversation a.others p steps b.joiner since b.others then
+    pub goes_on : IsOpen since then b.conversation q
 
-  abbrev pub TendsTo : ControlEnd → DeskView (Conversation Rd Wr) → CallerView
-      → DeskView (Conversation Rd Wr) → CallerView → ℕ → Type 0
-  TendsTo = TendedBy (IsNewTalk remaining contents) TalkGoes TalkEnds limit
+  -- how a desk ends: a call of its joiner was refused, or what it sees to beside its connections
+  -- asked for the end of the era, or the open conversation ended so
+  abbrev pub EndsDesk : ControlEnd → JoinerView → Option ConversationView → CallerView
+      → JoinerView → Option ConversationView → CallerView → Type 0
+  EndsDesk end j None then k now q =
+      (now ≡ None) × (((why : Refusal) × (end ≡ ends.Refused why)
+      × TurnedInVain limit why j then k q)
+      ⊎ ((end ≡ ends.Renewed) × (k ≡ j) × (q ≡ then)))
+  EndsDesk end j (Some c) then k now q =
+      (k ≡ j) × (d : ConversationView) × (n : ℕ) × (now ≡ Some d) × OfMember end
+      × ConversedBy end limit c then d q n
+
+  -- the turns of a desk that ended so; the conversation that ended it keeps the turns
+  pub record TendedBy (end : ControlEnd) (a : DeskView) (p : CallerView) (b : DeskView)
+      (q : CallerView) (turns : ℕ)
+      : Type 0 where
+    pub steps : List Step
+    pub joiner : JoinerView
+    pub since : Option ConversationView
+    pub then : CallerView
+    pub done : Steps a.joiner a.conversation a.others p steps joiner since b.others then
+    pub ends_by : EndsDesk end joiner since then b.joiner b.conversation q
 
   -- a desk had some turns, and the last of them ended it so, if one did
-  abbrev pub Tended : DeskView (Conversation Rd Wr) → CallerView → DeskView (Conversation Rd Wr)
-      → CallerView → Option ControlEnd → Type 0
-  Tended = Worked Tends TendsTo
+  abbrev pub Tended : DeskView → CallerView → DeskView → CallerView → Option ControlEnd → Type 0
+  Tended = Worked Tending TendedBy
 
-  abbrev pub Opens : CallerView → List (Conversation Rd Wr) → Option (Conversation Rd Wr)
-      → List (Conversation Rd Wr) → Type 0
-  Opens = Opened (IsNewTalk remaining contents) TalkGoes TalkEnds limit
+  -- ---- a part of a turn
+
+  -- a conversation has the turns now and had none yet; or none has them, and the others are the
+  -- same
+  abbrev pub Opens : CallerView → List ConversationView → Option ConversationView
+      → List ConversationView → Type 0
+  Opens p os None us = us ≡ os
+  Opens p os (Some c) us =
+      (first : ConversationView) × IsTurnIn first os us × Converses limit first p c p 0
+
+-- whom the joiner joins is the same, or, if it ever changes, it joins other peers by other paces
+abbrev pub MayRelist : Type 0 → JoinerView → JoinerView → Type 0
+MayRelist relists j k =
+    (k ≡ j) ⊎ (relists × (peers : List ℕ) × (paces : Paces) × IsRelisted peers paces j k)
+
+-- the conversation has the answer to its line to write, where nothing was left to write
+pub record IsAnswered (a b : ConversationView) : Type 0 where
+  pub told : a.left ≡ [] → (text : List ℕ) × IsTold text a b
+  pub busy : a.left ≢ [] → b ≡ a
+
+-- so has the one that has the turns, if there is one
+abbrev pub HasAnswer : Option ConversationView → Option ConversationView → Type 0
+HasAnswer None now = now ≡ None
+HasAnswer (Some a) now = (b : ConversationView) × (now ≡ Some b) × IsAnswered a b
+
+-- the one that ended an era by the line `reload` has its answer to write
+abbrev pub AnswersLine : Option ControlEnd → Option ConversationView → Option ConversationView
+    → Type 0
+AnswersLine (Some ends.Reloading) before now = HasAnswer before now
+AnswersLine _ before now = now ≡ before
+
+-- the host of a member was asked after an era whose control ended so: whom the joiner joins may
+-- have changed, and the line `reload` has its answer
+pub record IsHosted (relists : Type 0) (end : Option ControlEnd) (a b : DeskView) : Type 0 where
+  pub joiner : MayRelist relists a.joiner b.joiner
+  pub conversation : AnswersLine end a.conversation b.conversation
+  pub others : b.others ≡ a.others

@@ -1,5 +1,5 @@
 -- What is counted of the eras of a member.
-use Rattle.std.specs.Prelude.{ℕ, ◌==◌, Bool, true, false, List, length}
+use Rattle.std.specs.Prelude.{ℕ, Bool, true, false, List, length}
 use Rattle.std.specs.List.{filter}
 use Rattle.swim_node.specs.declared.entry.Entry.{Entry}
 use Rattle.swim_node.specs.declared.entry.Save.{Save}

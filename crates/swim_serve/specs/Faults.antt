@@ -8,9 +8,9 @@ use Rattle.swim_shell.specs.declared.worker.WorkerEnd.{WorkerEnd}
 use Rattle.swim_shell.specs.declared.worker.WorkerEnd.TheVariants as worker
 use Rattle.swim_serve.specs.declared.serving.Fault.{Fault}
 use Rattle.swim_serve.specs.declared.serving.Fault.TheVariants as fault
-use Rattle.swim_serve.specs.declared.era.EraEnds.{EraEnds}
 use Rattle.swim_serve.specs.declared.era.EraFault.{EraFault}
 use Rattle.swim_serve.specs.declared.era.EraFault.TheVariants as era
+use Rattle.swim_serve.specs.Works.{EraEnds}
 
 -- an era could not be: for want of memory, as its first call was refused, or since its journal does
 -- not have the calls of a worker as that one knows them

@@ -1,47 +1,42 @@
 -- A member from one era to the next.
 use Rattle.std.specs.Prelude.{◌≡◌, ◌⊎◌, ℕ, List, [], ◌∷◌, ◌++◌, Bool, true, IsTrue, IsSome}
 use Rattle.std.specs.Prelude.{Option, Some, None, Result, IfOk, IfErr, OnOk}
-use Rattle.rand_core.specs.Stream.{Stream}
 use Rattle.swim_disk.specs.Disk.{DiskState}
 use Rattle.swim_member.specs.declared.state.Phase.{Phase}
 use Rattle.swim_member.specs.declared.state.Phase.TheVariants as phases
 use Rattle.swim_node.specs.Lives.{Era}
 use Rattle.swim_node.specs.Node.{NodeView}
-use Rattle.swim_shell.specs.declared.conversation.Conversation.{Conversation}
+use Rattle.swim_recorder.specs.Handing.{recorded}
 use Rattle.swim_shell.specs.declared.conversation.ControlEnd.{ControlEnd}
 use Rattle.swim_shell.specs.declared.conversation.ControlEnd.TheVariants as control
-use Rattle.swim_shell.specs.Inbounds.{ReceiverView}
-use Rattle.swim_serve.specs.declared.era.EraEnds.{EraEnds}
 use Rattle.swim_serve.specs.declared.era.EraFault.{EraFault}
 use Rattle.swim_serve.specs.declared.serving.Fault.{Fault}
 use Rattle.swim_serve.specs.declared.serving.Fault.TheVariants as fault
 use Rattle.swim_serve.specs.declared.serving.MemberEnd.{MemberEnd}
 use Rattle.swim_serve.specs.declared.serving.MemberEnd.TheVariants as member
-use Rattle.swim_serve.specs.Desks.{DeskView, IsHosted, Tended}
-use Rattle.swim_serve.specs.Eras.{EraOf, LivesThrough, SendsAll, Served, StaysIn}
+use Rattle.swim_serve.specs.Desks.{IsHosted}
+use Rattle.swim_serve.specs.Eras.{EraOf, LivesThrough, OutsideView, ServesAnew, StaysIn}
 use Rattle.swim_serve.specs.Faults.{fault_by, fault_of}
-use Rattle.swim_serve.specs.Views.{new_caller}
-use Rattle.swim_serve.specs.Works.{Received, Ticked}
+use Rattle.swim_serve.specs.Works.{EraEnds}
 
--- what a contract sees of a member between two eras: its node, and what its workers go on with
-pub record MemberView (D M S : Type 0) : Type 0 where
+-- what a contract sees of who keeps the eras of a member: whether it keeps them now, and those that
+-- it was given, in order
+pub record KeeperView : Type 0 where
+  pub keeps : Bool
+  pub given : List Era
+
+-- what a contract sees of a member between two eras: its node, what it works with, and its keeper
+pub record MemberView (D : Type 0) : Type 0 where
   pub node : NodeView D
-  pub receiver : ReceiverView
-  pub deals : Stream
-  pub link : M
-  pub owed : ℕ
-  pub desk : DeskView S
+  pub outside : OutsideView
+  pub keeper : KeeperView
 
 -- the same of these parts
-abbrev pub member_of : {D M S : Type 0} → NodeView D → ReceiverView → Stream → M → ℕ → DeskView S
-    → MemberView D M S
-member_of node receiver deals link owed desk = record {
+abbrev pub member_of : {D : Type 0} → NodeView D → OutsideView → Bool → List Era → MemberView D
+member_of node outside keeps given = record {
   node = node;
-  receiver = receiver;
-  deals = deals;
-  link = link;
-  owed = owed;
-  desk = desk;
+  outside = outside;
+  keeper = record { keeps = keeps; given = given };
 }
 
 -- an expelled member ends once its wait is over
@@ -85,61 +80,63 @@ pub data Eras {V : Type 0} (era : V → V → EraEnds → Era → Type 0) (then 
   Next : (a b c d : V) (before : List Era) (ends : EraEnds) (last : Era) → Eras era then a before b
       → era b c ends last → then ends c d → Eras era then a (before ++ last ∷ []) d
 
--- a disk tells whether it keeps its model, and its state; a link and an inbound what they did, a
--- reader what is to come, and a writer what it has
-module _ {D M Rd Wr : Type 0} (keeps : Type 0) (state : D → DiskState) (came tells : Type 0)
-    (took : M → List (ℕ × List ℕ)) (failures : M → ℕ) (remaining : Rd → Option (List ℕ))
-    (contents : Wr → Option (List ℕ)) where
-  -- one era took the member from one view to the other, and its workers ended so
-  abbrev pub ServesEra : MemberView D M (Conversation Rd Wr) → MemberView D M (Conversation Rd Wr)
-      → EraEnds → Era → Type 0
-  ServesEra a b ends era = EraOf keeps state a.node b.node era
-      (Served (Received came a.node.base.limit) a.receiver (new_caller 0) b.receiver ends.receiver)
-      (Served (Ticked a.node.base.limit) a.deals (new_caller 1) b.deals ends.ticker)
-      (SendsAll tells took failures a.node.base.limit a.owed b.owed a.link b.link ends.sender)
-      (Served (Tended remaining contents a.node.base.limit) a.desk (new_caller 3) b.desk
-      ends.control)
+-- a disk tells whether it keeps its model, and its state; an inbound and a link whether they tell
+module _ {D : Type 0} (keeps : Type 0) (state : D → DiskState) (came tells : Type 0) where
+  -- one era took the member from one view to the other, its workers ended so, and its keeper was
+  -- given it, if it kept eras as this one began
+  pub record ServesEra (a b : MemberView D) (ends : EraEnds) (era : Era) : Type 0 where
+    pub is : EraOf keeps state a.node b.node era
+        (ServesAnew came tells a.node.base.limit a.outside b.outside ends)
+    pub given : IsGiven a.keeper.keeps (fault_of ends) a.keeper.given b.keeper.given
+        (recorded era.base era.entries)
 
-  -- its host was asked after an era that ended so
-  pub record Hosts (relists : Type 0) (ends : EraEnds) (a b : MemberView D M (Conversation Rd Wr))
-      : Type 0 where
-    pub desk : IsHosted remaining contents relists ends.control a.desk b.desk
-    pub rest : b ≡ record a { desk = b.desk }
+  -- its host was asked after an era that ended so, and may keep eras from now on or not
+  pub record Hosts (relists : Type 0) (ends : EraEnds) (a b : MemberView D) : Type 0 where
+    pub desk : IsHosted relists ends.control a.outside.desk b.outside.desk
+    pub given : b.keeper.given ≡ a.keeper.given
+    pub rest : b ≡ record a {
+      outside = record a.outside { desk = b.outside.desk };
+      keeper = b.keeper;
+    }
 
-  -- the last era of a member was whole, it ended so by it, and this node is left
-  pub record EndsWhole (expelled_ends : Option ℕ) (before : MemberView D M (Conversation Rd Wr))
-      (how : Result MemberEnd Fault) (left : NodeView D) (era : Era)
+  -- the last era of a member was whole, it ended so by it, and this node is left, with what its
+  -- keeper was given
+  pub record EndsWhole (expelled_ends : Option ℕ) (before : MemberView D)
+      (how : Result MemberEnd Fault) (left : NodeView D) (given : List Era) (era : Era)
       : Type 0 where
-    pub last : MemberView D M (Conversation Rd Wr)
+    pub last : MemberView D
     pub ends : EraEnds
     pub served : ServesEra before last ends era
     pub left_is : left ≡ last.node
+    pub given_is : given ≡ last.keeper.given
     pub ended : IfOk how (EndsMember expelled_ends ends left.base.state.phase)
     pub failed : IfErr how (FailsMember ends)
 
-  -- or it was cut short by a fault, and this node is left
-  pub record EndsCut (before : MemberView D M (Conversation Rd Wr)) (how : Result MemberEnd Fault)
-      (left : NodeView D)
+  -- or it was cut short by a fault, and this node is left; nobody was given it
+  pub record EndsCut (before : MemberView D) (how : Result MemberEnd Fault) (left : NodeView D)
+      (given : List Era)
       : Type 0 where
     pub failed : IfErr how CutsEra
     pub not_ended : OnOk how ⊥
     pub stays : StaysIn keeps state before.node left
+    pub given_is : given ≡ before.keeper.given
 
-  -- eras took it from this view to one from which on it ends so, and this node is left; after each
-  -- of them its host was asked, which ever changes whom it joins, or never. All of these are eras
-  -- of one life
-  pub record LivedBy (relists : Type 0) (expelled_ends : Option ℕ)
-      (first : MemberView D M (Conversation Rd Wr)) (how : Result MemberEnd Fault)
-      (left : NodeView D)
+  -- eras took it from this view to one from which on it ends so, and this node is left, with what
+  -- its keeper was given; after each of them its host was asked, which ever changes whom it joins,
+  -- or never. All of these are eras of one life
+  pub record LivedBy (relists : Type 0) (first : MemberView D) (how : Result MemberEnd Fault)
+      (left : NodeView D) (given : List Era)
       : Type 0 where
-    pub before : MemberView D M (Conversation Rd Wr)
+    pub before : MemberView D
     pub eras : List Era
     pub done : Eras ServesEra (Hosts relists) first eras before
-    pub last : ((era : Era) × EndsWhole expelled_ends before how left era
+    pub last : ((era : Era)
+        × EndsWhole first.outside.expelled_ends before how left given era
         × LivesThrough state first.node (eras ++ era ∷ []) left)
-        ⊎ (EndsCut before how left × LivesThrough state first.node eras left)
+        ⊎ (EndsCut before how left given × LivesThrough state first.node eras left)
 
-  -- the same of one whose host never changes that
-  abbrev pub Lived : Option ℕ → MemberView D M (Conversation Rd Wr) → Result MemberEnd Fault
-      → NodeView D → Type 0
-  Lived = LivedBy ⊥
+  -- the same of one whose host never changes that, whoever was given its eras
+  abbrev pub Lived : NodeView D → OutsideView → Result MemberEnd Fault → NodeView D → Type 0
+  Lived node outside how left =
+      (kept : Bool) × (before : List Era) × (given : List Era)
+      × LivedBy ⊥ (member_of node outside kept before) how left given

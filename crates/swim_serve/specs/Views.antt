@@ -1,9 +1,10 @@
--- What a caller of a shared member knows.
-use Rattle.std.specs.Prelude.{Bool, ◌||◌, false, ℕ, List, []}
+-- What contracts see of the callers of a shared member, and of where datagrams go.
+use Rattle.std.specs.Prelude.{◌≡◌, Bool, ◌||◌, false, ℕ, List, []}
 use Rattle.swim_member.specs.declared.event.Event.{Event}
+use Rattle.swim_shared.specs.Outboxes.{SenderView}
 use Rattle.swim_shared.specs.Passes.{PassView, new_pass}
 use Rattle.swim_shell.specs.Calls.{CallerView}
-use Rattle.swim_serve.specs.declared.handle.Handle.{Handle}
+use Rattle.swim_serve.specs.declared.call_log.CallLog.{CallLog}
 
 -- who calls by a pass has seen what the pass has read back, and is spent at the latest when it is
 abbrev pub view_of : PassView → Bool → List Event → CallerView
@@ -14,10 +15,33 @@ view_of p spent asked = record {
   asked = asked;
 }
 
--- and what is known to a handle
-abbrev pub known_of : {N D L R W : Type 0} → Handle N D L R W → CallerView
-known_of h = view_of h.pass h.is_spent h.asked
-
 -- a caller of this number that was asked for nothing yet
 abbrev pub new_caller : ℕ → CallerView
 new_caller caller = view_of (new_pass caller) false []
+
+-- who knows so much has called by this pass
+pub record HasCalledBy (pass : PassView) (known : CallerView) : Type 0 where
+  pub spent : Bool
+  pub asked : List Event
+  pub known_is : known ≡ view_of pass spent asked
+
+-- what a contract sees of a handle: what it knows, and what it has logged and counted
+pub record HandleView : Type 0 where
+  pub known : CallerView
+  pub log : CallLog
+
+-- what a contract sees of a link: what it took, destination and bytes, in order, and how much it
+-- refused, as far as it tells
+pub record LinkView : Type 0 where
+  pub took : List (ℕ × List ℕ)
+  pub lost : ℕ
+
+-- the same of these parts
+abbrev pub link_of : List (ℕ × List ℕ) → ℕ → LinkView
+link_of took lost = record { took = took; lost = lost }
+
+-- what a contract sees of a ring and the link that it goes to: how often it was handed on
+pub record RingView : Type 0 where
+  pub turns : ℕ
+  pub ring : SenderView
+  pub link : LinkView

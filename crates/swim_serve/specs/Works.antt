@@ -1,14 +1,15 @@
 -- What a worker has done when it comes back from its thread.
-use Rattle.std.specs.Prelude.{ℕ, List, Option}
+use Rattle.std.specs.Prelude.{ℕ, Option}
 use Rattle.swim_shell.specs.Calls.{CallerView}
 use Rattle.swim_shell.specs.Work.{DoneBy, LastOf}
-use Rattle.swim_shell.specs.Inbounds.{Came, ReceiverView, receiver_view, Receiving, ReceivesLast}
+use Rattle.swim_shell.specs.Inbounds.{ReceiverView, Receiving, ReceivesLast}
 use Rattle.swim_shell.specs.Ticks.{Ticking, TicksInVain}
 use Rattle.swim_shell.specs.Losses.{OutgoingView, Sending, TellsInVain}
 use Rattle.swim_shell.specs.declared.caller.Refusal.{Refusal}
 use Rattle.swim_shell.specs.declared.worker.WorkerEnd.{WorkerEnd}
-use Rattle.swim_shell.specs.declared.receiver.Receiver.{Receiver}
-use Rattle.rand_core.specs.Stream.{Stream}
+use Rattle.swim_shell.specs.declared.conversation.ControlEnd.{ControlEnd}
+use Rattle.rand_chacha.specs.ChaCha.{ChaCha}
+use Rattle.swim_serve.specs.declared.crew.Crew.{Crew}
 
 -- the worker had some turns, and the last of them ended it so, if one did
 pub record Worked {S E : Type 0} (worked : S → CallerView → S → CallerView → ℕ → Type 0)
@@ -18,10 +19,6 @@ pub record Worked {S E : Type 0} (worked : S → CallerView → S → CallerView
   pub turns : ℕ
   pub done : DoneBy worked ended a p b q turns end
 
--- what a contract sees of a receiver, whose inbound tells what came and how many receives failed
-abbrev pub receiver_of : {I : Type 0} → (I → List Came) → (I → ℕ) → Receiver I → ReceiverView
-receiver_of came failures r = receiver_view (came r.inbound) (failures r.inbound) r.failed r.kept
-
 -- a receiver entered what came, as long as the caller was answered
 abbrev pub Received : Type 0 → ℕ → ReceiverView → CallerView → ReceiverView → CallerView
     → Option WorkerEnd → Type 0
@@ -29,7 +26,7 @@ Received tells limit = Worked (Receiving tells) (λ end. LastOf (Receiving tells
     (ReceivesLast tells limit end))
 
 -- a ticker ticked by the deals of its generator
-abbrev pub Ticked : ℕ → Stream → CallerView → Stream → CallerView → Option Refusal → Type 0
+abbrev pub Ticked : ℕ → ChaCha → CallerView → ChaCha → CallerView → Option Refusal → Type 0
 Ticked limit = Worked Ticking (λ why. LastOf Ticking (TicksInVain limit why))
 
 -- a sender handed on what waited, and told what was lost
@@ -37,3 +34,7 @@ abbrev pub Sent : Type 0 → ℕ → OutgoingView → CallerView → OutgoingVie
     → Option Refusal → Type 0
 Sent tells limit = Worked (Sending tells) (λ why. LastOf (Sending tells)
     (TellsInVain tells limit why))
+
+-- how the workers of an era ended themselves; none for one that its gate stopped
+abbrev pub EraEnds : Type 0
+EraEnds = Crew (Option WorkerEnd) (Option Refusal) (Option Refusal) (Option ControlEnd)

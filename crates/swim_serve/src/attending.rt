@@ -1,14 +1,13 @@
 //! The workers of one era, whoever they call by.
 
-ghost use Rattle.std.specs.Prelude.{IsSomeAnd};
-ghost use Rattle.swim_shell.specs.Ticks.{answers};
-ghost use Rattle.swim_serve.specs.Works.{Received, Sent, Ticked, receiver_of};
+ghost use Rattle.std.specs.Prelude.{◌≡◌};
+ghost use Rattle.swim_serve.specs.Works.{Received, Sent, Ticked};
 
 use crate::beat::Beat;
-use crate::crew::{Crew, Ends, Work, serve};
+use crate::crew::{Back, Crew, Work, serve};
 use crate::ending::Ending;
 use crate::gates::{Pacing, Resting, Ringing};
-use crate::job::{Job, Left};
+use crate::job::{Job, Left, Manned};
 use crate::minding::Minding;
 use log::Log;
 use std::sync::Wait;
@@ -16,30 +15,16 @@ use std::thread::Threads;
 use std::time::Clock;
 use swim_shell::{Alarm, Caller, Inbound, Outgoing, Receiver, Sender, Ticker};
 
-/// The workers that get threads of their own.
-#[derive(Drop)]
-pub struct Workers<I: Inbound + Drop, O: Outgoing + Drop> {
-    /// The worker that hands datagrams in.
-    pub receiver: Receiver<I>,
-    /// The worker that counts the ticks.
-    pub ticker: Ticker,
-    /// The worker that sends what the outbox took.
-    pub sender: Sender<O>,
-}
-
-/// By whom each of them calls.
-#[derive(Drop)]
-pub struct Callers<'x, C: Caller + Drop, T: Log> {
-    /// The caller of the worker that hands datagrams in.
-    pub receiver: Minding<'x, C, T>,
-    /// The caller of the worker that counts the ticks.
-    pub ticker: C,
-    /// The caller of the worker that sends.
-    pub sender: C,
-}
+/// The workers of an era, each with its caller, and control.
+pub type Workers<'x, C, T, I, O, J> = Crew<
+    Manned<Minding<'x, C, T>, Receiver<I>>,
+    Manned<C, Ticker>,
+    Manned<C, Sender<O>>,
+    J,
+>;
 
 /// What comes back of the workers of an era, and of control.
-pub type Attended<'x, C, T, I, O, E> = Ends<
+pub type Attended<'x, C, T, I, O, E> = Back<
     Left<Minding<'x, C, T>, Receiver<I>>,
     Left<C, Ticker>,
     Left<C, Sender<O>>,
@@ -60,47 +45,45 @@ pub fn attend<
     rt: &'x T,
     ending: &'x Ending<'x, A>,
     beat: &mut Beat,
-    callers: Callers<'x, C, T>,
-    workers: Workers<I, O>,
-    control: J,
+    workers: Workers<'x, C, T, I, O, J>,
 ) -> Attended<'x, C, T, I, O, J::Done>
-    ensures receiver { IsSomeAnd result.receiver (λ left. Received I.tells C.limit
-        (receiver_of I.came I.failures workers.receiver)
-        (C.known callers.entry.receiver.caller)
-        (receiver_of I.came I.failures left.worker) (C.known left.caller.caller) left.end) }
-    ensures ticker { IsSomeAnd result.ticker (λ left. Ticked C.limit
-        (answers workers.ticker.rng) (C.known callers.entry.ticker)
-        (answers left.worker.rng) (C.known left.caller) left.end) }
-    ensures sender { IsSomeAnd result.sender (λ left. Sent O.tells C.limit
-        (O.handed workers.sender.outgoing) (C.known callers.entry.sender)
-        (O.handed left.worker.outgoing) (C.known left.caller) left.end) }
-    ensures control { J.does control result.control }
+    ensures receiver { Received I.tells C.limit workers.entry.receiver.worker
+        (C.known workers.entry.receiver.caller.caller) result.crew.receiver.worker
+        (C.known result.crew.receiver.caller.caller) result.crew.receiver.end }
+    ensures ticker { Ticked C.limit workers.entry.ticker.worker
+        (C.known workers.entry.ticker.caller) result.crew.ticker.worker
+        (C.known result.crew.ticker.caller) result.crew.ticker.end }
+    ensures sender { Sent O.tells C.limit (O.handed workers.entry.sender.worker.outgoing)
+        (C.known workers.entry.sender.caller) (O.handed result.crew.sender.worker.outgoing)
+        (C.known result.crew.sender.caller) result.crew.sender.end }
+    ensures control { J.does workers.entry.control result.crew.control }
 {
     let pace = ending.pace();
-    let Workers {
+    let Crew {
         receiver,
         ticker,
         sender,
+        control,
     } = workers;
     let crew = Crew {
         receiver: Job {
             rt,
-            worker: receiver,
-            caller: callers.receiver,
+            worker: receiver.worker,
+            caller: receiver.caller,
             gate: Ringing::new(pace),
             ending,
         },
         ticker: Job {
             rt,
-            worker: ticker,
-            caller: callers.ticker,
+            worker: ticker.worker,
+            caller: ticker.caller,
             gate: Pacing::new(rt, pace, beat),
             ending,
         },
         sender: Job {
             rt,
-            worker: sender,
-            caller: callers.sender,
+            worker: sender.worker,
+            caller: sender.caller,
             gate: Resting::new(rt, pace),
             ending,
         },

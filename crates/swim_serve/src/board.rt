@@ -1,5 +1,6 @@
 //! What the workers of an era show of what they count, for the one that answers control lines.
 
+use crate::crew::Crew;
 use crate::logs::Logs;
 use std::sync::atomic::{AtomicU64, Ordering};
 use swim_shell::{CALL_COUNTS, COUNTERS, Counters, Counts, ERA_COUNTS, NOTE_KINDS, NOTES_FROM};
@@ -57,10 +58,7 @@ impl Row {
 pub struct Board {
     /// What became of the eras before.
     eras: [u64; ERA_COUNTS],
-    pub(crate) receiver: Row,
-    pub(crate) ticker: Row,
-    pub(crate) sender: Row,
-    pub(crate) control: Row,
+    pub(crate) rows: Crew<Row, Row, Row, Row>,
 }
 
 impl Board {
@@ -68,10 +66,12 @@ impl Board {
     pub fn new(logs: &Logs) -> Board {
         Board {
             eras: logs.eras.counts(),
-            receiver: Row::new(logs.receiver.counts()),
-            ticker: Row::new(logs.ticker.counts()),
-            sender: Row::new(logs.sender.counts()),
-            control: Row::new(logs.control.counts()),
+            rows: Crew {
+                receiver: Row::new(logs.calls.receiver.counts()),
+                ticker: Row::new(logs.calls.ticker.counts()),
+                sender: Row::new(logs.calls.sender.counts()),
+                control: Row::new(logs.calls.control.counts()),
+            },
         }
     }
 
@@ -79,10 +79,10 @@ impl Board {
     pub(crate) fn read(&self) -> Counters {
         let mut values = [0; COUNTERS];
         values[..ERA_COUNTS].copy_from_slice(&self.eras);
-        self.receiver.add_to(&mut values);
-        self.ticker.add_to(&mut values);
-        self.sender.add_to(&mut values);
-        self.control.add_to(&mut values);
+        self.rows.receiver.add_to(&mut values);
+        self.rows.ticker.add_to(&mut values);
+        self.rows.sender.add_to(&mut values);
+        self.rows.control.add_to(&mut values);
         Counters { values }
     }
 }

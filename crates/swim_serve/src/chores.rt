@@ -29,19 +29,19 @@ impl Chores for NoChores {
 
 /// Doors, and what else is seen to by the thread that attends to them.
 #[derive(Drop)]
-pub struct DoorsAndChores<O: Doors + Drop, H: Chores + Drop> {
+pub struct DoorsAndChores<O, H> {
     doors: O,
     chores: H,
 }
 
-impl<O: Doors + Drop, H: Chores + Drop> DoorsAndChores<O, H> {
+impl<O, H> DoorsAndChores<O, H> {
     /// Both of them.
     pub fn new(doors: O, chores: H) -> DoorsAndChores<O, H> {
         DoorsAndChores { doors, chores }
     }
 }
 
-impl<O: Doors + Drop, H: Chores + Drop> Doors for DoorsAndChores<O, H> {
+impl<O: Doors, H> Doors for DoorsAndChores<O, H> {
     type Reader = O::Reader;
 
     type Writer = O::Writer;
@@ -55,7 +55,7 @@ impl<O: Doors + Drop, H: Chores + Drop> Doors for DoorsAndChores<O, H> {
     }
 }
 
-impl<O: Doors + Drop, H: Chores + Drop> Chores for DoorsAndChores<O, H> {
+impl<O, H: Chores> Chores for DoorsAndChores<O, H> {
     fn see_to(&mut self) -> bool {
         self.chores.see_to()
     }

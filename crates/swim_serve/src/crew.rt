@@ -1,6 +1,6 @@
 //! All workers at once.
 
-ghost use Rattle.std.specs.Prelude.{◌≡◌, IfNone, IfSome, IsSomeAnd};
+ghost use Rattle.std.specs.Prelude.{◌≡◌, IfNone, IfSome, IsSome, IsSomeAnd};
 
 use crate::ending::Ending;
 use std::snapshot::Snapshot;
@@ -31,30 +31,24 @@ impl<K: Work> Promise<K::Done> for Does<K> {
     ghost kept_by = { λ promise done. K.does promise.work.value done };
 }
 
-/// Four workers: three for threads of their own, and control for the caller's.
-#[derive(Drop)]
-pub struct Crew<A: Work + Drop, B: Work + Drop, S: Work + Drop, C: Work + Drop> {
-    /// The worker that hands datagrams in.
-    pub receiver: A,
-    /// The worker that counts the ticks.
-    pub ticker: B,
-    /// The worker that sends what the outbox took.
+/// One of each of the four workers of an era, in the order of their passes.
+#[derive(Clone, Copy, Debug, Drop, PartialEq, Eq)]
+pub struct Crew<R, T, S, C> {
+    /// Of the worker that hands datagrams in.
+    pub receiver: R,
+    /// Of the worker that counts the ticks.
+    pub ticker: T,
+    /// Of the worker that sends what the outbox took.
     pub sender: S,
-    /// The worker that answers control lines, and joins members.
+    /// Of the worker that answers control lines, and joins members.
     pub control: C,
 }
 
-/// What came back of each worker.
+/// What came back of the workers of an era.
 #[derive(Drop)]
-pub struct Ends<A: Drop, B: Drop, S: Drop, C: Drop> {
-    /// The worker that hands datagrams in.
-    pub receiver: Option<A>,
-    /// The worker that counts the ticks.
-    pub ticker: Option<B>,
-    /// The worker that sends what the outbox took.
-    pub sender: Option<S>,
-    /// The worker that answers control lines, and joins members.
-    pub control: C,
+pub struct Back<R: Drop, T: Drop, S: Drop, C: Drop> {
+    /// What came back of each.
+    pub crew: Crew<R, T, S, C>,
     /// Whether the system had a thread for each that was to get one.
     pub had_threads: bool,
 }
@@ -87,21 +81,23 @@ fn start<'s, X, K: Work<Done: Send + Drop + 's> + Send + Drop + 's, M: Alarm>(
 }
 
 /// What comes of some work, once its thread has ended, if it got one; else what stands here.
-fn end_of<T: Threads, K: Work<Done: Send + Drop> + Drop>(
+fn done_of<T: Threads, K: Work<Done: Send + Drop> + Drop>(
     rt: &T,
     thread: Option<Thread<K>>,
     spare: &mut Option<K::Done>,
-) -> Option<K::Done>
+) -> K::Done
+    requires { IfNone thread (IsSome spare.old) }
     ensures { (work : K) → IfSome thread (λ thread. thread.promise.work.value ≡ work)
-        → (IfNone thread (IsSomeAnd spare.old (K.does work))) → IsSomeAnd result (K.does work) }
+        → IfNone thread (IsSomeAnd spare.old (K.does work)) → K.does work result }
 {
     match thread {
-        Some(thread) => Some(thread.join(rt)),
-        None => spare.take(),
+        Some(thread) => thread.join(rt),
+        None => spare.take().unwrap(),
     }
 }
 
-/// Runs the workers until one of them has ended and the others have stopped. Each ends all by this `ending`.
+/// Runs a crew until one of its workers has ended and the others have stopped: three in threads of their own, and control in the
+/// caller's. Each ends all by this `ending`.
 pub fn serve<
     T: Threads + Wait + Sync,
     M: Alarm,
@@ -109,11 +105,11 @@ pub fn serve<
     B: Work<Done: Send + Drop> + Send + Drop,
     S: Work<Done: Send + Drop> + Send + Drop,
     C: Work<Done: Drop> + Drop,
->(rt: &T, ending: &Ending<M>, crew: Crew<A, B, S, C>) -> Ends<A::Done, B::Done, S::Done, C::Done>
-    ensures receiver { IsSomeAnd result.receiver (A.does crew.receiver) }
-    ensures ticker { IsSomeAnd result.ticker (B.does crew.ticker) }
-    ensures sender { IsSomeAnd result.sender (S.does crew.sender) }
-    ensures control { C.does crew.control result.control }
+>(rt: &T, ending: &Ending<M>, crew: Crew<A, B, S, C>) -> Back<A::Done, B::Done, S::Done, C::Done>
+    ensures receiver { A.does crew.receiver result.crew.receiver }
+    ensures ticker { B.does crew.ticker result.crew.ticker }
+    ensures sender { S.does crew.sender result.crew.sender }
+    ensures control { C.does crew.control result.crew.control }
 {
     let Crew {
         receiver,
@@ -124,11 +120,11 @@ pub fn serve<
     thread::scope(
         thread::scope_env(),
         rt,
-        move |scope| -> Ends<A::Done, B::Done, S::Done, C::Done>
-            ensures receiver { IsSomeAnd result.receiver (A.does receiver) }
-            ensures ticker { IsSomeAnd result.ticker (B.does ticker) }
-            ensures sender { IsSomeAnd result.sender (S.does sender) }
-            ensures control { C.does control result.control }
+        move |scope| -> Back<A::Done, B::Done, S::Done, C::Done>
+            ensures receiver { A.does receiver result.crew.receiver }
+            ensures ticker { B.does ticker result.crew.ticker }
+            ensures sender { S.does sender result.crew.sender }
+            ensures control { C.does control result.crew.control }
         {
             let mut spare = (None, None, None);
             let receiver = start(scope, ending, &mut spare.0, receiver);
@@ -136,13 +132,13 @@ pub fn serve<
             let sender = start(scope, ending, &mut spare.2, sender);
             let had_threads = receiver.is_some() && ticker.is_some() && sender.is_some();
             let control = control.work();
-            Ends {
-                receiver: end_of(rt, receiver, &mut spare.0),
-                ticker: end_of(rt, ticker, &mut spare.1),
-                sender: end_of(rt, sender, &mut spare.2),
+            let crew = Crew {
+                receiver: done_of(rt, receiver, &mut spare.0),
+                ticker: done_of(rt, ticker, &mut spare.1),
+                sender: done_of(rt, sender, &mut spare.2),
                 control,
-                had_threads,
-            }
+            };
+            Back { crew, had_threads }
         },
     )
 }

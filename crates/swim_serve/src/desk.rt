@@ -1,13 +1,13 @@
 //! The worker that answers control lines and joins members.
 
 ghost use Rattle.std.specs.Prelude.{◌≡◌, ◌<◌, ◌≤◌, [], ◌∷◌, ◌++◌, None, Some, IfNone, IfSome, IfOk, IfErr};
-ghost use Rattle.std.specs.Prelude.{OnErr, OnOk, IsSome, IsTrue, true, false, not, ◌+◌, length, option_to_list, min, if◌then◌else◌};
+ghost use Rattle.std.specs.Prelude.{OnErr, OnOk, IsSome, IsTrue, true, false, not, ◌+◌, length, min, if◌then◌else◌};
 ghost use Rattle.swim_serve.specs.declared.aside.TheConstants.{OPEN_MAX};
 ghost use Rattle.swim_shell.specs.Joins.{IsRelisted};
 ghost use Rattle.swim_shell.specs.Turns.{Turned, TurnedInVain};
 ghost use Rattle.swim_shell.specs.declared.conversation.ControlEnd.TheVariants as ends;
 ghost use Rattle.swim_shell.specs.Calls.{CallerView};
-ghost use Rattle.swim_serve.specs.Desks.{TalkGoes};
+ghost use Rattle.swim_shell.specs.Control.{Converses};
 ghost use Rattle.swim_serve.specs.Desks.{HasAnswer, OfConnection, OfMember, Opens};
 
 use crate::aside::{Aside, OPEN_MAX};
@@ -15,6 +15,7 @@ use crate::chores::Chores;
 use arrayvec::ArrayVec;
 use log::Log;
 use std::alloc::{AllocError, Global};
+use std::marker::Model;
 use std::time::Clock;
 use swim_shell::{
     Answer, ControlEnd, Conversation, Doors, Joiner, LIST_MAX, Observer, Paces, Refusal, Worker,
@@ -38,7 +39,24 @@ pub struct Desk<W: Log + Clock + Drop, O: Doors + Chores + Drop> {
     silent: usize,
     /// Whether what the line `reload` of one of them asks for is being made ready.
     is_preparing: bool,
-    ghost room: { length (option_to_list conversation) + length others ≤ OPEN_MAX },
+}
+
+impl<W: Log + Clock + Drop, O: Doors + Chores + Drop> Model for Desk<W, O> {
+    ghost use Rattle.std.specs.Prelude.{◌≤◌, ◌+◌, length, option_to_list};
+    ghost use Rattle.swim_serve.specs.declared.aside.TheConstants.{OPEN_MAX};
+    ghost use Rattle.swim_serve.specs.Desks.{DeskView};
+
+    ghost Value = { DeskView };
+
+    ghost view = { λ d. record {
+      joiner = d.joiner;
+      conversation = d.conversation;
+      others = d.others;
+      silent = d.silent;
+      preparing = d.is_preparing;
+    } };
+
+    ghost invariant = { λ d. length (option_to_list d.conversation) + length d.others ≤ OPEN_MAX };
 }
 
 /// Whether only the connection ends so.
@@ -93,8 +111,7 @@ impl<W: Log + Clock + Drop, O: Doors + Chores + Drop> Desk<W, O> {
 
     /// Gives the conversation that has the turns the answer to its line `reload`.
     pub(crate) fn answer(&mut self, answer: Answer)
-        ensures told { HasAnswer O.Reader.remaining O.Writer.contents self.old.conversation
-            self.new.conversation }
+        ensures told { HasAnswer self.old.conversation self.new.conversation }
         ensures same { (self.new.joiner ≡ self.old.joiner)
             × (self.new.others ≡ self.old.others) }
     {
@@ -110,7 +127,7 @@ impl<W: Log + Clock + Drop, O: Doors + Chores + Drop> Desk<W, O> {
         ensures last { self.new.others ≡ self.old.others ++ conversation ∷ [] }
         ensures same { (self.new.conversation ≡ self.old.conversation)
             × (self.new.joiner ≡ self.old.joiner) }
-        ensures silent { self.new.silent ≡ (if conversation.is_silent
+        ensures silent { self.new.silent ≡ (if conversation.silent
             then min (self.old.silent + 1) usize.MAX else 0) }
     {
         self.silent = silent_after(self.silent, conversation.is_silent());
@@ -141,7 +158,7 @@ impl<W: Log + Clock + Drop, O: Doors + Chores + Drop> Desk<W, O> {
     fn begin_turns<C: Observer>(&mut self, mut conversation: Conversation<O::Reader, O::Writer>)
         requires { length self.old.others < OPEN_MAX }
         ensures begun { IfSome self.new.conversation (λ begun. (p : CallerView)
-            → TalkGoes O.Reader.remaining O.Writer.contents C.limit conversation p begun p 0) }
+            → Converses C.limit conversation p begun p 0) }
         ensures some { IsSome self.new.conversation }
         ensures same { (self.new.others ≡ self.old.others)
             × (self.new.joiner ≡ self.old.joiner) }
@@ -153,8 +170,7 @@ impl<W: Log + Clock + Drop, O: Doors + Chores + Drop> Desk<W, O> {
     /// Whether a line `reload` of this conversation may be seen to: it is for one at a time, so that none is answered by what was
     /// made ready before it was heard.
     fn may_prepare_for(&self, conversation: &Conversation<O::Reader, O::Writer>) -> bool
-        ensures { result ≡ (if self.now.is_preparing then conversation.now.is_prepared_for
-            else true) }
+        ensures { result ≡ (if self.now.preparing then conversation.now.prepared else true) }
     {
         !self.is_preparing || conversation.is_prepared_for()
     }
@@ -164,7 +180,7 @@ impl<W: Log + Clock + Drop, O: Doors + Chores + Drop> Desk<W, O> {
         ensures joiner { self.new.joiner ≡ self.old.joiner }
         ensures conversation { self.new.conversation ≡ self.old.conversation }
         ensures others { self.new.others ≡ self.old.others }
-        ensures next { self.new.is_preparing ≡ not result }
+        ensures next { self.new.preparing ≡ not result }
     {
         let is_ready = self.doors.prepare_reload();
         self.is_preparing = !is_ready;
@@ -190,9 +206,8 @@ impl<W: Log + Clock + Drop, O: Doors + Chores + Drop> Desk<W, O> {
         requires { self.old.conversation ≡ None }
         ensures turned { IfOk result (λ _. Turned self.old.joiner (C.known caller.old)
             self.new.joiner (C.known caller.new)) }
-        ensures opens { IfOk result (λ _. Opens O.Reader.remaining O.Writer.contents C.limit
-            (C.known caller.new) self.old.others self.new.conversation
-            self.new.others) }
+        ensures opens { IfOk result (λ _. Opens C.limit (C.known caller.new) self.old.others
+            self.new.conversation self.new.others) }
         ensures in_vain { IfErr result (λ why. TurnedInVain C.limit why self.old.joiner
             (C.known caller.old) self.new.joiner (C.known caller.new)) }
         ensures nobody { OnErr result ((self.new.conversation ≡ None)
@@ -218,23 +233,21 @@ impl<W: Log + Clock + Drop, O: Doors + Chores + Drop> Desk<W, O> {
 }
 
 impl<C: Observer, W: Log + Clock + Drop, O: Doors + Chores + Drop> Worker<C> for Desk<W, O> {
-    ghost use Rattle.swim_serve.specs.Desks.{desk_of, Tends, TendsTo};
+    ghost use Rattle.swim_serve.specs.Desks.{TendedBy, Tending};
 
     type End = ControlEnd;
 
-    ghost worked = { λ a p b q n. Tends O.Reader.remaining O.Writer.contents C.limit
-        (desk_of a.joiner a.conversation a.others) p
-        (desk_of b.joiner b.conversation b.others) q n };
+    ghost worked = { λ a p b q n. Tending C.limit a p b q n };
 
-    ghost ended = { λ end a p b q n. TendsTo O.Reader.remaining O.Writer.contents C.limit end
-        (desk_of a.joiner a.conversation a.others) p
-        (desk_of b.joiner b.conversation b.others) q n };
+    ghost ended = { λ end a p b q n. TendedBy C.limit end a p b q n };
 
     #[tactic(auto, using(crate::proofs::Tending::tending_none, crate::proofs::Tending::tending_begun))]
     fn begin(&mut self) {
-        if let Some(conversation) = &mut self.conversation {
-            Worker::<C>::begin(conversation);
-        }
+        let Some(mut conversation) = self.conversation.take() else {
+            return;
+        };
+        Worker::<C>::begin(&mut conversation);
+        self.conversation = Some(conversation);
     }
 
     #[tactic(auto, using(crate::proofs::Tending::tending_joined, crate::proofs::Tending::tending_refused, crate::proofs::Tending::tending_renewed))]

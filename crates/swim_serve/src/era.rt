@@ -1,30 +1,31 @@
 //! One era of a running member: its workers over one shared node, from its beginning to its end.
 
-ghost use Rattle.std.specs.Prelude.{◌≡◌, ◌∷◌, [], IfErr, IfOk, IfSome, IsSomeAnd, length};
+ghost use Rattle.std.specs.Prelude.{◌≡◌, ◌∷◌, [], IfErr, IfOk, IfSome};
 ghost use Rattle.swim_node.specs.History.{IsLegal};
 ghost use Rattle.swim_shared.specs.Moments.{CoversEra};
 ghost use Rattle.swim_shared.specs.Passes.{IsPass, new_pass, new_passes};
 ghost use Rattle.swim_shell.specs.Calls.{NewCalls};
-ghost use Rattle.swim_shell.specs.Ticks.{answers};
-ghost use Rattle.swim_serve.specs.Desks.{Tended, desk_of};
-ghost use Rattle.swim_serve.specs.Eras.{ByPass, Sends, SendsBy, Served, StaysIn, outgoing_of};
+ghost use Rattle.swim_serve.specs.Desks.{Tended};
+ghost use Rattle.swim_serve.specs.Eras.{ByPass, NamesParts, SendsBy, Serves, StaysIn, handed_by};
 ghost use Rattle.swim_serve.specs.Eras.{owed_first};
-ghost use Rattle.swim_serve.specs.Works.{Received, Sent, Ticked, receiver_of};
-ghost use Rattle.swim_serve.specs.Views.{known_of, new_caller};
+ghost use Rattle.swim_serve.specs.Works.{Received, Sent, Ticked};
+ghost use Rattle.swim_serve.specs.Views.{HasCalledBy, new_caller};
 
-use crate::attending::{Attended, Callers, Workers, attend};
+use crate::attending::{Attended, Workers, attend};
 use crate::beat::Beat;
 use crate::board::Board;
 use crate::chores::Chores;
-use crate::crew::{Ends, Work};
+use crate::crew::{Back, Crew, Work};
 use crate::desk::Desk;
 use crate::ending::Ending;
 use crate::gates::{Pace, Ringing};
 use crate::handle::{Handle, Observing};
-use crate::job::{Job, Left};
-use crate::logs::{EraCounts, Logs};
+use crate::job::{Job, Left, Manned};
+use crate::logs::{CallLogs, EraCounts, Logs};
 use crate::minding::Minding;
-use crate::outgoing::{RingLink, RingSender};
+use crate::number_log::NumberLog;
+use crate::outgoing::RingLink;
+use crate::outside::Outside;
 use log::Log;
 use std::alloc::Global;
 use std::sync::Wait;
@@ -50,97 +51,109 @@ type Share<'x, N, D, R> = Handle<'x, N, D, Outbox, R, R>;
 /// One that is shown the status.
 type Shown<'x, N, D, R> = Observing<'x, N, D, Outbox, R, R>;
 
-/// What the workers of a shared member call by, and the list in which their passes were.
-type Begun<'x, N, D, R> = (
-    Callers<'x, Share<'x, N, D, R>, R>,
+/// What the workers of a shared member call by.
+type Callers<'x, N, D, R> = Crew<
+    Minding<'x, Share<'x, N, D, R>, R>,
+    Share<'x, N, D, R>,
+    Share<'x, N, D, R>,
     Shown<'x, N, D, R>,
-    Vec<Pass<N>>,
-);
+>;
+
+/// The passes of an era's workers.
+type Passes<N> = Crew<Pass<N>, Pass<N>, Pass<N>, Pass<N>>;
+
+/// How the workers of an era ended themselves; none for one that its gate stopped.
+pub type EraEnds = Crew<Option<WorkerEnd>, Option<Refusal>, Option<Refusal>, Option<ControlEnd>>;
 
 /// What comes back of the workers of a shared member, and of control.
 type SharedEnds<'x, N, D, R, I, M, E> = Attended<'x, Share<'x, N, D, R>, R, I, RingLink<N, M>, E>;
 
-/// The passes of an era's workers.
-#[derive(Drop)]
-struct Passes<N: Name> {
-    receiver: Pass<N>,
-    ticker: Pass<N>,
-    sender: Pass<N>,
-    control: Pass<N>,
+/// The new passes, out of their list; none where it has too few.
+fn passes_of<N: Name>(list: &mut Vec<Pass<N>>) -> Option<Passes<N>>
+    requires { list.old.items ≡ new_passes CALLERS }
+    ensures passes { IfSome result (λ passes. passes ≡ record {
+      receiver = new_pass 0;
+      ticker = new_pass 1;
+      sender = new_pass 2;
+      control = new_pass 3;
+    }) }
+    ensures all { IfSome result (λ _. list.new.items ≡ []) }
+{
+    let control = list.pop()?;
+    let sender = list.pop()?;
+    let ticker = list.pop()?;
+    let receiver = list.pop()?;
+    Some(Crew {
+        receiver,
+        ticker,
+        sender,
+        control,
+    })
 }
 
-impl<N: Name> Passes<N> {
-    /// The new ones, out of their list; none where it has too few.
-    fn out_of(list: &mut Vec<Pass<N>>) -> Option<Passes<N>>
-        requires { list.old.items ≡ new_passes CALLERS }
-        ensures receiver { IfSome result (λ passes. passes.receiver ≡ new_pass 0) }
-        ensures ticker { IfSome result (λ passes. passes.ticker ≡ new_pass 1) }
-        ensures sender { IfSome result (λ passes. passes.sender ≡ new_pass 2) }
-        ensures control { IfSome result (λ passes. passes.control ≡ new_pass 3) }
-        ensures all { IfSome result (λ _. list.new.items ≡ []) }
-    {
-        let control = list.pop()?;
-        let sender = list.pop()?;
-        let ticker = list.pop()?;
-        let receiver = list.pop()?;
-        Some(Passes {
-            receiver,
-            ticker,
-            sender,
-            control,
-        })
-    }
+/// The passes in this list, which is empty; none where it cannot take them.
+fn list_of<N: Name>(passes: Passes<N>, mut room: Vec<Pass<N>>) -> Option<Vec<Pass<N>>>
+    requires { room.items ≡ [] }
+    ensures { IfSome result (λ all. all.items
+        ≡ passes.receiver ∷ passes.ticker ∷ passes.sender ∷ passes.control ∷ []) }
+{
+    let Crew {
+        receiver,
+        ticker,
+        sender,
+        control,
+    } = passes;
+    room.push(receiver).ok()?;
+    room.push(ticker).ok()?;
+    room.push(sender).ok()?;
+    room.push(control).ok()?;
+    Some(room)
+}
 
-    /// All of them in this list, which is empty; none where it cannot take them.
-    fn into_list(self, mut room: Vec<Pass<N>>) -> Option<Vec<Pass<N>>>
-        requires { room.items ≡ [] }
-        ensures { IfSome result (λ all. all.items
-            ≡ self.receiver ∷ self.ticker ∷ self.sender ∷ self.control ∷ []) }
-    {
-        let Passes {
-            receiver,
-            ticker,
-            sender,
-            control,
-        } = self;
-        room.push(receiver).ok()?;
-        room.push(ticker).ok()?;
-        room.push(sender).ok()?;
-        room.push(control).ok()?;
-        Some(room)
-    }
+/// What the workers of a shared node hold.
+#[derive(Drop)]
+struct Held<N: Name> {
+    /// One for each worker; an empty list once they have them.
+    passes: Vec<Pass<N>>,
+    /// One for control.
+    watches: Vec<Watch<N>>,
+    /// What empties the outbox.
+    ring: Ring,
 }
 
 /// Gives each worker what it calls by; none where there are too few passes or watches.
 fn callers_of<'x, N: Name, D: Disk, R: Wait + Log + Clock + Drop>(
     rt: &'x R,
     shared: &'x Shared<N, D, Outbox, R>,
-    passes: &mut Vec<Pass<N>>,
-    watches: &mut Vec<Watch<N>>,
+    held: &mut Held<N>,
     logs: &Logs,
     board: &'x Board,
     pace: &'x Pace,
-) -> Option<(Callers<'x, Share<'x, N, D, R>, R>, Shown<'x, N, D, R>)>
-    requires { passes.old.items ≡ new_passes CALLERS }
-    ensures receiver { IfSome result (λ c. known_of c.0.receiver.caller ≡ new_caller 0) }
-    ensures ticker { IfSome result (λ c. known_of c.0.ticker ≡ new_caller 1) }
-    ensures sender { IfSome result (λ c. known_of c.0.sender ≡ new_caller 2) }
-    ensures control { IfSome result (λ c. known_of c.1.handle ≡ new_caller 3) }
-    ensures all { IfSome result (λ _. passes.new.items ≡ []) }
-    ensures logs { IfSome result (λ c. (c.0.receiver.numbers ≡ logs.now.numbers)
-        × (c.0.receiver.caller.log ≡ logs.now.receiver) × (c.0.ticker.log ≡ logs.now.ticker)
-        × (c.0.sender.log ≡ logs.now.sender) × (c.1.handle.log ≡ logs.now.control)) }
+) -> Option<Callers<'x, N, D, R>>
+    requires { held.old.passes.items ≡ new_passes CALLERS }
+    ensures receiver { IfSome result (λ c. c.receiver.caller.known ≡ new_caller 0) }
+    ensures ticker { IfSome result (λ c. c.ticker.known ≡ new_caller 1) }
+    ensures sender { IfSome result (λ c. c.sender.known ≡ new_caller 2) }
+    ensures control { IfSome result (λ c. c.control.handle.known ≡ new_caller 3) }
+    ensures all { IfSome result (λ _. (held.new.passes.items ≡ [])
+        × (held.new.ring ≡ held.old.ring)) }
+    ensures logs { IfSome result (λ c. (c.receiver.numbers ≡ logs.now.numbers)
+        × (c.receiver.caller.log ≡ logs.now.calls.receiver)
+        × (c.ticker.log ≡ logs.now.calls.ticker) × (c.sender.log ≡ logs.now.calls.sender)
+        × (c.control.handle.log ≡ logs.now.calls.control)) }
 {
-    let passes = Passes::out_of(passes)?;
-    let watch = watches.pop()?;
-    let receiver = Handle::new(rt, shared, passes.receiver, &board.receiver, logs.receiver);
-    let callers = Callers {
+    let passes = passes_of(&mut held.passes)?;
+    let watch = held.watches.pop()?;
+    let rows = &board.rows;
+    let calls = logs.calls;
+    let receiver = Handle::new(rt, shared, passes.receiver, &rows.receiver, calls.receiver);
+    let control = Handle::new(rt, shared, passes.control, &rows.control, calls.control);
+    Some(Crew {
         receiver: Minding::new(rt, pace, receiver, logs.numbers),
-        ticker: Handle::new(rt, shared, passes.ticker, &board.ticker, logs.ticker),
-        sender: Handle::new(rt, shared, passes.sender, &board.sender, logs.sender),
-    };
-    let control = Handle::new(rt, shared, passes.control, &board.control, logs.control);
-    Some((callers, Observing::new(control, watch, board)))
+        ticker: Handle::new(rt, shared, passes.ticker, &rows.ticker, calls.ticker),
+        sender: Handle::new(rt, shared, passes.sender, &rows.sender, calls.sender),
+        control: Observing::new(control, watch, board),
+    })
 }
 
 /// Tells what the era before lost and told in no call.
@@ -154,72 +167,9 @@ fn tell<C: Caller>(caller: &mut C, count: u32) -> Result<(), Refusal>
     Ok(())
 }
 
-/// Gives each worker what it calls by, and has the sender's tell what is owed; with it comes the list in which the passes were.
-/// An error is that there are too few passes, or that the call was refused so.
-fn begin<'x, N: Name, D: Disk, R: Wait + Log + Clock + Drop>(
-    rt: &'x R,
-    shared: &'x Shared<N, D, Outbox, R>,
-    held: (Vec<Pass<N>>, Vec<Watch<N>>),
-    logs: &Logs,
-    owed: u32,
-    board: &'x Board,
-    pace: &'x Pace,
-) -> Result<Begun<'x, N, D, R>, Refusal>
-    requires { held.0.items ≡ new_passes CALLERS }
-    ensures receiver { IfOk result (λ c. known_of c.0.receiver.caller ≡ new_caller 0) }
-    ensures ticker { IfOk result (λ c. known_of c.0.ticker ≡ new_caller 1) }
-    ensures sender { IfOk result (λ c. NewCalls (new_caller 2) (known_of c.0.sender)
-        (owed_first owed)) }
-    ensures control { IfOk result (λ c. known_of c.1.handle ≡ new_caller 3) }
-    ensures room { IfOk result (λ c. c.2.items ≡ []) }
-{
-    let (mut passes, mut watches) = held;
-    let made = callers_of(rt, shared, &mut passes, &mut watches, logs, board, pace);
-    let (mut callers, shown) = made.ok_or(Refusal::Memory)?;
-    tell(&mut callers.sender, owed)?;
-    Ok((callers, shown, passes))
-}
-
-/// What a member works with from one era to the next.
-#[derive(Drop)]
-pub struct Outside<
-    I: Inbound + Drop,
-    M: Link + Drop,
-    R: Log + Clock + Drop,
-    O: Doors + Chores + Drop,
-> {
-    /// The worker that hands datagrams in.
-    pub receiver: Receiver<I>,
-    /// The worker that counts the ticks.
-    pub ticker: Ticker,
-    /// The worker that answers control lines and joins members.
-    pub desk: Desk<R, O>,
-    /// Where datagrams go.
-    pub link: M,
-    /// What each worker has logged and counted.
-    pub logs: Logs,
-    /// The losses that no call has told.
-    pub owed: u32,
-    /// When ticks are due.
-    pub beat: Beat,
-}
-
-/// How the workers of an era ended themselves; none for one that its gate stopped.
-#[derive(Clone, Copy, Debug, PartialEq, Eq)]
-pub struct EraEnds {
-    /// The worker that hands datagrams in.
-    pub receiver: Option<WorkerEnd>,
-    /// The worker that counts the ticks.
-    pub ticker: Option<Refusal>,
-    /// The worker that sends what the outbox took.
-    pub sender: Option<Refusal>,
-    /// The worker that answers control lines and joins members.
-    pub control: Option<ControlEnd>,
-}
-
 /// What comes back of an era's workers.
 #[derive(Drop)]
-struct Back<
+struct Returned<
     N: Name,
     I: Inbound + Drop,
     M: Link + Drop,
@@ -229,20 +179,54 @@ struct Back<
     passes: Passes<N>,
     /// An empty list, in which the passes were.
     room: Vec<Pass<N>>,
-    ring: RingSender<N>,
+    ring: Ring,
     outside: Outside<I, M, R, O>,
     ends: EraEnds,
     /// Whether the system had a thread for each worker.
     had_threads: bool,
 }
 
-/// What comes back of the receiver of a shared member.
-type ReceiverLeft<'x, N, D, R, I> = Left<Minding<'x, Share<'x, N, D, R>, R>, Receiver<I>>;
+/// The passes by which these have called, and what they have logged and counted.
+fn taken_back<'x, N: Name, D: Disk, R: Wait + Log + Clock + Drop>(
+    callers: Callers<'x, N, D, R>,
+) -> (Passes<N>, CallLogs, NumberLog)
+    ensures receiver { HasCalledBy result.0.receiver callers.entry.receiver.caller.known
+        × IsPass N.base result.0.receiver }
+    ensures ticker { HasCalledBy result.0.ticker callers.entry.ticker.known
+        × IsPass N.base result.0.ticker }
+    ensures sender { HasCalledBy result.0.sender callers.entry.sender.known
+        × IsPass N.base result.0.sender }
+    ensures control { HasCalledBy result.0.control callers.entry.control.handle.known
+        × IsPass N.base result.0.control }
+    ensures logs { result.1 ≡ record {
+      receiver = callers.entry.receiver.caller.log;
+      ticker = callers.entry.ticker.log;
+      sender = callers.entry.sender.log;
+      control = callers.entry.control.handle.log;
+    } }
+    ensures numbers { result.2 ≡ callers.entry.receiver.numbers }
+{
+    let (receiver, numbers) = callers.receiver.into_parts();
+    let receiver = receiver.into_parts();
+    let ticker = callers.ticker.into_parts();
+    let sender = callers.sender.into_parts();
+    let control = callers.control.into_handle().into_parts();
+    let passes = Crew {
+        receiver: receiver.0,
+        ticker: ticker.0,
+        sender: sender.0,
+        control: control.0,
+    };
+    let logs = Crew {
+        receiver: receiver.1,
+        ticker: ticker.1,
+        sender: sender.1,
+        control: control.1,
+    };
+    (passes, logs, numbers)
+}
 
-/// What comes back of its sender.
-type SenderLeft<'x, N, D, R, M> = Left<Share<'x, N, D, R>, Sender<RingLink<N, M>>>;
-
-/// What comes back of its desk.
+/// What comes back of a shared member's control.
 type DeskLeft<'x, N, D, R, O> = Left<Shown<'x, N, D, R>, Desk<R, O>>;
 
 /// Takes apart what came back of each worker.
@@ -255,76 +239,72 @@ fn take_apart<
     M: Link + Drop,
     O: Doors + Chores + Drop,
 >(
-    receiver: ReceiverLeft<'x, N, D, R, I>,
-    ticker: Left<Share<'x, N, D, R>, Ticker>,
-    sender: SenderLeft<'x, N, D, R, M>,
-    control: DeskLeft<'x, N, D, R, O>,
-    had_threads: bool,
+    back: SharedEnds<'x, N, D, R, I, M, DeskLeft<'x, N, D, R, O>>,
+    room: Vec<Pass<N>>,
     eras: EraCounts,
     beat: Beat,
-    room: Vec<Pass<N>>,
-) -> Back<N, I, M, R, O>
-    ensures receiver { (result.outside.receiver ≡ receiver.entry.worker)
-        × (result.passes.receiver ≡ receiver.entry.caller.caller.pass)
-        × (result.ends.receiver ≡ receiver.entry.end) × IsPass N.base result.passes.receiver }
-    ensures ticker { (result.outside.ticker ≡ ticker.entry.worker)
-        × (result.passes.ticker ≡ ticker.entry.caller.pass)
-        × (result.ends.ticker ≡ ticker.entry.end) × IsPass N.base result.passes.ticker }
-    ensures sender { (result.ring ≡ sender.entry.worker.outgoing.ring)
-        × (result.outside.link ≡ sender.entry.worker.outgoing.link)
-        × (result.passes.sender ≡ sender.entry.caller.pass)
-        × (result.ends.sender ≡ sender.entry.end) × IsPass N.base result.passes.sender }
-    ensures control { (result.outside.desk ≡ control.entry.worker)
-        × (result.passes.control ≡ control.entry.caller.handle.pass)
-        × (result.ends.control ≡ control.entry.end) × IsPass N.base result.passes.control }
-    ensures room { (result.room ≡ room) × (result.had_threads ≡ had_threads) }
-    ensures logs { result.outside.logs ≡ record {
-      numbers = receiver.entry.caller.numbers;
-      receiver = receiver.entry.caller.caller.log;
-      ticker = ticker.entry.caller.log;
-      sender = sender.entry.caller.log;
-      control = control.entry.caller.handle.log;
-      eras = eras;
-    } }
-    ensures rest { (result.outside.beat ≡ beat) × (result.outside.owed ≡ 0) }
+    expelled_ends: Option<u64>,
+) -> Returned<N, I, M, R, O>
+    ensures receiver { (result.outside.receiver ≡ back.entry.crew.receiver.worker)
+        × HasCalledBy result.passes.receiver back.entry.crew.receiver.caller.caller.known
+        × (result.ends.receiver ≡ back.entry.crew.receiver.end)
+        × IsPass N.base result.passes.receiver }
+    ensures ticker { (result.outside.ticker ≡ back.entry.crew.ticker.worker)
+        × HasCalledBy result.passes.ticker back.entry.crew.ticker.caller.known
+        × (result.ends.ticker ≡ back.entry.crew.ticker.end)
+        × IsPass N.base result.passes.ticker }
+    ensures sender { (result.ring ≡ back.entry.crew.sender.worker.outgoing.ring)
+        × (result.outside.link ≡ back.entry.crew.sender.worker.outgoing.link)
+        × HasCalledBy result.passes.sender back.entry.crew.sender.caller.known
+        × (result.ends.sender ≡ back.entry.crew.sender.end)
+        × IsPass N.base result.passes.sender × (N.link ≡ result.ring.ring) }
+    ensures control { (result.outside.desk ≡ back.entry.crew.control.worker)
+        × HasCalledBy result.passes.control back.entry.crew.control.caller.handle.known
+        × (result.ends.control ≡ back.entry.crew.control.end)
+        × IsPass N.base result.passes.control }
+    ensures rest { (result.room ≡ room) × (result.had_threads ≡ back.entry.had_threads)
+        × (result.outside.eras ≡ eras) }
 {
-    let (handle, numbers) = receiver.caller.into_parts();
-    let (receiver_pass, receiver_log) = handle.into_parts();
-    let (ticker_pass, ticker_log) = ticker.caller.into_parts();
-    let (sender_pass, sender_log) = sender.caller.into_parts();
-    let (control_pass, control_log) = control.caller.into_handle().into_parts();
+    let Back { crew, had_threads } = back;
+    let Crew {
+        receiver,
+        ticker,
+        sender,
+        control,
+    } = crew;
+    let ends = Crew {
+        receiver: receiver.end,
+        ticker: ticker.end,
+        sender: sender.end,
+        control: control.end,
+    };
+    let (passes, calls, numbers) = taken_back(Crew {
+        receiver: receiver.caller,
+        ticker: ticker.caller,
+        sender: sender.caller,
+        control: control.caller,
+    });
     let (ring, link) = sender.worker.outgoing.into_parts();
-    Back {
-        passes: Passes {
-            receiver: receiver_pass,
-            ticker: ticker_pass,
-            sender: sender_pass,
-            control: control_pass,
+    let outside = Outside {
+        receiver: receiver.worker,
+        ticker: ticker.worker,
+        desk: control.worker,
+        link,
+        logs: Logs {
+            numbers,
+            calls,
+            eras,
         },
+        owed: 0,
+        beat,
+        expelled_ends,
+    };
+    Returned {
+        passes,
         room,
         ring,
-        outside: Outside {
-            receiver: receiver.worker,
-            ticker: ticker.worker,
-            desk: control.worker,
-            link,
-            logs: Logs {
-                numbers,
-                receiver: receiver_log,
-                ticker: ticker_log,
-                sender: sender_log,
-                control: control_log,
-                eras,
-            },
-            owed: 0,
-            beat,
-        },
-        ends: EraEnds {
-            receiver: receiver.end,
-            ticker: ticker.end,
-            sender: sender.end,
-            control: control.end,
-        },
+        outside,
+        ends,
         had_threads,
     }
 }
@@ -342,27 +322,20 @@ fn attend_shared<
     rt: &'x R,
     ending: &'x Ending<'x, I::Alarm>,
     beat: &mut Beat,
-    callers: Callers<'x, Share<'x, N, D, R>, R>,
-    workers: Workers<I, RingLink<N, M>>,
-    control: J,
+    workers: Workers<'x, Share<'x, N, D, R>, R, I, RingLink<N, M>, J>,
 ) -> SharedEnds<'x, N, D, R, I, M, J::Done>
-    ensures receiver { IsSomeAnd result.receiver (λ left. Received I.tells N.base.limit
-        (receiver_of I.came I.failures workers.receiver)
-        (known_of callers.entry.receiver.caller)
-        (receiver_of I.came I.failures left.worker) (known_of left.caller.caller) left.end) }
-    ensures ticker { IsSomeAnd result.ticker (λ left. Ticked N.base.limit
-        (answers workers.ticker.rng) (known_of callers.entry.ticker)
-        (answers left.worker.rng) (known_of left.caller) left.end) }
-    ensures sender { IsSomeAnd result.sender (λ left. Sent M.tells N.base.limit
-        (outgoing_of M.took M.failures (length workers.sender.outgoing.turns)
-        workers.sender.outgoing.ring workers.sender.outgoing.link)
-        (known_of callers.entry.sender)
-        (outgoing_of M.took M.failures (length left.worker.outgoing.turns)
-        left.worker.outgoing.ring left.worker.outgoing.link)
-        (known_of left.caller) left.end) }
-    ensures control { J.does control result.control }
+    ensures receiver { Received I.tells N.base.limit workers.entry.receiver.worker
+        workers.entry.receiver.caller.caller.known result.crew.receiver.worker
+        result.crew.receiver.caller.caller.known result.crew.receiver.end }
+    ensures ticker { Ticked N.base.limit workers.entry.ticker.worker
+        workers.entry.ticker.caller.known result.crew.ticker.worker
+        result.crew.ticker.caller.known result.crew.ticker.end }
+    ensures sender { Sent M.tells N.base.limit (handed_by workers.entry.sender.worker.outgoing)
+        workers.entry.sender.caller.known (handed_by result.crew.sender.worker.outgoing)
+        result.crew.sender.caller.known result.crew.sender.end }
+    ensures control { J.does workers.entry.control result.crew.control }
 {
-    attend(rt, ending, beat, callers, workers, control)
+    attend(rt, ending, beat, workers)
 }
 
 /// Runs the workers of a shared member until one of them ends. An error is that there are too few passes, or that the call for
@@ -378,30 +351,25 @@ fn work<
 >(
     rt: &'x R,
     shared: &'x Shared<N, D, Outbox, R>,
-    held: (Vec<Pass<N>>, Vec<Watch<N>>),
-    ring: RingSender<N>,
+    mut held: Held<N>,
     outside: Outside<I, M, R, O>,
     board: &'x Board,
     ending: &'x Ending<'x, I::Alarm>,
-) -> Result<Back<N, I, M, R, O>, Refusal>
-    requires { held.0.items ≡ new_passes CALLERS }
+) -> Result<Returned<N, I, M, R, O>, Refusal>
+    requires passes { held.passes.items ≡ new_passes CALLERS }
+    requires ring { N.link ≡ held.ring.ring }
     ensures receiver { IfOk result (λ back. ByPass (Received I.tells N.base.limit) N.base
-        (receiver_of I.came I.failures outside.receiver) (new_caller 0)
-        (receiver_of I.came I.failures back.outside.receiver)
-        back.passes.receiver back.ends.receiver) }
-    ensures ticker { IfOk result (λ back. ByPass (Ticked N.base.limit) N.base
-        (answers outside.ticker.rng) (new_caller 1) (answers back.outside.ticker.rng)
-        back.passes.ticker back.ends.ticker) }
-    ensures sender { IfOk result (λ back. SendsBy M.tells M.took M.failures N.base outside.owed
-        ring outside.link back.ring back.outside.link back.passes.sender back.ends.sender) }
-    ensures control { IfOk result (λ back. ByPass (Tended O.Reader.remaining O.Writer.contents
-        N.base.limit) N.base
-        (desk_of outside.desk.joiner outside.desk.conversation outside.desk.others)
-        (new_caller 3)
-        (desk_of back.outside.desk.joiner back.outside.desk.conversation
-        back.outside.desk.others) back.passes.control back.ends.control) }
+        outside.receiver (new_caller 0) back.outside.receiver back.passes.receiver
+        back.ends.receiver) }
+    ensures ticker { IfOk result (λ back. ByPass (Ticked N.base.limit) N.base outside.ticker
+        (new_caller 1) back.outside.ticker back.passes.ticker back.ends.ticker) }
+    ensures sender { IfOk result (λ back. SendsBy M.tells N.base outside.owed held.ring
+        outside.link back.ring back.outside.link back.passes.sender back.ends.sender) }
+    ensures control { IfOk result (λ back. ByPass (Tended N.base.limit) N.base outside.desk
+        (new_caller 3) back.outside.desk back.passes.control back.ends.control) }
+    ensures same { IfOk result (λ back. N.link ≡ back.ring.ring) }
     ensures room { IfOk result (λ back. back.room.items ≡ []) }
-    ensures eras { IfOk result (λ back. back.outside.logs.eras ≡ outside.logs.eras) }
+    ensures eras { IfOk result (λ back. back.outside.eras ≡ outside.eras) }
 {
     let Outside {
         receiver,
@@ -411,41 +379,38 @@ fn work<
         logs,
         owed,
         mut beat,
+        expelled_ends,
     } = outside;
     let pace = ending.pace();
-    let (callers, shown, room) = begin(rt, shared, held, &logs, owed, board, pace)?;
-    let workers = Workers {
-        receiver,
-        ticker,
-        sender: Sender {
-            outgoing: RingLink::new(ring, link),
+    let Some(mut callers) = callers_of(rt, shared, &mut held, &logs, board, pace) else {
+        return Err(Refusal::Memory);
+    };
+    tell(&mut callers.sender, owed)?;
+    let workers = Crew {
+        receiver: Manned {
+            worker: receiver,
+            caller: callers.receiver,
+        },
+        ticker: Manned {
+            worker: ticker,
+            caller: callers.ticker,
+        },
+        sender: Manned {
+            worker: Sender {
+                outgoing: RingLink::new(held.ring, link),
+            },
+            caller: callers.sender,
+        },
+        control: Job {
+            rt,
+            worker: desk,
+            caller: callers.control,
+            gate: Ringing::new(pace),
+            ending,
         },
     };
-    let control = Job {
-        rt,
-        worker: desk,
-        caller: shown,
-        gate: Ringing::new(pace),
-        ending,
-    };
-    let ends = attend_shared(rt, ending, &mut beat, callers, workers, control);
-    let Ends {
-        receiver,
-        ticker,
-        sender,
-        control,
-        had_threads,
-    } = ends;
-    Ok(take_apart(
-        receiver.unwrap(),
-        ticker.unwrap(),
-        sender.unwrap(),
-        control,
-        had_threads,
-        logs.eras,
-        beat,
-        room,
-    ))
+    let back = attend_shared(rt, ending, &mut beat, workers);
+    Ok(take_apart(back, held.passes, logs.eras, beat, expelled_ends))
 }
 
 /// What is left of an era.
@@ -485,29 +450,29 @@ pub struct CutEra<D: Disk, F: Drop> {
     pub why: F,
 }
 
-/// A node that is shared, with the passes and the watches of all who call.
-type Sharing<N, D, R> = (Shared<N, D, Outbox, R>, (Vec<Pass<N>>, Vec<Watch<N>>));
+/// A node that is shared, with what its workers hold.
+type Sharing<N, D, R> = (Shared<N, D, Outbox, R>, Held<N>);
 
 /// Shares a node with the workers of an era. Where there is no memory the parts come back as they are.
 fn share<N: Name, D: Disk + Drop, R: Wait + Copy + Drop>(
     rt: &R,
     alloc: Global,
     parts: Parts<D, Outbox>,
+    ring: Ring,
 ) -> Result<Sharing<N, D, R>, Parts<D, Outbox>>
-    requires book { parts.book ≡ N.book }
-    requires base { parts.node.base ≡ N.base }
-    requires disk { (D.state parts.node.disk).name ≡ N.disk }
-    requires clock { (D.state parts.node.disk).clock ≡ N.clock }
-    requires owner { parts.node.owner ≡ N.owner }
-    requires first { parts.node.first ≡ N.first }
-    requires link { parts.link.ring ≡ N.link }
-    requires start { parts.link.put ≡ N.start }
-    requires callers { parts.callers ≡ CALLERS }
-    ensures passes { IfOk result (λ made. made.1.0.items ≡ new_passes CALLERS) }
+    requires { NamesParts D.state N.book N.base N.disk N.clock N.owner N.first N.link N.start
+        parts ring }
+    ensures passes { IfOk result (λ made. made.1.passes.items ≡ new_passes CALLERS) }
+    ensures ring { IfOk result (λ made. made.1.ring ≡ ring) }
     ensures parts { IfErr result (λ left. (left ≡ parts) × (left.node.entries ≡ [])) }
 {
     let (shared, passes, watches) = Shared::<N, D, Outbox, R>::new(alloc, *rt, parts)?;
-    Ok((shared, (passes, watches)))
+    let held = Held {
+        passes,
+        watches,
+        ring,
+    };
+    Ok((shared, held))
 }
 
 /// Ends an era whose passes are lost.
@@ -549,38 +514,15 @@ pub fn run_era<
     outside: Outside<I, M, R, O>,
     alarms: &[I::Alarm],
 ) -> Result<EraEnd<D, I, M, R, O>, CutEra<D, EraFault>>
-    requires book { parts.book ≡ N.book }
-    requires base { parts.node.base ≡ N.base }
-    requires disk { (D.state parts.node.disk).name ≡ N.disk }
-    requires clock { (D.state parts.node.disk).clock ≡ N.clock }
-    requires owner { parts.node.owner ≡ N.owner }
-    requires first { parts.node.first ≡ N.first }
-    requires link { parts.link.ring ≡ N.link }
-    requires start { parts.link.put ≡ N.start }
-    requires ring { N.link ≡ ring.ring }
-    requires nothing { N.start ≡ [] }
-    requires callers { parts.callers ≡ CALLERS }
+    requires { NamesParts D.state N.book N.base N.disk N.clock N.owner N.first N.link N.start
+        parts ring }
     ensures node { IfOk result (λ end. StaysIn D.keeps_model D.state parts.node end.node) }
     ensures cut { IfErr result (λ cut. StaysIn D.keeps_model D.state parts.node cut.node) }
-    ensures receiver { IfOk result (λ end. Served (Received I.tells N.base.limit)
-        (receiver_of I.came I.failures outside.receiver) (new_caller 0)
-        (receiver_of I.came I.failures end.outside.receiver) end.ends.receiver
-        end.node.entries) }
-    ensures ticker { IfOk result (λ end. Served (Ticked N.base.limit)
-        (answers outside.ticker.rng) (new_caller 1) (answers end.outside.ticker.rng)
-        end.ends.ticker end.node.entries) }
-    ensures sender { IfOk result (λ end. Sends M.tells M.took M.failures N.base.limit
-        outside.owed ring outside.link end.outside.link end.ends.sender
-        end.outside.owed end.node.entries) }
-    ensures control { IfOk result (λ end. Served (Tended O.Reader.remaining O.Writer.contents
-        N.base.limit)
-        (desk_of outside.desk.joiner outside.desk.conversation outside.desk.others)
-        (new_caller 3)
-        (desk_of end.outside.desk.joiner end.outside.desk.conversation
-        end.outside.desk.others) end.ends.control end.node.entries) }
-    ensures eras { IfOk result (λ end. end.outside.logs.eras ≡ outside.logs.eras) }
+    ensures serves { IfOk result (λ end. Serves I.tells M.tells N.base.limit ring outside
+        end.outside end.ends end.node.entries) }
+    ensures eras { IfOk result (λ end. end.outside.eras ≡ outside.eras) }
 {
-    let (shared, held) = match share::<N, D, R>(rt, alloc, parts) {
+    let (shared, held) = match share::<N, D, R>(rt, alloc, parts, ring) {
         Ok(made) => made,
         Err(parts) => {
             let (node, _) = parts.into_inner();
@@ -593,12 +535,11 @@ pub fn run_era<
     let pace = Pace::new();
     let ending = Ending::new(&pace, alarms);
     let board = Board::new(&outside.logs);
-    let ring = RingSender::<N>::new(ring);
-    let back = match work(rt, &shared, held, ring, outside, &board, &ending) {
+    let back = match work(rt, &shared, held, outside, &board, &ending) {
         Ok(back) => back,
         Err(why) => return Err(cut_short(alloc, shared, why)),
     };
-    let Back {
+    let Returned {
         passes,
         room,
         ring,
@@ -606,11 +547,10 @@ pub fn run_era<
         ends,
         had_threads,
     } = back;
-    let Some(passes) = passes.into_list(room) else {
+    let Some(passes) = list_of(passes, room) else {
         return Err(cut_short(alloc, shared, Refusal::Memory));
     };
-    let watches = Vec::new(alloc);
-    let closed = shared.close_sent(passes, watches, ring.into_inner(), &mut outside.link);
+    let closed = shared.close_sent(passes, Vec::new(alloc), ring, &mut outside.link);
     let node = closed.node;
     if closed.odd != 0 {
         let why = EraFault::Odd;

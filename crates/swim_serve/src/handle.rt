@@ -4,10 +4,12 @@ ghost use Rattle.std.specs.Prelude.{◌≡◌, [], false};
 ghost use Rattle.swim_node.specs.History.{IsLegal};
 ghost use Rattle.swim_shared.specs.Passes.{IsPass};
 ghost use Rattle.swim_serve.specs.Numbers.{origin_of};
+ghost use Rattle.swim_serve.specs.Views.{HasCalledBy, view_of};
 
 use crate::board::{Board, Row};
 use crate::call_log::CallLog;
 use log::Log;
+use std::marker::Model;
 use std::sync::Wait;
 use std::time::Clock;
 use swim_disk::Disk;
@@ -31,6 +33,15 @@ pub struct Handle<'a, N: Name, D: Disk, L: Link, R: Wait + Drop, W: Wait + Log +
     is_spent: bool,
     /// The events that it was to enter.
     asked: Trace<Event>,
+}
+
+impl<'a, N: Name, D: Disk, L: Link, R: Wait + Drop, W: Wait + Log + Clock> Model
+    for Handle<'a, N, D, L, R, W> {
+    ghost use Rattle.swim_serve.specs.Views.{HandleView, view_of};
+
+    ghost Value = { HandleView };
+
+    ghost view = { λ h. record { known = view_of h.pass h.is_spent h.asked; log = h.log } };
 }
 
 /// Whence the bytes came that the event is about.
@@ -59,10 +70,7 @@ impl<'a, N: Name, D: Disk, L: Link, R: Wait + Drop, W: Wait + Log + Clock> Handl
         row: &'a Row,
         log: CallLog,
     ) -> Self
-        ensures pass { result.pass ≡ pass }
-        ensures spent { result.is_spent ≡ false }
-        ensures asked { result.asked ≡ [] }
-        ensures log { result.log ≡ log }
+        ensures { result ≡ record { known = view_of pass false []; log = log } }
     {
         Handle {
             rt,
@@ -77,14 +85,14 @@ impl<'a, N: Name, D: Disk, L: Link, R: Wait + Drop, W: Wait + Log + Clock> Handl
 
     /// What was seen is a legal history of the shared member.
     pub fn history_is_legal(&self)
-        ensures { IsLegal N.base self.now.pass.seen }
+        ensures { IsLegal N.base self.now.known.seen }
     {
         let _ = self.pass.calls();
     }
 
     /// The pass, for the end of the shared member, and what was logged and counted.
     pub fn into_parts(self) -> (Pass<N>, CallLog)
-        ensures pass { result.0 ≡ self.entry.pass }
+        ensures pass { HasCalledBy result.0 self.entry.known }
         ensures is_pass { IsPass N.base result.0 }
         ensures log { result.1 ≡ self.entry.log }
     {
@@ -107,18 +115,16 @@ impl<'a, N: Name, D: Disk, L: Link, R: Wait + Drop, W: Wait + Log + Clock> Calle
     ghost use Rattle.std.specs.Prelude.{◌≡◌, IfErr, IfOk, OnErr};
     ghost use Rattle.swim_shell.specs.Calls.{NewCall, Refuses};
     ghost use Rattle.swim_shell.specs.Counts.{counts_after, event_kind};
-    ghost use Rattle.swim_serve.specs.Views.{known_of, view_of};
 
-    ghost known = { λ h. view_of h.pass h.is_spent h.asked };
+    ghost known = { λ h. h.known };
 
     ghost limit = { N.base.limit };
 
     #[tactic(auto, using(crate::proofs::Passing::called_new, crate::proofs::Passing::refused_memory, crate::proofs::Passing::refused_full, crate::proofs::Passing::refused_turn, crate::proofs::Passing::refused_unread, crate::proofs::Passing::refused_spent))]
     fn call(&mut self, event: Event) -> Result<Reply, Refusal>
-        ensures ok { IfOk result (λ reply. NewCall (known_of self.old) (known_of self.new)
-            event reply) }
-        ensures err { IfErr result (λ why. Refuses N.base.limit why (known_of self.old)
-            (known_of self.new) event) }
+        ensures ok { IfOk result (λ reply. NewCall self.old.known self.new.known event reply) }
+        ensures err { IfErr result (λ why. Refuses N.base.limit why self.old.known
+            self.new.known event) }
         // beside what every caller does: an answered call is counted, and a refused one is not
         ensures counted { IfOk result (λ reply. self.new.log.counts
             ≡ counts_after (event_kind event) reply self.old.log.counts) }
@@ -188,9 +194,7 @@ impl<'a, N: Name, D: Disk, L: Link, R: Wait + Drop, W: Wait + Log + Clock> Obser
 
 impl<'a, N: Name, D: Disk, L: Link, R: Wait + Drop, W: Wait + Log + Clock> Caller
     for Observing<'a, N, D, L, R, W> {
-    ghost use Rattle.swim_serve.specs.Views.{view_of};
-
-    ghost known = { λ o. view_of o.handle.pass o.handle.is_spent o.handle.asked };
+    ghost known = { λ o. o.handle.known };
 
     ghost limit = { N.base.limit };
 

@@ -1,15 +1,18 @@
 //! Who is asked between two eras.
 
 ghost use Rattle.std.specs.Prelude.{◌≡◌};
-ghost use Rattle.swim_serve.specs.Desks.{IsHosted, desk_of};
+ghost use Rattle.swim_serve.specs.Desks.{IsHosted};
 
 use crate::chores::Chores;
-use crate::desk::Desk;
+use crate::outside::Outside;
 use arrayvec::ArrayVec;
 use log::Log;
 use std::time::Clock;
+use swim_node::Link;
 use swim_recorder::{Keeper, Unkept};
-use swim_shell::{Answer, ControlEnd, Doors, LIST_MAX, Paces, SETTINGS_REFUSED, answer_of};
+use swim_shell::{
+    Answer, ControlEnd, Doors, Inbound, LIST_MAX, Paces, SETTINGS_REFUSED, answer_of,
+};
 use swim_state::Peers;
 use swim_wire::Endpoint;
 
@@ -54,21 +57,21 @@ impl Host for Unkept {
 }
 
 /// Asks the host of a member after an era whose control ended so. The line `reload` gets its answer.
-pub(crate) fn ask_host<W: Log + Clock + Drop, O: Doors + Chores + Drop, H: Host>(
-    desk: &mut Desk<W, O>,
-    control: Option<ControlEnd>,
-    stored: &Peers,
-    host: &mut H,
-)
+pub(crate) fn ask_host<
+    I: Inbound + Drop,
+    M: Link + Drop,
+    R: Log + Clock + Drop,
+    O: Doors + Chores + Drop,
+    H: Host,
+>(outside: &mut Outside<I, M, R, O>, control: Option<ControlEnd>, stored: &Peers, host: &mut H)
     ensures given { H.given host.new ≡ H.given host.old }
-    ensures hosted { IsHosted O.Reader.remaining O.Writer.contents H.relists control
-        (desk_of desk.old.joiner desk.old.conversation desk.old.others)
-        (desk_of desk.new.joiner desk.new.conversation desk.new.others) }
+    ensures hosted { IsHosted H.relists control outside.old.desk outside.new.desk }
+    ensures rest { outside.new ≡ record outside.old { desk = outside.new.desk } }
 {
     if control == Some(ControlEnd::Reloading) {
-        desk.answer(host.reload());
+        outside.desk.answer(host.reload());
     }
     if let Some(joins) = host.joins(stored) {
-        desk.relist(joins.peers, joins.paces);
+        outside.desk.relist(joins.peers, joins.paces);
     }
 }

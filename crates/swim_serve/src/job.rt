@@ -20,6 +20,15 @@ pub struct Job<'a, W: Wait, C: Caller + Drop, K: Worker<C> + Drop, G: Gate + Dro
     pub ending: &'a Ending<'a, M>,
 }
 
+/// A worker, and by whom it calls.
+#[derive(Drop)]
+pub struct Manned<C: Caller + Drop, K: Worker<C> + Drop> {
+    /// The worker.
+    pub worker: K,
+    /// By whom it calls.
+    pub caller: C,
+}
+
 /// What is left of a job.
 #[derive(Drop)]
 pub struct Left<C: Caller + Drop, K: Worker<C> + Drop> {

@@ -4,6 +4,7 @@ ghost use Rattle.std.specs.Prelude.{◌≡◌, ◌∷◌, []};
 ghost use Rattle.swim_serve.specs.EraCounts.{with_era, with_peers};
 
 use crate::call_log::CallLog;
+use crate::crew::Crew;
 use crate::era_saves::{EraSaves, PeersSave};
 use crate::number_log::NumberLog;
 use swim_shell::ERA_COUNTS;
@@ -62,27 +63,30 @@ impl EraCounts {
     }
 }
 
+/// What each worker has logged and counted.
+pub(crate) type CallLogs = Crew<CallLog, CallLog, CallLog, CallLog>;
+
 /// What each worker has logged and counted, and what became of the eras, from one era to the next.
 #[derive(Clone, Copy, Debug, PartialEq, Eq)]
 pub struct Logs {
     /// What datagrams said of the own number.
     pub(crate) numbers: NumberLog,
-    pub(crate) receiver: CallLog,
-    pub(crate) ticker: CallLog,
-    pub(crate) sender: CallLog,
-    pub(crate) control: CallLog,
+    pub(crate) calls: CallLogs,
     pub(crate) eras: EraCounts,
 }
 
 impl Logs {
     /// Nothing was logged or counted yet of this member, whose life begins with this number.
     pub fn new(me: Endpoint, number: u64) -> Logs {
+        let none = CallLog::new(number);
         Logs {
             numbers: NumberLog::new(me, number),
-            receiver: CallLog::new(number),
-            ticker: CallLog::new(number),
-            sender: CallLog::new(number),
-            control: CallLog::new(number),
+            calls: Crew {
+                receiver: none,
+                ticker: none,
+                sender: none,
+                control: none,
+            },
             eras: EraCounts::new(),
         }
     }

@@ -8,22 +8,20 @@ ghost use Rattle.swim_node.specs.Lives.{EndsEra, Era, GoesOn, IsRaised};
 ghost use Rattle.swim_node.specs.Node.{next_base};
 ghost use Rattle.swim_recorder.specs.Handing.{begun_at, recorded};
 ghost use Rattle.swim_state.specs.Held.{Covers, Through};
-ghost use Rattle.swim_shell.specs.Ticks.{answers};
-ghost use Rattle.swim_serve.specs.Desks.{desk_of};
 ghost use Rattle.swim_serve.specs.EraCounts.{number_saves};
 ghost use Rattle.swim_serve.specs.Faults.{by_desk, by_receiver, by_refusal, fault_by, fault_of};
 ghost use Rattle.swim_serve.specs.Eras.{StaysIn};
-ghost use Rattle.swim_serve.specs.Members.{CutsEra, EndsMember, FailsMember, IsGiven, Lived};
+ghost use Rattle.swim_serve.specs.Members.{CutsEra, EndsMember, FailsMember, Lived};
 ghost use Rattle.swim_serve.specs.Members.{LivedBy, ServesEra, end_by_phase, member_end, member_of};
 ghost use Rattle.swim_serve.specs.Peers.{BecameOf, BeginsKept, HasKnown, KeepsPeers, next_era};
-ghost use Rattle.swim_serve.specs.Works.{receiver_of};
 
 use crate::beat::Beat;
 use crate::chores::Chores;
-use crate::era::{CALLERS, CutEra, EraEnd, EraEnds, EraFault, Outside, WATCHES, run_era};
+use crate::era::{CALLERS, CutEra, EraEnd, EraEnds, EraFault, WATCHES, run_era};
 use crate::era_saves::{EraSaves, PeersSave, number_saves};
 use crate::expulsion::Expulsion;
 use crate::host::{Host, ask_host};
+use crate::outside::Outside;
 use log::{Log, warn};
 use std::alloc::Global;
 use std::marker::Brand;
@@ -35,7 +33,7 @@ use swim_member::Phase;
 use swim_node::{Beginning, Link, Node};
 use swim_recorder::{Keeper, Unkept, begin, hand_over};
 use swim_shared::{Outbox, Parts, Sender as Ring};
-use swim_shell::{Alarmed, ControlEnd, Doors, Refusal, WorkerEnd};
+use swim_shell::{Alarmed, ControlEnd, Doors, Inbound, Refusal, WorkerEnd};
 
 /// How many datagrams wait at most until the sender takes them.
 const OUTBOX_PLACES: usize = 256;
@@ -230,17 +228,10 @@ fn one_era<
     ensures entries { IfOk result (λ end. end.node.entries ≡ []) }
     ensures kept { IfOk result (λ end. fault_of end.ends ≡ None → BeginsKept end.node) }
     ensures let_go { K.keeps keeper.old ≡ false → keeper.new ≡ keeper.old }
-    ensures era { IfOk result (λ end. (era : Era) × ServesEra D.keeps_model D.state I.tells
-        M.tells M.took M.failures O.Reader.remaining O.Writer.contents
-        (member_of node (receiver_of I.came I.failures outside.receiver)
-        (answers outside.ticker.rng) outside.link outside.owed
-        (desk_of outside.desk.joiner outside.desk.conversation outside.desk.others))
-        (member_of end.node (receiver_of I.came I.failures end.outside.receiver)
-        (answers end.outside.ticker.rng) end.outside.link end.outside.owed
-        (desk_of end.outside.desk.joiner end.outside.desk.conversation
-        end.outside.desk.others)) end.ends era
-        × IsGiven (K.keeps keeper.old) (fault_of end.ends) (K.given keeper.old)
-        (K.given keeper.new) (recorded era.base era.entries)) }
+    ensures era { IfOk result (λ end. (era : Era)
+        × ServesEra D.keeps_model D.state I.tells M.tells
+        (member_of node outside (K.keeps keeper.old) (K.given keeper.old))
+        (member_of end.node end.outside (K.keeps keeper.new) (K.given keeper.new)) end.ends era) }
     ensures cut { IfErr result (λ cut. CutsEra cut.why
         × StaysIn D.keeps_model D.state node cut.node) }
     ensures not_given { IfErr result (λ _. keeper.new ≡ keeper.old) }
@@ -272,9 +263,8 @@ fn one_era<
         return Ok(end);
     }
     let saves = end_era(rt, &mut end.node, beginning, keeper);
-    end.outside.logs.end_era(saves);
     let was_full = end.ends.ticker == Some(Refusal::EraFull);
-    end.outside.beat.repeat_if(was_full);
+    end.outside.end_era(saves, was_full);
     Ok(end)
 }
 
@@ -374,14 +364,20 @@ impl Grace {
         }
     }
 
-    /// How the member ends after an era of this beat whose workers ended so, if it does. An error is the fault that ends it.
-    fn end_after<W: Clock>(
+    /// How the member ends after an era whose workers ended so, if it does; if it waits, its next era ends once that is over. An error
+    /// is the fault that ends it.
+    fn end_after<
+        I: Inbound + Drop,
+        M: Link + Drop,
+        R: Log + Clock + Drop,
+        O: Doors + Chores + Drop,
+    >(
         &mut self,
-        rt: &W,
+        rt: &R,
         ends: EraEnds,
         had_threads: bool,
         phase: Phase,
-        beat: &mut Beat,
+        outside: &mut Outside<I, M, R, O>,
     ) -> Option<Result<MemberEnd, Fault>>
         requires { IsSome self.old.expulsion.end_at → IsSome self.old.expulsion.wait }
         ensures wait { self.new.expulsion.wait ≡ self.old.expulsion.wait }
@@ -390,6 +386,7 @@ impl Grace {
             phase)) }
         ensures failed { IfSome result (λ how. IfErr how (FailsMember ends)) }
         ensures sound { IfNone result (fault_of ends ≡ None) }
+        ensures same { outside.new ≡ outside.old }
     {
         if let Some(fault) = fault_of(&ends) {
             return Some(Err(fault));
@@ -397,14 +394,14 @@ impl Grace {
         if let Err(fault) = self.famine.wait(rt, had_threads) {
             return Some(Err(fault));
         }
-        let is_over = is_wait_over(&mut self.expulsion, beat, phase);
+        let is_over = is_wait_over(&mut self.expulsion, &mut outside.beat, phase);
         let end = member_end(ends.control, phase, is_over)?;
         Some(Ok(end))
     }
 }
 
 /// Runs a member era after era, until the line `stop` is answered, or a worker ends otherwise than by a full era, or, if it is to
-/// end then, until so many ticks after it was expelled. The alarms end the waits of its sockets. Nobody keeps its eras. Whatever
+/// end then, until its wait after it was expelled is over. The alarms end the waits of its sockets. Nobody keeps its eras. Whatever
 /// ends it, its node is left: what `Node::into_disk` says of a life that ended holds of it.
 pub fn run_member<
     D: Disk + Send + Drop,
@@ -418,18 +415,12 @@ pub fn run_member<
     node: Node<D>,
     outside: Outside<I, M, R, O>,
     alarms: &[I::Alarm],
-    expelled_ends: Option<u64>,
 ) -> EndedMember<D>
     requires { node.entries ≡ [] }
-    ensures { Lived D.keeps_model D.state I.tells M.tells M.took M.failures O.Reader.remaining
-        O.Writer.contents expelled_ends
-        (member_of node (receiver_of I.came I.failures outside.receiver)
-        (answers outside.ticker.rng) outside.link outside.owed
-        (desk_of outside.desk.joiner outside.desk.conversation outside.desk.others))
-        result.how result.node }
+    ensures { Lived D.keeps_model D.state I.tells M.tells node outside result.how result.node }
 {
     let mut keeper = Unkept::new();
-    run_kept(rt, alloc, node, outside, alarms, expelled_ends, &mut keeper)
+    run_kept(rt, alloc, node, outside, alarms, &mut keeper)
 }
 
 /// Runs a member as `run_member` does, and hands each era that ended to its host. After each of them it asks the host, which reads
@@ -447,38 +438,36 @@ pub fn run_kept<
     node: Node<D>,
     outside: Outside<I, M, R, O>,
     alarms: &[I::Alarm],
-    expelled_ends: Option<u64>,
     host: &mut H,
 ) -> EndedMember<D>
     requires { node.entries ≡ [] }
-    ensures { LivedBy D.keeps_model D.state I.tells M.tells M.took M.failures O.Reader.remaining
-        O.Writer.contents H.relists expelled_ends
-        (member_of node (receiver_of I.came I.failures outside.receiver)
-        (answers outside.ticker.rng) outside.link outside.owed
-        (desk_of outside.desk.joiner outside.desk.conversation outside.desk.others))
-        result.how result.node }
+    ensures { LivedBy D.keeps_model D.state I.tells M.tells H.relists
+        (member_of node outside (H.keeps host.old) (H.given host.old)) result.how result.node
+        (H.given host.new) }
 {
+    let mut grace = Grace::new(outside.expelled_ends());
     let mut left = (node, outside);
-    let mut grace = Grace::new(expelled_ends);
     for _ in rt.forever() {
-        let mut era = match one_era(rt, alloc, left.0, left.1, alarms, host) {
+        let era = match one_era(rt, alloc, left.0, left.1, alarms, host) {
             Ok(era) => era,
             Err(CutEra { node, why }) => return EndedMember {
                 node,
                 how: Err(why),
             },
         };
-        let phase = era.node.status().phase;
-        let how = grace.end_after(rt, era.ends, era.had_threads, phase, &mut era.outside.beat);
-        if let Some(how) = how {
-            return EndedMember {
-                node: era.node,
-                how,
-            };
+        let EraEnd {
+            node,
+            mut outside,
+            ends,
+            had_threads,
+        } = era;
+        let phase = node.status().phase;
+        if let Some(how) = grace.end_after(rt, ends, had_threads, phase, &mut outside) {
+            return EndedMember { node, how };
         }
-        let stored = era.node.peers();
-        ask_host(&mut era.outside.desk, era.ends.control, &stored, host);
-        left = (era.node, era.outside);
+        let stored = node.peers();
+        ask_host(&mut outside, ends.control, &stored, host);
+        left = (node, outside);
     }
     unreachable!()
 }

@@ -12,5 +12,6 @@ pub mod Ticking
 pub mod Losing
 pub mod Dealing
 pub mod Asking
+pub mod Crosses
 mod Examples
 pub mod Printing

@@ -1,19 +1,9 @@
 -- Texts that are added one after another, and how long they are at the most.
-use Rattle.std.proofs.Common.{◌≡◌, ℕ, ◌+◌, ◌/◌, ◌%◌, ◌^◌, ◌<◌, ◌≤◌, List, [], ◌∷◌, ◌++◌, length, lit≤, append_assoc, sym, ap, ◌∙◌, arith, length-append}
+use Rattle.std.proofs.Common.{◌≡◌, ℕ, ◌+◌, ◌/◌, ◌%◌, ◌^◌, ◌<◌, ◌≤◌, List, [], ◌∷◌, ◌++◌, length, append_assoc, sym, ap, ◌∙◌, arith, length-append}
 use Rattle.std.specs.Prelude.{Result, Ok, Err, OnOk, IsOk}
 use Rattle.std.specs.Fmt.{decimal}
 use Rattle.std.proofs.lemmas.Fmt.{decimal_digit, decimal_step, length-decimal-le}
-use Rattle.swim_member.specs.declared.note.Note.{Note}
-use Rattle.swim_member.specs.declared.note.Note.TheVariants as note
-use Rattle.swim_member.specs.declared.state.Phase.{Phase}
-use Rattle.swim_member.specs.declared.state.Phase.TheVariants as phase
-use Rattle.swim_member.specs.Texts.{note_name, phase_word}
-use Rattle.swim_wire.specs.Text.{dotted, endpoint_text, kind_word}
-use Rattle.swim_wire.specs.declared.update.UpdateKind.{UpdateKind}
-use Rattle.swim_wire.specs.declared.update.UpdateKind.TheVariants as kind
-use Rattle.swim_shell.specs.declared.counters.Counter.{Counter}
-use Rattle.swim_shell.specs.declared.counters.Counter.TheVariants as counter
-use Rattle.swim_shell.specs.Counters.{counter_name}
+use Rattle.swim_wire.specs.Text.{dotted, endpoint_text}
 
 pub gone_well : {A E : Type 0} (r : Result A E) (P : Type 0) → OnOk r P → IsOk r → P
 gone_well (Ok x) P on is = on

@@ -9,7 +9,7 @@ use Rattle.swim_shell.specs.declared.worker.WorkerEnd.TheVariants as ends
 use Rattle.swim_member.specs.declared.event.Event.{Event}
 use Rattle.swim_node.specs.declared.entry.Reply.{Reply}
 use Rattle.swim_shell.specs.Calls.{CallerView, NewCall, NewCalls, Refuses}
-use Rattle.swim_shell.specs.Inbounds.{Came, Received, Nothing, Failed, events_at, events_for, failures_in, row_after, failures_in_a_row, is_calm, Took, event_of, waiting, ReceiverView, receiver_view, Takes, Receiving, kept_after, ReceivesLast}
+use Rattle.swim_shell.specs.Inbounds.{Came, Received, Nothing, Failed, events_at, events_for, failures_in, row_after, failures_in_a_row, is_calm, Took, event_of, waiting, ReceiverView, receiver_of, Takes, Receiving, kept_after, ReceivesLast}
 use Rattle.swim_shell.proofs.News.{assoc, no_calls, more_calls, one_call}
 
 events_for-append : (xs ys : List Came) → events_for (xs ++ ys) ≡ events_for xs ++ events_for ys
@@ -127,8 +127,8 @@ pub receives_fault : (tells : Type 0) (limit : ℕ) (m b : ReceiverView) (p q : 
 receives_fault tells limit m b p q event reply last t none is call more = record { taken = Some last; takes = t; ends_by = (enters p q event reply last is call, more, none) }
 
 -- whatever is kept after it
-takes_and : (tells : Type 0) (a b : ReceiverView) (taken kept : Option Arrival) → Takes tells a b taken → Takes tells a (receiver_view b.came b.failures b.row kept) taken
+takes_and : (tells : Type 0) (a b : ReceiverView) (taken kept : Option Arrival) → Takes tells a b taken → Takes tells a (receiver_of b.came b.failures b.row kept) taken
 takes_and tells a b taken kept t = record { came = t.came; took = t.took; row_is = t.row_is; events_are = t.events_are; one = t.one }
 
-pub receives_refused : (tells : Type 0) (limit : ℕ) (why : Refusal) (m b : ReceiverView) (p q : CallerView) (event : Event) (last : Arrival) (kept : Option Arrival) → Takes tells m b (Some last) → kept ≡ kept_after why last → event ≡ event_of last → Refuses limit why p q event → ReceivesLast tells limit (ends.Refused why) m p (receiver_view b.came b.failures b.row kept) q
+pub receives_refused : (tells : Type 0) (limit : ℕ) (why : Refusal) (m b : ReceiverView) (p q : CallerView) (event : Event) (last : Arrival) (kept : Option Arrival) → Takes tells m b (Some last) → kept ≡ kept_after why last → event ≡ event_of last → Refuses limit why p q event → ReceivesLast tells limit (ends.Refused why) m p (receiver_of b.came b.failures b.row kept) q
 receives_refused tells limit why m b p q event last kept t kept_is is refused = record { taken = Some last; takes = takes_and tells m b (Some last) kept t; ends_by = record { last = last; taken_is = refl; refused = subst (Refuses limit why p q) is refused; kept_is = kept_is } }

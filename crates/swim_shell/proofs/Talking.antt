@@ -16,7 +16,7 @@ use Rattle.swim_shell.specs.Work.{Goes}
 use Rattle.swim_shell.specs.Lines.{IsLine, Takes, TakesLine}
 use Rattle.swim_shell.specs.Requests.{Names}
 use Rattle.swim_shell.specs.Answers.{Answers, Gives, end_of}
-use Rattle.swim_shell.specs.Views.{ConversationView, is_waiting}
+use Rattle.swim_shell.specs.Views.{ConversationView, is_waiting, waits}
 use Rattle.swim_shell.specs.Control.{Heard, Hears, bytes_of, answers_of, DueAfter, Talks, carried, HadToWrite, Converses, IsSettled, ConversedBy, HearsLine, HearsNone, due_before, EndsIf, Sends}
 use Rattle.swim_shell.proofs.News.{assoc}
 use Rattle.swim_shell.proofs.Reading.{takes_nothing, takes_more}
@@ -55,19 +55,22 @@ waits_on (Some line_end.Renewed) out e = refl
 waits_on (Some line_end.Reloading) out e = refl
 waits_on (Some (line_end.Refused why)) out e = refl
 
-pub converses_start : (limit : ℕ) (comes gone : Option (List ℕ)) (kept left : List ℕ) (due : Option LineEnd) (out : Bool) (p : CallerView) → Converses limit (record { comes = comes; kept = kept; gone = gone; left = left; due = due; waits = is_waiting due out }) p (record { comes = comes; kept = kept; gone = gone; left = left; due = carried due; waits = is_waiting (carried due) out }) p 0
-converses_start limit comes gone kept left due out p = record {
+pub converses_start : (limit : ℕ) (a : ConversationView) (p : CallerView) → Converses limit a p (record a { due = carried a.due }) p 0
+converses_start limit a p = record {
   heard = [];
   each = omega arith;
-  talks = record { lines = refl; took = takes_nothing comes kept; wrote = gives_nothing gone left; ends = refl };
-  waits = λ e. inl (waits_on due out e);
+  talks = record { lines = refl; took = takes_nothing a.comes a.kept; wrote = gives_nothing a.gone a.left; ends = refl };
+  waits = λ e. inl (waits_on a.due a.out e);
 }
+
+was_waiting : (a b : ConversationView) → b.due ≡ a.due → b.out ≡ a.out → waits b ≡ true → waits a ≡ true
+was_waiting a b due out e = cc
 
 had_none : (s : ConversationView) (ys : List Heard) → HadToWrite s [] → HadToWrite s ys
 had_none s ys (inl e) = inl e
 had_none s ys (inr some) = absurd (some refl)
 
-had_more : (s a : ConversationView) (xs ys : List Heard) → (a.waits ≡ true → HadToWrite s xs) → HadToWrite a ys → HadToWrite s (xs ++ ys)
+had_more : (s a : ConversationView) (xs ys : List Heard) → (waits a ≡ true → HadToWrite s xs) → HadToWrite a ys → HadToWrite s (xs ++ ys)
 had_more s a [] ys h (inl e) = had_none s ys (h e)
 had_more s a [] ys h (inr some) = inr some
 had_more s a (x ∷ xs) ys h k = inr (λ e. absurd cc)
@@ -94,7 +97,7 @@ pub record OneTurn (limit : ℕ) (a : ConversationView) (p : CallerView) (b : Co
   pub each : length heard ≤ 1
   pub talks : Talks limit a p b q a.due (due_before end b.due) heard
   pub ended : EndsIf end b
-  pub waits : b.waits ≡ true → HadToWrite a heard
+  pub waits : waits b ≡ true → HadToWrite a heard
   pub fault : end ≡ Some ends.WriteFault → HadToWrite a heard
 
 more_lines : (xs ys : List Heard) (n : ℕ) → length xs ≤ n → length ys ≤ 1 → length (xs ++ ys) ≤ n + 1
@@ -126,8 +129,8 @@ sends limit a b p end s = record {
 }
 
 -- some of what was left was written
-pub turn_sends : (limit : ℕ) (a b : ConversationView) (p : CallerView) (end : Option ControlEnd) → a.waits ≡ true → Sends a b end → OneTurn limit a p b p end
-turn_sends limit a b p end waits s = record { heard = []; each = omega arith; talks = sends limit a b p end s; ended = s.ended; waits = λ _. inl waits; fault = λ _. inl waits }
+pub turn_sends : (limit : ℕ) (a b : ConversationView) (p : CallerView) (end : Option ControlEnd) → waits a ≡ true → Sends a b end → OneTurn limit a p b p end
+turn_sends limit a b p end had s = record { heard = []; each = omega arith; talks = sends limit a b p end s; ended = s.ended; waits = λ _. inl had; fault = λ _. inl had }
 
 hears : (limit : ℕ) (a b : ConversationView) (p q : CallerView) → a.due ≡ None → (h : HearsLine limit a p b q) → Talks limit a p b q a.due b.due (h.line ∷ [])
 hears limit a b p q free h = record {
@@ -158,7 +161,7 @@ quiet limit a b p q why same h = record {
 
 -- no line was there yet
 pub turn_waits : (limit : ℕ) (a b : ConversationView) (p q : CallerView) → q ≡ p → HearsNone a b none.NotYet → OneTurn limit a p b q None
-turn_waits limit a b p q same h = record { heard = []; each = omega arith; talks = quiet limit a b p q none.NotYet same h; ended = tt; waits = λ e. inl (sym h.waits ∙ e); fault = λ e. absurd cc }
+turn_waits limit a b p q same h = record { heard = []; each = omega arith; talks = quiet limit a b p q none.NotYet same h; ended = tt; waits = λ e. inl (was_waiting a b h.due h.out e); fault = λ e. absurd cc }
 
 settled : (a b : ConversationView) (why : NoLine) → a.left ≡ [] → a.due ≡ None → HearsNone a b why → IsSettled b
 settled a b why left due h = record { left = h.left ∙ left; due = h.due ∙ due }
@@ -170,7 +173,7 @@ turn_closes limit a b p q left due same h = record {
   each = omega arith;
   talks = subst (λ d. Talks limit a p b q a.due d []) (h.due ∙ due) (quiet limit a b p q none.Ended same h);
   ended = (settled a b none.Ended left due h, h.took.lacks (λ e. absurd cc), h.took.ended refl);
-  waits = λ e. inl (sym h.waits ∙ e);
+  waits = λ e. inl (was_waiting a b h.due h.out e);
   fault = λ e. absurd cc;
 }
 
@@ -181,16 +184,16 @@ turn_fails limit a b p q left due same h = record {
   each = omega arith;
   talks = subst (λ d. Talks limit a p b q a.due d []) (h.due ∙ due) (quiet limit a b p q none.Failed same h);
   ended = (settled a b none.Failed left due h, h.took.lacks (λ e. absurd cc));
-  waits = λ e. inl (sym h.waits ∙ e);
+  waits = λ e. inl (was_waiting a b h.due h.out e);
   fault = λ e. absurd cc;
 }
 
 -- ---- what a worker's turn is to show, by how it ended
 
-pub goes_on : {S : Type 0} (view : S → ConversationView) (limit : ℕ) (a b : S) (p q : CallerView) (end : Option ControlEnd) → OneTurn limit (view a) p (view b) q end → IfNone end (Goes (λ a p b q n. Converses limit (view a) p (view b) q n) (λ a p b q n. Converses limit (view a) p (view b) q n) a p b q)
-goes_on view limit a b p q None o = λ s r n h. turn_on limit (view s) (view a) (view b) r p q n h o
-goes_on view limit a b p q (Some end) o = tt
+pub goes_on : (limit : ℕ) (a b : ConversationView) (p q : CallerView) (end : Option ControlEnd) → OneTurn limit a p b q end → IfNone end (Goes (Converses limit) (Converses limit) a p b q)
+goes_on limit a b p q None o = λ s r n h. turn_on limit s a b r p q n h o
+goes_on limit a b p q (Some end) o = tt
 
-pub ends_so : {S : Type 0} (view : S → ConversationView) (limit : ℕ) (a b : S) (p q : CallerView) (end : Option ControlEnd) → OneTurn limit (view a) p (view b) q end → IfSome end (λ end. Goes (λ a p b q n. Converses limit (view a) p (view b) q n) (λ a p b q n. ConversedBy end limit (view a) p (view b) q n) a p b q)
-ends_so view limit a b p q None o = tt
-ends_so view limit a b p q (Some end) o = λ s r n h. turn_last limit (view s) (view a) (view b) r p q n end h o
+pub ends_so : (limit : ℕ) (a b : ConversationView) (p q : CallerView) (end : Option ControlEnd) → OneTurn limit a p b q end → IfSome end (λ end. Goes (Converses limit) (ConversedBy end limit) a p b q)
+ends_so limit a b p q None o = tt
+ends_so limit a b p q (Some end) o = λ s r n h. turn_last limit s a b r p q n end h o

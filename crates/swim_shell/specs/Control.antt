@@ -15,7 +15,7 @@ use Rattle.swim_shell.specs.Calls.{CallerView}
 use Rattle.swim_shell.specs.Lines.{Takes, TakesNoLine}
 use Rattle.swim_shell.specs.Requests.{Names}
 use Rattle.swim_shell.specs.Answers.{Answers, Gives, end_of}
-use Rattle.swim_shell.specs.Views.{ConversationView}
+use Rattle.swim_shell.specs.Views.{ConversationView, waits}
 
 -- a line that was heard, what it asks for, why its call was refused, if it was, and its answer
 pub record Heard : Type 0 where
@@ -70,7 +70,7 @@ carried due = due
 
 -- an answer was on its way, or a line was heard
 abbrev pub HadToWrite : ConversationView → List Heard → Type 0
-HadToWrite a heard = (a.waits ≡ true) ⊎ (heard ≢ [])
+HadToWrite a heard = (waits a ≡ true) ⊎ (heard ≢ [])
 
 -- the lines that were heard in so many turns, at most one in each
 pub record Converses (limit : ℕ) (a : ConversationView) (p : CallerView) (b : ConversationView)
@@ -79,7 +79,7 @@ pub record Converses (limit : ℕ) (a : ConversationView) (p : CallerView) (b : 
   pub heard : List Heard
   pub each : length heard ≤ turns
   pub talks : Talks limit a p b q (carried a.due) b.due heard
-  pub waits : b.waits ≡ true → HadToWrite a heard
+  pub waits : waits b ≡ true → HadToWrite a heard
 
 -- the end of the last line that a conversation ends by; where it can write no more it stays due
 abbrev pub end_by_line : ControlEnd → Option LineEnd → Option LineEnd
@@ -107,9 +107,18 @@ EndsAt ends.Renewed b = IsSettled b
 EndsAt ends.Reloading b = IsSettled b
 EndsAt (ends.Refused why) b = IsSettled b
 
--- the text is the answer that is left to write, and all else is the same
+-- the text is the answer that is left to write, nothing is made ready for it any more, and all
+-- else is the same
 abbrev pub IsTold : List ℕ → ConversationView → ConversationView → Type 0
-IsTold text a b = b ≡ record a { left = text; waits = true }
+IsTold text a b = b ≡ record a { left = text; out = false; prepared = false }
+
+-- it is to end by the line `reload` again, and is silent until then; all else is the same
+abbrev pub IsPutOff : Bool → ConversationView → ConversationView → Type 0
+IsPutOff is_prepared a b = b ≡ record a {
+  due = Some line_end.Reloading;
+  silent = true;
+  prepared = is_prepared;
+}
 
 -- the lines that were heard before a conversation ended so
 pub record ConversedBy (end : ControlEnd) (limit : ℕ) (a : ConversationView) (p : CallerView)
@@ -141,7 +150,7 @@ pub record HearsNone (a b : ConversationView) (why : NoLine) : Type 0 where
   pub gone : b.gone ≡ a.gone
   pub left : b.left ≡ a.left
   pub due : b.due ≡ a.due
-  pub waits : b.waits ≡ a.waits
+  pub out : b.out ≡ a.out
 
 -- the rest of the line is not there yet
 abbrev pub is_not_yet : NoLine → Bool

@@ -83,8 +83,8 @@ pub record ReceiverView : Type 0 where
   pub kept : Option Arrival
 
 -- the same of these parts
-abbrev pub receiver_view : List Came → ℕ → ℕ → Option Arrival → ReceiverView
-receiver_view came failures row kept = record {
+abbrev pub receiver_of : List Came → ℕ → ℕ → Option Arrival → ReceiverView
+receiver_of came failures row kept = record {
   came = came;
   failures = failures;
   row = row;

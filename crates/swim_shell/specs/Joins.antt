@@ -261,3 +261,7 @@ pub record LooksInVain (limit : ℕ) (why : Refusal) (seen : List Update) (p q :
   pub full : AreFull looks.entries
   pub fewer : length looks.entries < PAGES_MAX
   pub refused : Refuses limit why between q (Members (place_after rows))
+
+-- how many nanoseconds so many ticks last, of so many milliseconds each
+abbrev pub lasting : ℕ → ℕ → ℕ
+lasting ticks tick_ms = ticks * tick_ms * 1000000

@@ -28,18 +28,18 @@ abbrev pub ticks_of : List (List ℕ) → List Event
 ticks_of [] = []
 ticks_of (d ∷ ds) = Tick d ∷ ticks_of ds
 
--- the calls of a ticker are Ticks with the deals drawn, one a turn
-pub record Ticking (old : Stream) (p : CallerView) (new : Stream) (q : CallerView) (turns : ℕ)
+-- the calls of a ticker are Ticks with the deals that its generator draws, one a turn
+pub record Ticking (old : ChaCha) (p : CallerView) (new : ChaCha) (q : CallerView) (turns : ℕ)
     : Type 0 where
   pub deals : List (List ℕ)
-  pub draws : Draws old deals new
+  pub draws : Draws (answers old) deals (answers new)
   pub each : length deals ≡ turns
   pub calls : NewCalls p q (ticks_of deals)
 
 -- the last turn of a ticker: the Tick with the next deal was refused
-pub record TicksInVain (limit : ℕ) (why : Refusal) (old : Stream) (p : CallerView) (new : Stream)
+pub record TicksInVain (limit : ℕ) (why : Refusal) (old : ChaCha) (p : CallerView) (new : ChaCha)
     (q : CallerView)
     : Type 0 where
   pub deal : List ℕ
-  pub drawn : (deal, new) ≡ next_deal old
+  pub drawn : (deal, answers new) ≡ next_deal (answers old)
   pub refused : Refuses limit why p q (Tick deal)

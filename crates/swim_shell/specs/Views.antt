@@ -4,7 +4,6 @@ use Rattle.std.specs.Prelude.{Option, Some, None, List, [], ◌++◌, length, dr
 use Rattle.swim_shell.specs.declared.lines.ByteReader.{ByteReader}
 use Rattle.swim_shell.specs.declared.lines.LineReader.{LineReader}
 use Rattle.swim_shell.specs.declared.answer_writer.AnswerWriter.{AnswerWriter}
-use Rattle.swim_shell.specs.declared.conversation.Conversation.{Conversation}
 use Rattle.swim_shell.specs.declared.conversation.LineEnd.{LineEnd}
 
 -- the bytes that were read and not yet given
@@ -34,24 +33,19 @@ is_waiting (Some due) out = true
 is_waiting None out = not out
 
 -- what is still to be read, what was read and is of no line that was heard, what was written, what
--- is still to be written, how the conversation is to end once it is, and whether an answer is on
--- its way
+-- is still to be written, whether it is all out, and how the conversation is to end once it is;
+-- whether nothing had come in its last turn; and whether what its line `reload` asks for is being
+-- made ready
 pub record ConversationView : Type 0 where
   pub comes : Option (List ℕ)
   pub kept : List ℕ
   pub gone : Option (List ℕ)
   pub left : List ℕ
+  pub out : Bool
   pub due : Option LineEnd
-  pub waits : Bool
+  pub silent : Bool
+  pub prepared : Bool
 
--- it, by what its reader is to give and what its writer has
-abbrev pub view_of : {Rd Wr : Type 0} → (Rd → Option (List ℕ)) → (Wr → Option (List ℕ))
-    → Conversation Rd Wr → ConversationView
-view_of remaining contents c = record {
-  comes = remaining c.lines.input.reader;
-  kept = kept_of c.lines;
-  gone = contents c.answers.writer;
-  left = left_of c.answers;
-  due = c.due;
-  waits = is_waiting c.due (is_out c.answers);
-}
+-- an answer is on its way
+abbrev pub waits : ConversationView → Bool
+waits c = is_waiting c.due c.out

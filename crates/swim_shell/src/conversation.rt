@@ -14,6 +14,7 @@ use crate::request::{Request, understand};
 use crate::worker::Worker;
 use arrayvec::ArrayString;
 use std::io::{Read, Write};
+use std::marker::Model;
 use swim_member::Event;
 use thiserror::Error;
 
@@ -72,6 +73,23 @@ pub struct Conversation<Rd: Read + Drop, Wr: Write + Drop> {
     is_silent: bool,
     /// Whether what its line `reload` asks for is being made ready.
     is_prepared_for: bool,
+}
+
+impl<Rd: Read + Drop, Wr: Write + Drop> Model for Conversation<Rd, Wr> {
+    ghost use Rattle.swim_shell.specs.Views.{ConversationView, is_out, kept_of, left_of};
+
+    ghost Value = { ConversationView };
+
+    ghost view = { λ c. record {
+      comes = Rd.remaining c.lines.input.reader;
+      kept = kept_of c.lines;
+      gone = Wr.contents c.answers.writer;
+      left = left_of c.answers;
+      out = is_out c.answers;
+      due = c.due;
+      silent = c.is_silent;
+      prepared = c.is_prepared_for;
+    } };
 }
 
 /// Writes the status. Says why it could not, if there is no reading of it.
@@ -167,20 +185,22 @@ fn carried(due: Option<LineEnd>) -> Option<LineEnd>
 }
 
 impl<Rd: Read + Drop, Wr: Write + Drop> Conversation<Rd, Wr> {
-    ghost use Rattle.std.specs.Prelude.{◌≡◌, ◌≢◌, true, false, [], None, Some, OnOk, OnErr, IfErr};
-    ghost use Rattle.swim_shell.specs.declared.conversation.LineEnd.TheVariants as line_end;
-    ghost use Rattle.swim_shell.specs.Views.{left_of, view_of};
-    ghost use Rattle.swim_shell.specs.Control.{HearsLine, HearsNone, IsTold, Sends, is_not_yet};
+    ghost use Rattle.std.specs.Prelude.{◌≡◌, ◌≢◌, true, false, [], None, OnOk, OnErr, IfErr};
+    ghost use Rattle.swim_shell.specs.Control.{HearsLine, HearsNone, IsPutOff, IsTold, Sends};
+    ghost use Rattle.swim_shell.specs.Control.{is_not_yet};
+    ghost use Rattle.swim_shell.specs.Views.{waits};
 
     /// The conversation of a new connection, of which nothing was read or written.
     pub fn new(reader: Rd, writer: Wr) -> Conversation<Rd, Wr>
-        ensures { view_of Rd.remaining Wr.contents result ≡ record {
+        ensures { result ≡ record {
           comes = Rd.remaining reader;
           kept = [];
           gone = Wr.contents writer;
           left = [];
+          out = true;
           due = None;
-          waits = false;
+          silent = false;
+          prepared = false;
         } }
     {
         Conversation {
@@ -194,15 +214,15 @@ impl<Rd: Read + Drop, Wr: Write + Drop> Conversation<Rd, Wr> {
 
     /// Whether nothing had come in its last turn, neither a whole line nor its end.
     pub fn is_silent(&self) -> bool
-        ensures { result ≡ self.now.is_silent }
+        ensures { result ≡ self.now.silent }
     {
         self.is_silent
     }
 
     /// Whether an answer is on its way.
     pub fn is_waiting(&self) -> bool
-        ensures value { result ≡ (view_of Rd.remaining Wr.contents self.now).waits }
-        ensures left { result ≡ false → left_of self.now.answers ≡ [] }
+        ensures value { result ≡ waits self.now }
+        ensures left { result ≡ false → self.now.left ≡ [] }
         ensures due { result ≡ false → self.now.due ≡ None }
     {
         self.due.is_some() || !self.answers.is_out()
@@ -210,10 +230,8 @@ impl<Rd: Read + Drop, Wr: Write + Drop> Conversation<Rd, Wr> {
 
     /// Has the answer to the line `reload` to write, unless an answer is left to write.
     pub fn answer(&mut self, answer: Answer)
-        ensures told { left_of self.old.answers ≡ [] → IsTold answer.bytes
-            (view_of Rd.remaining Wr.contents self.old)
-            (view_of Rd.remaining Wr.contents self.new) }
-        ensures busy { left_of self.old.answers ≢ [] → self.new ≡ self.old }
+        ensures told { self.old.left ≡ [] → IsTold answer.bytes self.old self.new }
+        ensures busy { self.old.left ≢ [] → self.new ≡ self.old }
     {
         if self.answers.has_written() {
             self.answers.put(answer);
@@ -223,7 +241,7 @@ impl<Rd: Read + Drop, Wr: Write + Drop> Conversation<Rd, Wr> {
 
     /// Whether what its line `reload` asks for is being made ready, as `hold` was told. Its answer ends that.
     pub fn is_prepared_for(&self) -> bool
-        ensures { result ≡ self.now.is_prepared_for }
+        ensures { result ≡ self.now.prepared }
     {
         self.is_prepared_for
     }
@@ -231,13 +249,7 @@ impl<Rd: Read + Drop, Wr: Write + Drop> Conversation<Rd, Wr> {
     /// It has ended by the line `reload`, for which nothing is ready yet: it ends so again in a later turn, and is silent until then.
     /// Whether that is being made ready, or waits for what another conversation asked for, is kept beside it.
     pub fn hold(&mut self, is_prepared_for: bool)
-        ensures due { view_of Rd.remaining Wr.contents self.new
-            ≡ record (view_of Rd.remaining Wr.contents self.old) {
-              due = Some line_end.Reloading;
-              waits = true;
-            } }
-        ensures silent { self.new.is_silent ≡ true }
-        ensures prepared { self.new.is_prepared_for ≡ is_prepared_for }
+        ensures { IsPutOff is_prepared_for self.old self.new }
     {
         self.due = Some(LineEnd::Reloading);
         self.is_silent = true;
@@ -246,14 +258,12 @@ impl<Rd: Read + Drop, Wr: Write + Drop> Conversation<Rd, Wr> {
 
     /// Hears the next line, and has its answer to write.
     fn hear<C: Observer>(&mut self, caller: &mut C) -> Result<(), NoLine>
-        requires { left_of self.old.answers ≡ [] }
-        ensures line { OnOk result (HearsLine C.limit (view_of Rd.remaining Wr.contents self.old)
-            (C.known caller.old) (view_of Rd.remaining Wr.contents self.new)
-            (C.known caller.new)) }
-        ensures none { IfErr result (HearsNone (view_of Rd.remaining Wr.contents self.old)
-            (view_of Rd.remaining Wr.contents self.new)) }
+        requires { self.old.left ≡ [] }
+        ensures line { OnOk result (HearsLine C.limit self.old (C.known caller.old)
+            self.new (C.known caller.new)) }
+        ensures none { IfErr result (HearsNone self.old self.new) }
         ensures same { OnErr result (C.known caller.new ≡ C.known caller.old) }
-        ensures silent { IfErr result (λ why. self.new.is_silent ≡ is_not_yet why) }
+        ensures silent { IfErr result (λ why. self.new.silent ≡ is_not_yet why) }
     {
         let heard = self.lines.next_line();
         self.is_silent = matches!(heard, Err(NoLine::NotYet));
@@ -268,9 +278,8 @@ impl<Rd: Read + Drop, Wr: Write + Drop> Conversation<Rd, Wr> {
 
     /// Writes what is left, and then ends the conversation if that is due.
     fn send(&mut self) -> Option<ControlEnd>
-        ensures sends { Sends (view_of Rd.remaining Wr.contents self.old)
-            (view_of Rd.remaining Wr.contents self.new) result }
-        ensures heard { self.new.is_silent ≡ false }
+        ensures sends { Sends self.old self.new result }
+        ensures heard { self.new.silent ≡ false }
     {
         self.is_silent = false;
         match self.answers.send() {
@@ -287,16 +296,13 @@ impl<Rd: Read + Drop, Wr: Write + Drop> Conversation<Rd, Wr> {
 }
 
 impl<C: Observer, Rd: Read + Drop, Wr: Write + Drop> Worker<C> for Conversation<Rd, Wr> {
-    ghost use Rattle.swim_shell.specs.Views.{view_of};
     ghost use Rattle.swim_shell.specs.Control.{Converses, ConversedBy};
 
     type End = ControlEnd;
 
-    ghost worked = { λ a p b q n. Converses C.limit (view_of Rd.remaining Wr.contents a) p
-        (view_of Rd.remaining Wr.contents b) q n };
+    ghost worked = { λ a p b q n. Converses C.limit a p b q n };
 
-    ghost ended = { λ end a p b q n. ConversedBy end C.limit
-        (view_of Rd.remaining Wr.contents a) p (view_of Rd.remaining Wr.contents b) q n };
+    ghost ended = { λ end a p b q n. ConversedBy end C.limit a p b q n };
 
     #[tactic(auto, using(crate::proofs::Talking::converses_start))]
     fn begin(&mut self) {

@@ -1,13 +1,15 @@
 //! When a joiner does what.
 
-ghost use Rattle.std.specs.Prelude.{◌≡◌, ◌-◌, nat_le};
+ghost use Rattle.std.specs.Prelude.{◌≡◌, ◌-◌, ◌≤◌, ◌==◌, nat_le, None, Some, if◌then◌else◌};
 ghost use Rattle.std.specs.Duration.{as_nanos};
 ghost use Rattle.std.specs.Option.{option_map};
 ghost use Rattle.std.specs.Time.{instant_nanos};
-ghost use Rattle.swim_shell.specs.Joins.{rest_after};
+ghost use Rattle.swim_member.specs.Checks.{AreSound};
+ghost use Rattle.swim_shell.specs.Joins.{lasting, rest_after};
 ghost use Rattle.swim_shell.specs.Moments.{has_passed};
 
 use std::time::{Duration, Instant};
+use swim_member::Settings;
 
 /// How many protocol periods a member that has been alone for long waits before it joins the next peer.
 const ALONE_PERIODS: u32 = 3;
@@ -29,7 +31,40 @@ pub struct Paces {
     pub forget: Duration,
 }
 
+/// How long so many ticks last.
+fn lasting(ticks: u64, tick_ms: u64) -> Duration
+    requires ticks { ticks ≤ 1000000 }
+    requires tick { tick_ms ≤ 60000 }
+    ensures { as_nanos result ≡ lasting ticks tick_ms }
+{
+    Duration::from_millis(ticks * tick_ms)
+}
+
 impl Paces {
+    /// Those of a member with these settings, which joins a drawn one after each `rejoin` ticks, or never if it is 0. A tick lasts so
+    /// many milliseconds. An answer is there before others are asked to probe.
+    pub fn of(settings: &Settings, rejoin: u64, tick_ms: u64) -> Paces
+        requires sound { AreSound settings.now }
+        requires rejoin { rejoin ≤ 1000000 }
+        requires tick { tick_ms ≤ 60000 }
+        ensures answer { as_nanos result.answer ≡ lasting settings.now.direct tick_ms }
+        ensures period { as_nanos result.period ≡ lasting settings.now.period tick_ms }
+        ensures rejoin { option_map as_nanos result.rejoin
+            ≡ (if rejoin == 0 then None else Some (lasting rejoin tick_ms)) }
+        ensures forget { as_nanos result.forget ≡ lasting settings.now.forget tick_ms }
+    {
+        Paces {
+            answer: lasting(settings.direct, tick_ms),
+            period: lasting(settings.period, tick_ms),
+            rejoin: if rejoin == 0 {
+                None
+            } else {
+                Some(lasting(rejoin, tick_ms))
+            },
+            forget: lasting(settings.forget, tick_ms),
+        }
+    }
+
     /// How long after its last join a member joins the next peer of its list, after so many joins; none if it does not. At
     /// first each peer is joined once: soon, while nobody has answered, and else after the time in which the pages of rows
     /// come, since a join ends the paging of the one before. Then only a lone member joins them again.

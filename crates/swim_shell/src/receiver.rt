@@ -1,13 +1,14 @@
 //! The worker that receives.
 
 ghost use Rattle.std.specs.Prelude.{◌≡◌, None};
-ghost use Rattle.swim_shell.specs.Inbounds.{receiver_view, Takes, kept_after};
+ghost use Rattle.swim_shell.specs.Inbounds.{Takes, kept_after, receiver_of};
 
 use crate::arrival::Arrival;
 use crate::caller::{Caller, Refusal};
 use crate::inbound::Inbound;
 use crate::worker::{Worker, WorkerEnd};
 use arrayvec::ArrayVec;
+use std::marker::Model;
 
 /// A receiver ends after so many failed receives in a row.
 pub const FAILURES_MAX: u8 = 16;
@@ -23,6 +24,14 @@ pub struct Receiver<I: Inbound> {
     kept: Option<Arrival>,
 }
 
+impl<I: Inbound> Model for Receiver<I> {
+    ghost use Rattle.swim_shell.specs.Inbounds.{ReceiverView, receiver_of};
+
+    ghost Value = { ReceiverView };
+
+    ghost view = { λ r. receiver_of (I.came r.inbound) (I.failures r.inbound) r.failed r.kept };
+}
+
 /// What waits for the next era after a call for this was refused so.
 fn kept_after(why: Refusal, arrival: Arrival) -> Option<Arrival>
     ensures { result ≡ kept_after why arrival }
@@ -36,8 +45,7 @@ fn kept_after(why: Refusal, arrival: Arrival) -> Option<Arrival>
 impl<I: Inbound> Receiver<I> {
     /// A receiver of what comes.
     pub fn new(inbound: I) -> Receiver<I>
-        ensures inbound { result.inbound ≡ inbound }
-        ensures nothing { (result.failed ≡ 0) × (result.kept ≡ None) }
+        ensures { result ≡ receiver_of (I.came inbound) (I.failures inbound) 0 None }
     {
         Receiver {
             inbound,
@@ -50,10 +58,7 @@ impl<I: Inbound> Receiver<I> {
     #[tactic(auto, using(crate::proofs::Receiving::takes_answer))]
     fn receive(&mut self) -> Option<Arrival>
         requires { self.old.kept ≡ None }
-        ensures takes { Takes I.tells (receiver_view (I.came self.old.inbound)
-            (I.failures self.old.inbound) self.old.failed self.old.kept) (receiver_view
-            (I.came self.new.inbound) (I.failures self.new.inbound) self.new.failed
-            self.new.kept) result }
+        ensures takes { Takes I.tells self.old self.new result }
         ensures kept { self.new.kept ≡ None }
     {
         let mut bytes = ArrayVec::new();
@@ -76,10 +81,7 @@ impl<I: Inbound> Receiver<I> {
     /// What is entered next: what waits, or else what the inbound gives; none where nothing came.
     #[tactic(auto, using(crate::proofs::Receiving::takes_kept))]
     fn take(&mut self) -> Option<Arrival>
-        ensures takes { Takes I.tells (receiver_view (I.came self.old.inbound)
-            (I.failures self.old.inbound) self.old.failed self.old.kept) (receiver_view
-            (I.came self.new.inbound) (I.failures self.new.inbound) self.new.failed
-            self.new.kept) result }
+        ensures takes { Takes I.tells self.old self.new result }
         ensures kept { self.new.kept ≡ None }
     {
         match self.kept.take() {
@@ -91,17 +93,14 @@ impl<I: Inbound> Receiver<I> {
 
 impl<C: Caller, I: Inbound> Worker<C> for Receiver<I> {
     ghost use Rattle.swim_shell.specs.Work.{LastOf};
-    ghost use Rattle.swim_shell.specs.Inbounds.{receiver_view, Receiving, ReceivesLast};
+    ghost use Rattle.swim_shell.specs.Inbounds.{Receiving, ReceivesLast};
 
     type End = WorkerEnd;
 
-    ghost worked = { λ a p b q n. Receiving I.tells (receiver_view (I.came a.inbound)
-        (I.failures a.inbound) a.failed a.kept) p (receiver_view (I.came b.inbound)
-        (I.failures b.inbound) b.failed b.kept) q n };
+    ghost worked = { λ a p b q n. Receiving I.tells a p b q n };
 
     ghost ended = { λ end a p b q n. LastOf (Receiving I.tells) (ReceivesLast I.tells C.limit end)
-        (receiver_view (I.came a.inbound) (I.failures a.inbound) a.failed a.kept) p
-        (receiver_view (I.came b.inbound) (I.failures b.inbound) b.failed b.kept) q n };
+        a p b q n };
 
     #[tactic(auto, using(crate::proofs::Receiving::receiving_start))]
     fn begin(&mut self) {}

@@ -7,14 +7,31 @@ use crate::caller::{Caller, Refusal};
 use crate::worker::Worker;
 use rand::seq::SliceRandom;
 use rand_chacha::ChaCha20Rng;
+use std::marker::Model;
 use swim_member::{Deal, Event};
 use swim_wire::MEMBERS_MAX;
 
 /// Makes one call a turn, a Tick with the next deal of a generator.
 #[derive(Drop)]
 pub struct Ticker {
-    /// What gives the ticks their deals.
-    pub rng: ChaCha20Rng,
+    rng: ChaCha20Rng,
+}
+
+impl Model for Ticker {
+    ghost use Rattle.rand_chacha.specs.ChaCha.{ChaCha};
+
+    ghost Value = { ChaCha };
+
+    ghost view = { λ t. t.rng };
+}
+
+impl Ticker {
+    /// A ticker whose ticks get the deals of this generator.
+    pub fn new(rng: ChaCha20Rng) -> Ticker
+        ensures { result ≡ rng }
+    {
+        Ticker { rng }
+    }
 }
 
 /// The next deal of the generator: the numbers in order, shuffled by it.
@@ -32,14 +49,13 @@ fn draw_deal(rng: &mut ChaCha20Rng) -> Deal
 
 impl<C: Caller> Worker<C> for Ticker {
     ghost use Rattle.swim_shell.specs.Work.{LastOf};
-    ghost use Rattle.swim_shell.specs.Ticks.{Ticking, TicksInVain, answers};
+    ghost use Rattle.swim_shell.specs.Ticks.{Ticking, TicksInVain};
 
     type End = Refusal;
 
-    ghost worked = { λ a p b q n. Ticking (answers a.rng) p (answers b.rng) q n };
+    ghost worked = { λ a p b q n. Ticking a p b q n };
 
-    ghost ended = { λ why a p b q n. LastOf Ticking (TicksInVain C.limit why) (answers a.rng) p
-        (answers b.rng) q n };
+    ghost ended = { λ why a p b q n. LastOf Ticking (TicksInVain C.limit why) a p b q n };
 
     #[tactic(auto, using(crate::proofs::Ticking::ticking_start))]
     fn begin(&mut self) {}

@@ -1,5 +1,5 @@
 -- What a member starts with.
-use Rattle.std.specs.Prelude.{ℕ, ◌*◌, ◌==◌, not, List, [], ◌∷◌, ◌++◌, filter}
+use Rattle.std.specs.Prelude.{ℕ, ◌==◌, not, List, [], ◌∷◌, ◌++◌, filter}
 
 -- each of these once, at its first place
 abbrev pub once : List ℕ → List ℕ
@@ -13,7 +13,3 @@ others me peers = filter (λ peer. not (peer == me)) peers
 -- whom a member joins: the listed peers and then the stored ones, each once, without itself
 abbrev pub peers_to_join : ℕ → List ℕ → List ℕ → List ℕ
 peers_to_join me listed stored = once (others me (listed ++ stored))
-
--- how many nanoseconds so many ticks last, of so many milliseconds each
-abbrev pub lasting : ℕ → ℕ → ℕ
-lasting ticks tick_ms = ticks * tick_ms * 1000000

@@ -7,13 +7,11 @@ mod locked_file;
 mod named_file;
 mod opening;
 mod own_file;
-mod paces;
 mod watched_disk;
 
-pub use drawing::{generators, key_of};
+pub use drawing::key_of;
 pub use joining::peers_of;
 pub use locked_file::{LockedFile, open_locked, sync_folder};
 pub use opening::{FileNode, open};
 pub use own_file::OwnFile;
-pub use paces::paces_of;
 pub use watched_disk::{Watch, WatchedDisk};

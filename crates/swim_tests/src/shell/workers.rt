@@ -23,9 +23,7 @@ pub(super) const KEY: [u8; 32] = [
 #[test]
 fn three_ticks(rt: HostRuntime) -> Result<(), Fail> {
     let mut caller = Direct::<8>::new(rt.alloc())?;
-    let mut ticker = Ticker {
-        rng: ChaCha20Rng::from_seed(KEY),
-    };
+    let mut ticker = Ticker::new(ChaCha20Rng::from_seed(KEY));
     let end = run(&rt, &mut ticker, &mut caller, &mut Goes { left: 3 });
     same(&rt, end, None);
     same(&rt, caller.node().len(), 3);

@@ -4,9 +4,8 @@ ghost use Rattle.std.specs.Prelude.{◌≡◌, [], IfOk};
 
 use log::Log;
 use rollerblack::{
-    ArrayVec, Beat, ChaCha20Rng, Chores, Desk, Disk, Doors, Endpoint, Joiner, Logs, MemDisk, Node,
-    Outside, Owner, Paces, Receiver, SeedableRng, Settings, TcpDoors, Ticker, Waits,
-    bind_datagrams, init, run_member,
+    ArrayVec, Disk, DoorsAndChores, Endpoint, Joins, MemDisk, NoChores, Node, Outside, Owner,
+    Paces, Settings, Setup, TcpDoors, Waits, bind_datagrams, init, run_member,
 };
 use std::alloc::Global;
 use std::io::{Read, Write};
@@ -31,36 +30,6 @@ fn open<D: Disk + Drop>(alloc: Global, disk: D, settings: Settings) -> Result<No
     Node::open(alloc, disk, settings, LIMIT).map_err(|_| "a state file")
 }
 
-/// Control connections, beside which nothing is to be seen to.
-#[derive(Drop)]
-struct Connections<O> {
-    doors: O,
-}
-
-impl<O: Doors> Doors for Connections<O> {
-    type Reader = O::Reader;
-
-    type Writer = O::Writer;
-
-    fn next(&mut self) -> Option<(O::Reader, O::Writer)> {
-        self.doors.next()
-    }
-
-    fn wait(&mut self) {
-        self.doors.wait();
-    }
-}
-
-impl<O> Chores for Connections<O> {
-    fn see_to(&mut self) -> bool {
-        false
-    }
-
-    fn prepare_reload(&mut self) -> bool {
-        true
-    }
-}
-
 /// Runs a member until a control connection says `stop`. An error is what was refused. Its datagrams come in at the
 /// address `at`, by which the others have to know it: that of `settings.me`.
 fn run_over_udp<D, R, T>(
@@ -82,33 +51,25 @@ where
     let (inbound, link, datagrams) = bound.map_err(|_| "a socket")?;
     let (waits, connections) = Waits::new(rt, alloc).map_err(|_| "waits")?;
     let doors = TcpDoors::new(control, &waits, logged, tick).map_err(|_| "control")?;
-    let doors = Connections { doors };
+    let doors = DoorsAndChores::new(doors, NoChores);
     let node = open(alloc, disk, settings)?;
     let mut key = [0; 32];
     rt.fill_bytes(&mut key).map_err(|_| "a random key")?;
-    let rng = ChaCha20Rng::from_seed(key);
-    let mut draws = ChaCha20Rng::from_seed(key);
-    draws.set_stream(1);
-    let paces = Paces {
-        answer: tick.saturating_mul(3),
-        period: tick.saturating_mul(10),
-        rejoin: None,
-        forget: tick.saturating_mul(6000),
+    let setup = Setup {
+        settings,
+        number: node.first(),
+        tick,
+        joins: Joins {
+            peers: ArrayVec::new(),
+            paces: Paces::of(&settings, 0, TICK_MILLIS),
+        },
+        key,
+        expelled_ends: None,
     };
-    let peers = ArrayVec::new();
-    let joiner = Joiner::new(settings.me, settings.rules_of(), peers, paces, draws);
-    let desk = Desk::new(alloc, *logged, joiner, doors).map_err(|_| "memory")?;
-    let outside = Outside {
-        receiver: Receiver::new(inbound),
-        ticker: Ticker { rng },
-        beat: Beat::new(tick, settings.period.saturating_mul(2)),
-        link,
-        owed: 0,
-        desk,
-        logs: Logs::new(settings.me, node.first()),
-    };
+    let outside = Outside::new(alloc, *logged, setup, inbound, link, doors);
+    let outside = outside.map_err(|_| "memory")?;
     let alarms = [datagrams, connections];
-    let ended = run_member(logged, alloc, node, outside, &alarms, None);
+    let ended = run_member(logged, alloc, node, outside, &alarms);
     ended.how.map_err(|_| "a worker")?;
     Ok(())
 }

@@ -60,7 +60,7 @@ fn ended_by_control<'x, T: Threads + Wait + Clock + Sync>(
         sender,
         control,
     };
-    serve(rt, ending, crew).control.worker.at
+    serve(rt, ending, crew).crew.control.worker.at
 }
 
 /// When control ended in an era of its own.
