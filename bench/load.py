@@ -74,7 +74,7 @@ def member(sender, seconds, name, keys):
     if keys.pop("record", False):
         keys["record"] = PLACE.folder / f"{name}.recordings"
         keys["record"].mkdir()
-    running = Member(name, tick_ms=100, suspect=100_000, **keys).init().start()
+    running = Member(name, tick_ms=100, suspect=100_000, log="warn", **keys).init().start()
     found = loads_at(sender, running.me.port, seconds)
     running.kill()
     return found

@@ -27,7 +27,7 @@ def row(what, value, bar=""):
 
 def started(name, **keys):
     """A member that runs, with the default settings but for these."""
-    return Member(name, **{"tick_ms": 100, **keys}).init().start()
+    return Member(name, **{"tick_ms": 100, "log": "warn", **keys}).init().start()
 
 
 def answered(peer, member, seconds, window):

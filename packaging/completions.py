@@ -3,10 +3,10 @@
 import re
 from typing import NamedTuple
 
-from manual import help_of
+from manual import commands_in, help_of
 
 LINES = ("status", "members", "counters", "leave", "record", "reload", "stop")  # the control lines of one word
-FILES = ("FILE", "CONFIG", "PLAN")  # the values that are paths
+FILES = ("FILE", "CONFIG", "PLAN", "DIR")  # the values that are paths
 
 
 class Option(NamedTuple):
@@ -35,7 +35,7 @@ def option_of(spelled, about):
 def commands_of(program):
     """Every command but `help`, which takes their names."""
     found = []
-    for name, about in help_of(program).lists["Commands"]:
+    for name, about in commands_in(help_of(program)):
         if name == "help":
             continue
         lists = help_of(program, name).lists

@@ -41,6 +41,14 @@ def help_of(program, *words):
     return Help(first, usage, lists)
 
 
+HEADINGS = ("Run", "Look", "Explain", "Try", "Check")  # under which the program's help has its commands
+
+
+def commands_in(help):
+    """The pairs of all commands in the help of the program."""
+    return [pair for heading in HEADINGS for pair in help.lists[heading]]
+
+
 def spelled(text):
     """A text as roff takes it: dashes stay dashes, and no line begins with a request."""
     return re.sub(r"^([.'])", r"\\&\1", text.replace("\\", r"\e").replace("-", r"\-"))
@@ -75,7 +83,7 @@ def page_of(program, date, command):
 
 def pages_of_commands(program, date):
     """The page of each command but `help`, by its name."""
-    commands = [command for command, _ in help_of(program).lists["Commands"] if command != "help"]
+    commands = [command for command, _ in commands_in(help_of(program)) if command != "help"]
     return {f"swim-{command}": page_of(program, date, command) for command in commands}
 
 
@@ -85,10 +93,11 @@ def manual(program, date, documents):
     name, version = said(program, "--version").split()
     lines = [f'.TH {name.upper()} 1 {date} "{name} {version}"']
     lines += [".SH NAME", rf"{name} \- {spelled(whole.about)}", ".SH SYNOPSIS", f".B {spelled(whole.usage)}", ".SH COMMANDS"]
-    for command, about in whole.lists.pop("Commands"):
+    for command, about in commands_in(whole):
         lines.append(f".SS {command}")
         lines += [spelled(about)] if command == "help" else command_section(help_of(program, command))
     for heading, pairs in whole.lists.items():
-        lines += [f".SH {heading.upper()}", *tagged(pairs)]
+        if heading not in HEADINGS:
+            lines += [f".SH {heading.upper()}", *tagged(pairs)]
     lines += [".SH SEE ALSO", *tagged(documents)]
     return "\n".join(lines) + "\n"

@@ -77,7 +77,23 @@ def swim(*words, **more):
     return run_to_its_end([PLACE.program, *words], **more)
 
 
-# The second lines of docs/INCIDENTS.md, after the texts that have one.
+class Told(str):
+    """What the program says on standard error when it ends. On its second line it names the thing, which `tests/mistakes` looks at: what is
+    equal here may have such a line or not."""
+
+    def __eq__(self, said):
+        first, _, rest = str(said).partition("\n")
+        if rest.startswith("  "):
+            rest = rest.partition("\n")[2]
+        return str(self) in (str(said), f"{first}\n{rest}")
+
+    def __ne__(self, said):
+        return not self == said
+
+    __hash__ = str.__hash__
+
+
+# The last lines of docs/INCIDENTS.md, after the texts that have one.
 HINTS = (
     (
         r"init refused 1 NotEmpty|open refused (2 NotState|4 NoSlot)",
@@ -91,7 +107,7 @@ HINTS = (
     (r"settings refused .+", "SETTINGS.md says what each key takes; `swim run --show-settings FILE` tries a file and starts nothing"),
     (
         r"file refused",
-        'look whether the file is there, whether this user may use it, and whether another `swim run` has it; if a state file is lost, see "A lost state file" in OPERATIONS.md before any `swim init`',
+        'if a state file is lost, see "A lost state file" in OPERATIONS.md before any `swim init`',
     ),
     (
         r"socket refused",
@@ -137,7 +153,7 @@ DEVICE = (
 def refused(text, hint=None):
     """What the program says on standard error when it ends with this text, and with this hint where it is not the usual one."""
     hints = [hint] if hint else [usual for wanted, usual in HINTS if re.fullmatch(wanted, text)]
-    return "".join(f"swim: {said}\n" for said in (text, *hints))
+    return Told("".join(f"swim: {said}\n" for said in (text, *hints)))
 
 
 def why_no_namespace(*kinds):

@@ -1,4 +1,4 @@
-//! A member of a group, as a program: `swim init` makes its state file, `swim run` runs it, `swim ctl`,
+//! A member of a group, as a program: `swim up` makes its files and runs it, `swim init` makes its state file, `swim run` runs it, `swim ctl`,
 //! `swim members` and `swim watch` ask it, `swim web` shows it over HTTP, `swim show` says what a state file holds, `swim explain`
 //! what recordings tell of a member, `swim play` plays a script over a member in memory, or a recording, `swim check` looks at what
 //! the members of a group sent, and `swim simulate` plays whole groups.
@@ -15,14 +15,14 @@ use std::thread::Threads;
 use std::time::Clock;
 use std::{env, fs};
 use swim_ask::{
-    Answered, CountersJson, Paint, StatusJson, Watched, ask, await_end, read_counters, read_status,
-    show_members, watch_members,
+    Answered, CountersJson, Paint, StatusJson, Watched, ask, await_end, await_peer, read_counters,
+    read_status, show_members, watch_members,
 };
 use swim_check::{Stop, check};
 use swim_cli::{Subcommand, hold_standard, make, read_words};
-use swim_ending::Ending;
+use swim_ending::{Ending, Failure};
 use swim_explain::{ExplainFault, explain_file, in_order};
-use swim_input::{InputFault, SETTINGS_MAX, look_at};
+use swim_input::{InputFault, SETTINGS_MAX, look_at, open_file};
 use swim_log::{LogLevel, LogStream, Stamped};
 use swim_play::{play, play_recorded};
 use swim_replay::{RecordingFault, RecordingReason, after_first_line};
@@ -30,6 +30,7 @@ use swim_run::{run, shown_settings};
 use swim_script::ScriptFault;
 use swim_show::ShowFault;
 use swim_survey::{Asked, AskedFault};
+use swim_up::prepare;
 use swim_web::{Web, serve_web};
 use swim_words::read_endpoint;
 
@@ -37,28 +38,28 @@ use swim_words::read_endpoint;
 const REFUSED: u8 = 2;
 
 /// All of standard input, or this ending where there is no memory for it.
-fn read_input(rt: &HostRuntime, lacks: Ending) -> Result<Vec<u8>, Ending> {
+fn read_input(rt: &HostRuntime, lacks: Ending) -> Result<Vec<u8>, Failure> {
     match swim_input::read_input(rt) {
         Ok(input) => Ok(input),
-        Err(InputFault::Memory) => Err(lacks),
-        Err(fault) => Err(Ending::from(fault)),
+        Err(InputFault::Memory) => Err(Failure::from(lacks)),
+        Err(fault) => Err(Failure::of_input(rt.alloc(), "standard", "input", fault)),
     }
 }
 
 /// Prints bytes.
-fn print_bytes(rt: &HostRuntime, bytes: &[u8]) -> Result<(), Ending> {
+fn print_bytes(rt: &HostRuntime, bytes: &[u8]) -> Result<(), Failure> {
     io::writer(rt)
         .write_all(bytes)
-        .map_err(|error| Ending::of_output(&error))
+        .map_err(|error| Failure::of_output(rt.alloc(), &error))
 }
 
 /// Prints a line.
-fn print_line<D: Display + Drop>(rt: &HostRuntime, line: D) -> Result<(), Ending> {
-    println!(rt; "{line}").map_err(|error| Ending::of_output(&error))
+fn print_line<D: Display + Drop>(rt: &HostRuntime, line: D) -> Result<(), Failure> {
+    println!(rt; "{line}").map_err(|error| Failure::of_output(rt.alloc(), &error))
 }
 
 /// Plays a recording, and prints what happened. A refused one is named on standard error.
-fn play_era(rt: &HostRuntime, recording: &[u8]) -> Result<ExitCode, Ending> {
+fn play_era(rt: &HostRuntime, recording: &[u8]) -> Result<ExitCode, Failure> {
     match play_recorded(rt.alloc(), recording) {
         Ok(recorded) => {
             print_bytes(rt, recorded.text.as_bytes())?;
@@ -69,7 +70,7 @@ fn play_era(rt: &HostRuntime, recording: &[u8]) -> Result<ExitCode, Ending> {
                 reason: RecordingReason::NoMemory,
                 ..
             },
-        ) => Err(Ending::Memory),
+        ) => Err(Failure::from(Ending::Memory)),
         Err(fault) => {
             let _ = eprintln!(rt; "swim: recording refused {fault}");
             Ok(ExitCode::from(REFUSED))
@@ -78,18 +79,20 @@ fn play_era(rt: &HostRuntime, recording: &[u8]) -> Result<ExitCode, Ending> {
 }
 
 /// Plays the script or the recording on standard input, and prints its transcript.
-fn play_input(rt: &HostRuntime) -> Result<ExitCode, Ending> {
+fn play_input(rt: &HostRuntime) -> Result<ExitCode, Failure> {
     let input = read_input(rt, Ending::Script(ScriptFault::NO_MEMORY))?;
     if after_first_line(&input).is_some() {
         return play_era(rt, &input);
     }
-    let transcript = play(rt.alloc(), &input).map_err(Ending::Script)?;
+    let transcript = play(rt.alloc(), &input).map_err(|fault| Failure::from(Ending::Script(
+        fault,
+    )))?;
     print_bytes(rt, transcript.text.as_bytes())?;
     Ok(ExitCode::SUCCESS)
 }
 
 /// Says whether the capture on standard input keeps the law of the group, or which of its datagrams breaks it first.
-fn check_input(rt: &HostRuntime) -> Result<ExitCode, Ending> {
+fn check_input(rt: &HostRuntime) -> Result<ExitCode, Failure> {
     let capture = read_input(rt, Ending::Memory)?;
     match check(rt.alloc(), &capture) {
         Ok(count) => {
@@ -100,7 +103,7 @@ fn check_input(rt: &HostRuntime) -> Result<ExitCode, Ending> {
             print_line(rt, stop)?;
             Ok(ExitCode::FAILURE)
         }
-        Err(Stop::NoMemory) => Err(Ending::Memory),
+        Err(Stop::NoMemory) => Err(Failure::from(Ending::Memory)),
         Err(stop) => {
             let _ = eprintln!(rt; "swim: capture refused {stop}");
             Ok(ExitCode::from(REFUSED))
@@ -109,7 +112,7 @@ fn check_input(rt: &HostRuntime) -> Result<ExitCode, Ending> {
 }
 
 /// Prints the answer of a member, a status or counters as a JSON object.
-fn print_json(rt: &HostRuntime, answer: &[u8]) -> Result<(), Ending> {
+fn print_json(rt: &HostRuntime, answer: &[u8]) -> Result<(), Failure> {
     if let Some(status) = read_status(answer) {
         return print_line(rt, StatusJson(status));
     }
@@ -135,7 +138,7 @@ struct Question<'a> {
 }
 
 /// Prints an answer, as a JSON object where that is wanted.
-fn print_answer(rt: &HostRuntime, text: &[u8], as_json: bool) -> Result<(), Ending> {
+fn print_answer(rt: &HostRuntime, text: &[u8], as_json: bool) -> Result<(), Failure> {
     if as_json {
         print_json(rt, text)
     } else {
@@ -144,11 +147,24 @@ fn print_answer(rt: &HostRuntime, text: &[u8], as_json: bool) -> Result<(), Endi
 }
 
 /// Waits until a member has ended that has answered that it stops, if that is wanted.
-fn await_stop(rt: &HostRuntime, question: &Question<'_>, answer: &Answered) -> Result<(), Ending> {
+fn await_stop(rt: &HostRuntime, question: &Question<'_>, answer: &Answered) -> Result<(), Failure> {
     if question.line == STOP && !question.at_once {
         return await_end(rt, answer.at);
     }
     Ok(())
+}
+
+/// The control lines that there are.
+const LINES: &str = "status, members, members A, counters, join A, leave, record, reload, stop";
+
+/// What a member answers to a line that it does not know.
+const UNKNOWN: &[u8] = b"error 1 ";
+
+/// Says which control lines there are, where an answer says that there is no such line.
+fn help_out(rt: &HostRuntime, answer: &[u8]) {
+    if answer.starts_with(UNKNOWN) {
+        let _ = eprintln!(rt; "  the lines are {LINES}");
+    }
 }
 
 /// Asks a member, and prints its answer. Where that is to `stop`, the member has ended then, if that is wanted. The exit status says
@@ -157,11 +173,12 @@ fn ask_member<T: Threads>(
     rt: &HostRuntime,
     threads: &T,
     question: &Question<'_>,
-) -> Result<ExitCode, Ending> {
+) -> Result<ExitCode, Failure> {
     let answer = ask(rt, threads, question.to, question.line)?;
     let printed = print_answer(rt, answer.text.as_slice(), question.as_json);
     if !answer.text.as_slice().starts_with(b"ok") {
         printed?;
+        help_out(rt, answer.text.as_slice());
         return Ok(ExitCode::FAILURE);
     }
     await_stop(rt, question, &answer)?;
@@ -169,13 +186,62 @@ fn ask_member<T: Threads>(
     Ok(ExitCode::SUCCESS)
 }
 
+/// The ending where a state file is not shown. Why it is not read is asked once more.
+fn unshown(rt: &HostRuntime, path: &str, fault: ShowFault) -> Failure {
+    let ending = match (fault, open_file(rt, path)) {
+        (ShowFault::Memory, _) => return Failure::from(Ending::Memory),
+        (_, Err(fault)) => return Failure::of_input(rt.alloc(), "state file", path, fault),
+        (ShowFault::NotFile, _) => Ending::NotFile,
+        (ShowFault::File, _) => Ending::File,
+    };
+    Failure::about(rt.alloc(), ending, format_args!("state file {path}"))
+}
+
+/// The control socket of a member that no word names.
+const CONTROL: &str = "127.0.0.1:7001";
+
+/// The environment variable that names another one.
+const CONTROL_VARIABLE: &str = "SWIM_CONTROL";
+
+/// The control socket of a member that no word names: the environment's, or else the usual one. It is not yet judged.
+fn usual_control(rt: &HostRuntime) -> Result<String, Failure> {
+    if let Ok(named) = env::var(rt, CONTROL_VARIABLE) {
+        return Ok(named);
+    }
+    String::from_str(rt.alloc(), CONTROL).map_err(|_| Failure::from(Ending::Memory))
+}
+
+/// Has a member join another one, and says whether that is known to it as alive within seconds.
+fn join_peer<T: Threads>(
+    rt: &HostRuntime,
+    threads: &T,
+    to: &str,
+    peer: &str,
+) -> Result<ExitCode, Failure> {
+    let Some(who) = read_endpoint(peer.as_bytes()) else {
+        return Err(Failure::of_address(rt.alloc(), "A", peer));
+    };
+    let made = format!(in rt.alloc(); "join {who}");
+    let line = made.map_err(|_| Failure::from(Ending::Memory))?;
+    let answer = ask(rt, threads, to, line.as_str())?;
+    print_bytes(rt, answer.text.as_slice())?;
+    if answer.text.as_slice() != SENT {
+        return Ok(ExitCode::FAILURE);
+    }
+    let row = await_peer(rt, answer.at, who)?;
+    print_line(rt, format_args!("{who} is alive, number {}", row.number))?;
+    Ok(ExitCode::SUCCESS)
+}
+
+/// What a member answers that has sent a join.
+const SENT: &[u8] = b"ok sent\n";
+
 /// Prints what a state file says. The status says whether an opening would begin a life.
-fn show_file(rt: &HostRuntime, path: &str, as_json: bool) -> Result<ExitCode, Ending> {
-    let shown = swim_show::answer(rt, path, as_json).map_err(|fault| match fault {
-        ShowFault::Memory => Ending::Memory,
-        ShowFault::File => Ending::File,
-        ShowFault::NotFile => Ending::NotFile,
-    })?;
+fn show_file(rt: &HostRuntime, path: &str, as_json: bool) -> Result<ExitCode, Failure> {
+    let shown = match swim_show::answer(rt, path, as_json) {
+        Ok(shown) => shown,
+        Err(fault) => return Err(unshown(rt, path, fault)),
+    };
     print_bytes(rt, shown.text.as_bytes())?;
     Ok(if shown.is_sound {
         ExitCode::SUCCESS
@@ -191,10 +257,12 @@ fn explain_files(
     member: &str,
     files: &[String],
     as_json: bool,
-) -> Result<ExitCode, Ending> {
-    let who = read_endpoint(member.as_bytes()).ok_or(Ending::Address)?;
+) -> Result<ExitCode, Failure> {
+    let Some(who) = read_endpoint(member.as_bytes()) else {
+        return Err(Failure::of_address(rt.alloc(), "--member", member));
+    };
     let mut status = ExitCode::SUCCESS;
-    for file in &in_order(rt, files).map_err(|_| Ending::Memory)? {
+    for file in &in_order(rt, files).map_err(|_| Failure::from(Ending::Memory))? {
         match explain_file(rt, file, who, as_json) {
             Ok(story) => {
                 if !as_json {
@@ -202,7 +270,7 @@ fn explain_files(
                 }
                 print_bytes(rt, story.as_bytes())?;
             }
-            Err(ExplainFault::Memory) => return Err(Ending::Memory),
+            Err(ExplainFault::Memory) => return Err(Failure::from(Ending::Memory)),
             Err(fault) => {
                 let _ = eprintln!(rt; "swim: {file}: {fault}");
                 status = ExitCode::FAILURE;
@@ -218,15 +286,15 @@ fn paint(rt: &HostRuntime) -> Paint {
 }
 
 /// Refuses a plan that is no file, or too long. Other faults are told where it is read.
-fn refuse_endless(rt: &HostRuntime, plan: &str) -> Result<(), Ending> {
+fn refuse_endless(rt: &HostRuntime, plan: &str) -> Result<(), Failure> {
     match look_at(rt, plan, SETTINGS_MAX) {
         Ok(()) | Err(InputFault::System(_)) => Ok(()),
-        Err(fault) => Err(Ending::from(fault)),
+        Err(fault) => Err(Failure::of_input(rt.alloc(), "plan", plan, fault)),
     }
 }
 
 /// Simulates a group, and prints what was measured. A refused plan or sweep is named on standard error.
-fn simulate_group(rt: &HostRuntime, asked: &Asked<'_>) -> Result<ExitCode, Ending> {
+fn simulate_group(rt: &HostRuntime, asked: &Asked<'_>) -> Result<ExitCode, Failure> {
     if let Some(plan) = asked.plan {
         refuse_endless(rt, plan)?;
     }
@@ -251,7 +319,7 @@ fn simulate_group(rt: &HostRuntime, asked: &Asked<'_>) -> Result<ExitCode, Endin
 }
 
 /// Prints the settings of a file as they will be used.
-fn show_settings(rt: &HostRuntime, config: &str) -> Result<(), Ending> {
+fn show_settings(rt: &HostRuntime, config: &str) -> Result<(), Failure> {
     let text = shown_settings(rt, config)?;
     print_bytes(rt, text.as_bytes())
 }
@@ -262,7 +330,8 @@ fn answer<T: Threads + Wait + Log + Clock + Send + Sync + Copy + Drop>(
     logged: &T,
     level: &LogLevel,
     asked: Subcommand<'_>,
-) -> Result<ExitCode, Ending> {
+) -> Result<ExitCode, Failure> {
+    let usual = usual_control(rt)?;
     match asked {
         Subcommand::Init {
             file,
@@ -271,6 +340,11 @@ fn answer<T: Threads + Wait + Log + Clock + Send + Sync + Copy + Drop>(
             ceiling,
         } => {
             make(rt, file, group, me, ceiling)?;
+            Ok(ExitCode::SUCCESS)
+        }
+        Subcommand::Up(words) => {
+            let config = prepare(rt, &words, usual.as_str())?;
+            run(rt, logged, level, config.as_str())?;
             Ok(ExitCode::SUCCESS)
         }
         Subcommand::Run { config, shows } => {
@@ -282,20 +356,50 @@ fn answer<T: Threads + Wait + Log + Clock + Send + Sync + Copy + Drop>(
             Ok(ExitCode::SUCCESS)
         }
         Subcommand::Ctl {
-            to,
-            line,
+            words,
             as_json,
             at_once,
         } => {
             let question = Question {
-                to,
-                line,
+                to: words.to.unwrap_or(usual.as_str()),
+                line: words.line.as_str(),
                 as_json,
                 at_once,
             };
             ask_member(rt, logged, &question)
         }
+        Subcommand::Status { to, as_json } => {
+            let question = Question {
+                to: to.unwrap_or(usual.as_str()),
+                line: "status",
+                as_json,
+                at_once: false,
+            };
+            ask_member(rt, logged, &question)
+        }
+        Subcommand::Join { peer, to } => {
+            join_peer(rt, logged, to.unwrap_or(usual.as_str()), peer)
+        }
+        Subcommand::Leave { to } => {
+            let question = Question {
+                to: to.unwrap_or(usual.as_str()),
+                line: "leave",
+                as_json: false,
+                at_once: false,
+            };
+            ask_member(rt, logged, &question)
+        }
+        Subcommand::Stop { to, at_once } => {
+            let question = Question {
+                to: to.unwrap_or(usual.as_str()),
+                line: STOP,
+                as_json: false,
+                at_once,
+            };
+            ask_member(rt, logged, &question)
+        }
         Subcommand::Members { to, as_json } => {
+            let to = to.unwrap_or(usual.as_str());
             show_members(rt, logged, to, as_json, paint(rt))?;
             Ok(ExitCode::SUCCESS)
         }
@@ -306,7 +410,7 @@ fn answer<T: Threads + Wait + Log + Clock + Send + Sync + Copy + Drop>(
             once,
         } => {
             let watched = Watched {
-                to,
+                to: to.unwrap_or(usual.as_str()),
                 as_json,
                 every,
                 once,
@@ -316,6 +420,7 @@ fn answer<T: Threads + Wait + Log + Clock + Send + Sync + Copy + Drop>(
             Ok(ExitCode::SUCCESS)
         }
         Subcommand::Web { of, listen } => {
+            let of = of.unwrap_or(usual.as_str());
             serve_web(rt, logged, &Web { of, listen })?;
             Ok(ExitCode::SUCCESS)
         }
@@ -348,13 +453,17 @@ fn answer<T: Threads + Wait + Log + Clock + Send + Sync + Copy + Drop>(
     }
 }
 
-/// Prints why the program ends, if that is said, with a hint where there is one, and gives the status. It is the same where standard
-/// error cannot be written.
-fn end(rt: &HostRuntime, ending: &Ending) -> ExitCode {
+/// Prints why the program ends, if that is said: on the first line why, on the second what that is about, if it is known, and then a
+/// hint where there is one. The status is the same where standard error cannot be written.
+fn end(rt: &HostRuntime, failure: &Failure) -> ExitCode {
+    let ending = failure.ending();
     if ending.is_silent() {
         return ending.status();
     }
     let _ = eprintln!(rt; "swim: {ending}");
+    if let Some(thing) = failure.thing() {
+        let _ = eprintln!(rt; "  {thing}");
+    }
     if let Some(hint) = ending.hint() {
         let _ = eprintln!(rt; "swim: {hint}");
     }
@@ -364,7 +473,7 @@ fn end(rt: &HostRuntime, ending: &Ending) -> ExitCode {
 /// Prints help, the version, or what is wrong with the words.
 fn explain(rt: &HostRuntime, error: &Error) -> ExitCode {
     if error.kind() == ErrorKind::OutOfMemory {
-        return end(rt, &Ending::Memory);
+        return end(rt, &Failure::from(Ending::Memory));
     }
     let printed = error.print(rt);
     if error.use_stderr() {
@@ -372,7 +481,7 @@ fn explain(rt: &HostRuntime, error: &Error) -> ExitCode {
     }
     match printed {
         Ok(()) => ExitCode::SUCCESS,
-        Err(error) => end(rt, &Ending::of_output(&error)),
+        Err(error) => end(rt, &Failure::of_output(rt.alloc(), &error)),
     }
 }
 
@@ -381,14 +490,14 @@ fn words(rt: &HostRuntime) -> Result<Vec<String>, ExitCode> {
     let found = match env::args(rt) {
         Ok(words) => words.collect(rt.alloc()),
         Err(error) if error.kind() == io::ErrorKind::OutOfMemory => {
-            return Err(end(rt, &Ending::Memory));
+            return Err(end(rt, &Failure::from(Ending::Memory)));
         }
         Err(_) => {
             let _ = eprintln!(rt; "error: a word is not UTF-8");
             return Err(ExitCode::from(REFUSED));
         }
     };
-    found.map_err(|_| end(rt, &Ending::Memory))
+    found.map_err(|_| end(rt, &Failure::from(Ending::Memory)))
 }
 
 fn main(rt: HostRuntime) -> ExitCode {
@@ -403,9 +512,12 @@ fn main(rt: HostRuntime) -> ExitCode {
     match read_words(rt.alloc(), words.as_slice()) {
         Ok(Some(asked)) => match answer(&rt, &logged, &level, asked) {
             Ok(status) => status,
-            Err(ending) => end(&rt, &ending),
+            Err(failure) => end(&rt, &failure),
         },
-        Ok(None) => ExitCode::from(REFUSED),
+        Ok(None) => {
+            let _ = eprintln!(rt; "error: no control line is named\n  the lines are {LINES}");
+            ExitCode::from(REFUSED)
+        }
         Err(error) => explain(&rt, &error),
     }
 }

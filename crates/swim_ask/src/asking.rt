@@ -5,12 +5,13 @@ ghost use Rattle.swim_words.specs.Words.{Lacks};
 ghost use Rattle.swim_ask.specs.Whole.{AsksLines, Follow, IsWhole, ends};
 
 use crate::place::find_from;
+use std::alloc::Global;
 use std::io::{self, ErrorKind, Read, Write};
 use std::net::{Net, TcpStream};
 use std::rt::Clock;
 use std::thread::Threads;
 use std::time::{Duration, Instant};
-use swim_ending::Ending;
+use swim_ending::{Ending, Failure};
 use swim_net::address_of;
 use swim_wire::Endpoint;
 use swim_words::{read_number, split_at_byte};
@@ -122,9 +123,21 @@ fn talk<R: Net<Stream = TcpStream> + Clock + AllocGlobal>(
     Ok(answer)
 }
 
+/// The ending where the control socket of a member does not answer.
+fn unanswered(alloc: Global, to: Endpoint, error: &io::Error) -> Failure {
+    let ending = Ending::of(error, Ending::Socket);
+    Failure::about(alloc, ending, format_args!("TCP {to} (control): {error}"))
+}
+
 /// Now, from which on a time limit is counted. An error says that there is no memory, or that the clock fails.
-pub(crate) fn now<R: Clock>(rt: &R) -> Result<Instant, Ending> {
-    Instant::now(rt).map_err(|error| Ending::of(&error, Ending::Socket))
+pub(crate) fn now<R: Clock + AllocGlobal>(rt: &R) -> Result<Instant, Failure> {
+    match Instant::now(rt) {
+        Ok(now) => Ok(now),
+        Err(error) => {
+            let ending = Ending::of(&error, Ending::Socket);
+            Err(Failure::about(rt.alloc(), ending, format_args!("clock: {error}")))
+        }
+    }
 }
 
 /// The whole answer to a control line. It takes at most 5 seconds. An error says that there was no memory, or that the member did
@@ -133,10 +146,13 @@ pub(crate) fn exchange<R: Net<Stream = TcpStream> + Clock + AllocGlobal>(
     rt: &R,
     to: Endpoint,
     line: &str,
-) -> Result<Vec<u8>, Ending>
+) -> Result<Vec<u8>, Failure>
     ensures { IfOk result (λ answer. IsWhole line.now answer.items) }
 {
-    talk(rt, &now(rt)?, to, line).map_err(|error| Ending::of(&error, Ending::Socket))
+    match talk(rt, &now(rt)?, to, line) {
+        Ok(answer) => Ok(answer),
+        Err(error) => Err(unanswered(rt.alloc(), to, &error)),
+    }
 }
 
 /// What a member answered, and where.
@@ -155,13 +171,13 @@ pub fn ask<T: Threads>(
     threads: &T,
     to: &str,
     line: &str,
-) -> Result<Answered, Ending>
+) -> Result<Answered, Failure>
     ensures { IfOk result (λ answered. IsWhole line.now answered.text.items) }
 {
     let start = now(rt)?;
     let at = find_from(rt, threads, to, &start)?;
     match talk(rt, &start, at, line) {
         Ok(text) => Ok(Answered { at, text }),
-        Err(error) => Err(Ending::of(&error, Ending::Socket)),
+        Err(error) => Err(unanswered(rt.alloc(), at, &error)),
     }
 }

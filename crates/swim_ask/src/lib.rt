@@ -4,6 +4,7 @@
 mod asking;
 mod counters;
 mod gap;
+mod joining;
 mod looking;
 mod lookup;
 mod output;
@@ -17,6 +18,7 @@ mod watching;
 
 pub use asking::{Answered, ask};
 pub use counters::{CountersJson, read_counters};
+pub use joining::await_peer;
 pub use looking::{Shown, look};
 pub use paint::Paint;
 pub use place::{find, judge};

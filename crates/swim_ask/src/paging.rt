@@ -8,10 +8,12 @@ ghost use Rattle.swim_ask.specs.Answers.{AddsAnswer, AddsRows, FitsAfter, HasAft
 
 use crate::asking::exchange;
 use arrayvec::ArrayString;
+use std::alloc::Global;
 use std::fmt::Write as _;
 use std::net::{Net, TcpStream};
 use std::rt::Clock;
-use swim_ending::Ending;
+use std::str;
+use swim_ending::{Ending, Failure};
 use swim_news::{PAGES_MAX, Rows};
 use swim_wire::{Endpoint, MEMBERS_MAX, UPDATES_MAX, Update, UpdateKind};
 use swim_words::{read_endpoint, read_number, split_at_byte};
@@ -117,20 +119,32 @@ fn next_line(rows: &Rows) -> ArrayString<LINE_MAX> {
     line
 }
 
+/// The ending where an answer is no page of rows, with its first line.
+fn unread(alloc: Global, to: Endpoint, answer: &[u8], ending: Ending) -> Failure {
+    let first = answer.split(|byte| *byte == b'\n').next().unwrap_or(b"");
+    let said = str::from_utf8(first).unwrap_or("");
+    Failure::about(
+        alloc,
+        ending,
+        format_args!("TCP {to} (control) answered {said:?}"),
+    )
+}
+
 /// All rows of a member, by as many control lines as there are pages. None if its era is full, so that it has to be asked
 /// again. What changes meanwhile may be in the rows or not.
 pub(crate) fn read_rows<R: Net<Stream = TcpStream> + Clock + AllocGlobal>(
     rt: &R,
     to: Endpoint,
-) -> Result<Option<Rows>, Ending> {
+) -> Result<Option<Rows>, Failure> {
     let mut rows = Rows::new();
     for _ in 0..PAGES_MAX {
         let line = next_line(&rows);
         let answer = exchange(rt, to, line.as_str())?;
-        match take_answer(&mut rows, answer.as_slice())? {
-            Page::Full => {}
-            Page::Last => break,
-            Page::EraFull => return Ok(None),
+        match take_answer(&mut rows, answer.as_slice()) {
+            Ok(Page::Full) => {}
+            Ok(Page::Last) => break,
+            Ok(Page::EraFull) => return Ok(None),
+            Err(ending) => return Err(unread(rt.alloc(), to, answer.as_slice(), ending)),
         }
     }
     Ok(Some(rows))

@@ -2,49 +2,66 @@
 
 use crate::asking::LIMIT_MILLIS;
 use crate::lookup::Lookup;
+use std::alloc::Global;
 use std::net::Net;
 use std::thread::Threads;
 use std::time::Instant;
 use std::{io, str};
-use swim_ending::Ending;
+use swim_ending::{Ending, Failure};
 use swim_net::first_address;
 use swim_wire::Endpoint;
 use swim_words::{read_endpoint, read_host};
 
+/// What the word is called that names a control socket.
+const ADDRESS: &str = "ADDR";
+
 /// Refuses a word that names no control socket: it is neither an endpoint nor a host name and a port.
-pub fn judge(word: &str) -> Result<(), Ending> {
+pub fn judge(alloc: Global, word: &str) -> Result<(), Failure> {
     let bytes = word.as_bytes();
     if read_endpoint(bytes).is_some() || read_host(bytes).is_some() {
         Ok(())
     } else {
-        Err(Ending::Address)
+        Err(Failure::of_address(alloc, ADDRESS, word))
     }
 }
 
-/// The address that was looked up of a host. An error is that there is none, or no memory.
-fn taken(found: io::Result<Option<Endpoint>>) -> Result<Endpoint, Ending> {
+/// The ending where a host has no address.
+fn unknown(alloc: Global, word: &str) -> Failure {
+    Failure::about(alloc, Ending::Host, format_args!("{ADDRESS} {word:?}"))
+}
+
+/// The address that was looked up of the host that a word names. An error is that there is none, or no memory.
+fn taken(
+    alloc: Global,
+    word: &str,
+    found: io::Result<Option<Endpoint>>,
+) -> Result<Endpoint, Failure> {
     match found {
         Ok(Some(endpoint)) => Ok(endpoint),
-        Ok(None) => Err(Ending::Host),
-        Err(error) => Err(Ending::of(&error, Ending::Host)),
+        Ok(None) => Err(unknown(alloc, word)),
+        Err(error) => {
+            let ending = Ending::of(&error, Ending::Host);
+            Err(Failure::about(alloc, ending, format_args!("{ADDRESS} {word:?}: {error}")))
+        }
     }
 }
 
 /// The host and the port that a word names, which is no endpoint.
-fn host_in(word: &str) -> Result<(&str, u16), Ending> {
-    let (host, port) = read_host(word.as_bytes()).ok_or(Ending::Address)?;
-    let host = str::from_utf8(host).map_err(|_| Ending::Address)?;
-    Ok((host, port))
+fn host_in(word: &str) -> Option<(&str, u16)> {
+    let (host, port) = read_host(word.as_bytes())?;
+    Some((str::from_utf8(host).ok()?, port))
 }
 
 /// The control socket that a word names now: an endpoint as it stands, or else a port of a host, which is looked up each time. An error
 /// says that the word is neither, that no such host was found, or that there was no memory. A lookup may take long.
-pub fn find<R: Net>(rt: &R, word: &str) -> Result<Endpoint, Ending> {
+pub fn find<R: Net + AllocGlobal>(rt: &R, word: &str) -> Result<Endpoint, Failure> {
     if let Some(endpoint) = read_endpoint(word.as_bytes()) {
         return Ok(endpoint);
     }
-    let (host, port) = host_in(word)?;
-    taken(first_address(rt, host, port))
+    let Some((host, port)) = host_in(word) else {
+        return Err(Failure::of_address(rt.alloc(), ADDRESS, word));
+    };
+    taken(rt.alloc(), word, first_address(rt, host, port))
 }
 
 /// The same, where a lookup that takes more than 5 seconds from that start on is given up: then no such host was found. Where there is
@@ -54,14 +71,19 @@ pub(crate) fn find_from<T: Threads>(
     threads: &T,
     word: &str,
     start: &Instant,
-) -> Result<Endpoint, Ending> {
+) -> Result<Endpoint, Failure> {
     if let Some(endpoint) = read_endpoint(word.as_bytes()) {
         return Ok(endpoint);
     }
-    let (host, port) = host_in(word)?;
-    let Some(lookup) = Lookup::start(threads, *rt, host, port) else {
-        return taken(first_address(rt, host, port));
+    let alloc = rt.alloc();
+    let Some((host, port)) = host_in(word) else {
+        return Err(Failure::of_address(alloc, ADDRESS, word));
     };
-    let found = lookup.found_within(threads, rt, start, LIMIT_MILLIS);
-    taken(found.ok_or(Ending::Host)?)
+    let Some(lookup) = Lookup::start(threads, *rt, host, port) else {
+        return taken(alloc, word, first_address(rt, host, port));
+    };
+    match lookup.found_within(threads, rt, start, LIMIT_MILLIS) {
+        Some(found) => taken(alloc, word, found),
+        None => Err(unknown(alloc, word)),
+    }
 }

@@ -3,13 +3,13 @@
 ghost use Rattle.std.specs.Prelude.{◌≡◌, ◌⊎◌, ◌↔◌, IsTrue};
 ghost use Rattle.std.specs.declared.io.ErrorKind.TheVariants as kinds;
 
-use crate::asking::left_of;
+use crate::asking::{left_of, now};
 use std::io::{self, ErrorKind, Read};
 use std::net::{Net, TcpStream};
 use std::rt::Clock;
 use std::thread;
 use std::time::{Duration, Instant};
-use swim_ending::Ending;
+use swim_ending::{Ending, Failure};
 use swim_net::address_of;
 use swim_wire::Endpoint;
 
@@ -49,18 +49,21 @@ fn wait_on_connection<R: Net<Stream = TcpStream> + Clock>(
 
 /// Waits until a member has ended that was told to stop: it closes its control socket last, once its state file is free and all of its
 /// eras are recorded. An error says that this took more than a minute.
-pub fn await_end<R: Net<Stream = TcpStream> + Clock>(rt: &R, at: Endpoint) -> Result<(), Ending> {
-    let refused = |error: io::Error| Ending::of(&error, Ending::Socket);
-    let start = Instant::now(rt).map_err(refused)?;
+pub fn await_end<R: Net<Stream = TcpStream> + Clock + AllocGlobal>(
+    rt: &R,
+    at: Endpoint,
+) -> Result<(), Failure> {
+    let start = now(rt)?;
     for _ in 0..LOOKS_MAX {
         match wait_on_connection(rt, &start, at) {
             Err(error) if is_gone(error.kind()) => return Ok(()),
             _ => {}
         }
         if left_of(rt, &start, END_MILLIS).is_err() {
-            return Err(Ending::NotEnded);
+            break;
         }
         thread::sleep(rt, Duration::from_millis(PAUSE_MILLIS));
     }
-    Err(Ending::NotEnded)
+    let open = format_args!("TCP {at} (control): it is still open");
+    Err(Failure::about(rt.alloc(), Ending::NotEnded, open))
 }

@@ -14,7 +14,7 @@ use std::rt::Clock;
 use std::sync::{Wait, WaitMethods};
 use std::thread::{self, Threads};
 use std::time::Duration;
-use swim_ending::Ending;
+use swim_ending::{Ending, Failure};
 use swim_news::{Change, ChangeJson, Changes, RowJson, Rows, compare};
 use swim_wire::Update;
 
@@ -27,22 +27,25 @@ const AGAIN_MAX: u32 = 50;
 const ENDPOINT_WIDTH: usize = 21;
 
 /// Prints a line at once.
-fn print_line<P: Print, D: Display>(rt: &P, line: &D) -> Result<(), Ending> {
-    println!(rt; "{line}").map_err(|error| Ending::of_output(&error))
+fn print_line<P: Print + AllocGlobal, D: Display>(rt: &P, line: &D) -> Result<(), Failure> {
+    println!(rt; "{line}").map_err(|error| Failure::of_output(rt.alloc(), &error))
 }
 
 /// Prints a row of the table.
-fn print_row<P: Print>(rt: &P, row: &Update, paint: Paint) -> Result<(), Ending> {
+fn print_row<P: Print + AllocGlobal>(rt: &P, row: &Update, paint: Paint) -> Result<(), Failure> {
     let mut text = ArrayString::<ENDPOINT_WIDTH>::new();
     let _ = write!(text, "{}", row.who);
     let who = text.as_str();
     let kind = PaintedKind(paint, row.kind);
     let number = row.number;
-    println!(rt; "{who:<21} {kind} {number}").map_err(|error| Ending::of_output(&error))
+    println!(rt; "{who:<21} {kind} {number}").map_err(|error| Failure::of_output(
+        rt.alloc(),
+        &error,
+    ))
 }
 
 /// Prints rows as JSON, a line each.
-fn print_objects<P: Print>(rt: &P, rows: &Rows) -> Result<(), Ending> {
+fn print_objects<P: Print + AllocGlobal>(rt: &P, rows: &Rows) -> Result<(), Failure> {
     for row in rows.as_slice() {
         print_line(rt, &RowJson(*row))?;
     }
@@ -50,7 +53,7 @@ fn print_objects<P: Print>(rt: &P, rows: &Rows) -> Result<(), Ending> {
 }
 
 /// Prints rows as a table with a head.
-fn print_table<P: Print>(rt: &P, rows: &Rows, paint: Paint) -> Result<(), Ending> {
+fn print_table<P: Print + AllocGlobal>(rt: &P, rows: &Rows, paint: Paint) -> Result<(), Failure> {
     print_line(rt, &"MEMBER                KIND    NUMBER")?;
     for row in rows.as_slice() {
         print_row(rt, row, paint)?;
@@ -65,7 +68,7 @@ pub fn show_members<T: Threads>(
     to: &str,
     as_json: bool,
     paint: Paint,
-) -> Result<(), Ending> {
+) -> Result<(), Failure> {
     let to = find_from(rt, threads, to, &now(rt)?)?;
     for _ in 0..AGAIN_MAX {
         if let Some(rows) = read_rows(rt, to)? {
@@ -77,7 +80,8 @@ pub fn show_members<T: Threads>(
         }
         thread::sleep(rt, Duration::from_millis(AGAIN_MILLIS));
     }
-    Err(Ending::Answer)
+    let full = format_args!("TCP {to} (control): each page that was asked for found its era full");
+    Err(Failure::about(rt.alloc(), Ending::Answer, full))
 }
 
 /// A change as what a JSON object has of it.
@@ -110,18 +114,26 @@ pub struct Watched<'a> {
 fn rows_at<R: Net<Stream = TcpStream> + Clock + AllocGlobal>(
     rt: &R,
     word: &str,
-) -> Result<Option<Rows>, Ending> {
+) -> Result<Option<Rows>, Failure> {
     read_rows(rt, find(rt, word)?)
+}
+
+/// Whether a failure says that a member does not answer, or not so.
+fn is_silence(failure: &Failure) -> bool {
+    matches!(
+        failure.ending(),
+        Ending::Host | Ending::Socket | Ending::Answer
+    )
 }
 
 impl Watched<'_> {
     /// Tells something with the time: as this line, or as this part of a JSON object.
-    fn tell<R: Print + Clock, L: Display + Copy, J: Display + Copy>(
+    fn tell<R: Print + Clock + AllocGlobal, L: Display + Copy, J: Display + Copy>(
         &self,
         rt: &R,
         line: L,
         json: J,
-    ) -> Result<(), Ending> {
+    ) -> Result<(), Failure> {
         if self.as_json {
             print_line(rt, &TimedJson(Timed::now(rt, json)))
         } else {
@@ -130,7 +142,12 @@ impl Watched<'_> {
     }
 
     /// Tells what changed from one list of rows to a later one, a line each.
-    fn tell_news<R: Print + Clock>(&self, rt: &R, old: &Rows, new: &Rows) -> Result<(), Ending> {
+    fn tell_news<R: Print + Clock + AllocGlobal>(
+        &self,
+        rt: &R,
+        old: &Rows,
+        new: &Rows,
+    ) -> Result<(), Failure> {
         let mut changes = Changes::new();
         compare(old, new, &mut changes);
         for change in changes.as_slice() {
@@ -144,9 +161,12 @@ impl Watched<'_> {
         &self,
         rt: &R,
         is_lost: &mut bool,
-    ) -> Result<Option<Rows>, Ending> {
+    ) -> Result<Option<Rows>, Failure> {
         let read = rows_at(rt, self.to);
-        let answers = !matches!(read, Err(Ending::Host | Ending::Socket | Ending::Answer));
+        let answers = match &read {
+            Ok(_) => true,
+            Err(failure) => !is_silence(failure),
+        };
         if !answers && self.once {
             return read;
         }
@@ -164,8 +184,8 @@ pub fn watch_members<R: Net<Stream = TcpStream> + Clock + AllocGlobal + Print, T
     rt: &R,
     wait: &T,
     watched: &Watched<'_>,
-) -> Result<(), Ending> {
-    judge(watched.to)?;
+) -> Result<(), Failure> {
+    judge(rt.alloc(), watched.to)?;
     let mut before = Rows::new();
     let mut is_lost = false;
     let mut output = Output::new(rt);

@@ -1,9 +1,11 @@
 //! The words of the command line.
 
+use crate::control_words::ControlWords;
 use crate::examples;
+use crate::up_words::UpWords;
 use clap::builder::ValueParser;
 use clap::{Arg, ArgAction, ArgMatches, Command, Error};
-use std::alloc::Global;
+use std::alloc::{AllocError, Global};
 
 /// The greatest group number and ceiling among the words, 2^63 - 1.
 const NUMBER_LIMIT: u64 = 9_223_372_036_854_775_807;
@@ -15,7 +17,7 @@ const EVERY_LIMIT: u64 = 3_600_000;
 const RUNS_LIMIT: u64 = 100_000;
 
 /// What the words ask for.
-#[derive(Clone, Copy, Debug)]
+#[derive(Debug, Drop)]
 pub enum Subcommand<'a> {
     /// A new state file.
     Init {
@@ -28,6 +30,8 @@ pub enum Subcommand<'a> {
         /// The number above which the member begins.
         ceiling: u64,
     },
+    /// A member that runs, for which what it lacks is made.
+    Up(UpWords<'a>),
     /// A member that runs.
     Run {
         /// The path of its settings.
@@ -37,26 +41,50 @@ pub enum Subcommand<'a> {
     },
     /// One control line.
     Ctl {
-        /// The control socket, not yet judged.
-        to: &'a str,
-        /// The line.
-        line: &'a str,
+        /// The control socket, if it is named, and the line.
+        words: ControlWords<'a>,
         /// Whether as JSON, which only the lines `status` and `counters` have.
         as_json: bool,
         /// Whether to wait for nothing but the answer, which only the line `stop` has.
         at_once: bool,
     },
+    /// What a member says of itself.
+    Status {
+        /// The control socket, if it is named, not yet judged.
+        to: Option<&'a str>,
+        /// Whether as JSON.
+        as_json: bool,
+    },
+    /// A member is asked to join another one.
+    Join {
+        /// The other one, not yet judged.
+        peer: &'a str,
+        /// The control socket, if it is named, not yet judged.
+        to: Option<&'a str>,
+    },
+    /// A member leaves its group.
+    Leave {
+        /// The control socket, if it is named, not yet judged.
+        to: Option<&'a str>,
+    },
+    /// A member stops.
+    Stop {
+        /// The control socket, if it is named, not yet judged.
+        to: Option<&'a str>,
+        /// Whether to wait for nothing but the answer.
+        at_once: bool,
+    },
     /// All rows of a member.
     Members {
-        /// The control socket, not yet judged.
-        to: &'a str,
+        /// The control socket, if it is named, not yet judged.
+        to: Option<&'a str>,
         /// Whether as JSON.
         as_json: bool,
     },
     /// What changes of the rows of a member.
     Watch {
-        /// The control socket, not yet judged.
-        to: &'a str,
+        /// The control socket, if it is named, not yet judged.
+        to: Option<&'a str>,
         /// Whether as JSON.
         as_json: bool,
         /// Milliseconds from one comparison to the next.
@@ -66,8 +94,8 @@ pub enum Subcommand<'a> {
     },
     /// A server that shows what a member says.
     Web {
-        /// The control socket, not yet judged.
-        of: &'a str,
+        /// The control socket, if it is named, not yet judged.
+        of: Option<&'a str>,
         /// Where it listens, not yet judged.
         listen: &'a str,
     },
@@ -159,14 +187,13 @@ fn init_command<'a>(alloc: Global) -> Result<Command<'a>, Error> {
     with_arg(command, ceiling.default_value("0"))
 }
 
+/// What is said of the control socket of a member.
+const ADDRESS: &str =
+    "The member's control socket, e.g. 127.0.0.1:7001; without it SWIM_CONTROL, or else 127.0.0.1:7001";
+
 /// The control socket of a member.
 fn address<'a>(alloc: Global) -> Arg<'a> {
-    word(
-        alloc,
-        "addr",
-        "ADDR",
-        "The member's control socket, as 127.0.0.1:7100",
-    )
+    word(alloc, "addr", "ADDR", ADDRESS).required(false)
 }
 
 /// `--json`.
@@ -215,7 +242,43 @@ fn explain_command<'a>(alloc: Global) -> Result<Command<'a>, Error> {
     with_arg(command, files)
 }
 
-/// `swim members ADDR [--json]`.
+/// `swim status [ADDR] [--json]`.
+fn status_command<'a>(alloc: Global) -> Result<Command<'a>, Error> {
+    let command = Command::new(alloc, "status")
+        .about("Prints what a member says of itself")
+        .after_help(examples::STATUS);
+    let command = with_arg(Ok(command), address(alloc));
+    with_arg(command, json(alloc))
+}
+
+/// `swim join A [ADDR]`.
+fn join_command<'a>(alloc: Global) -> Result<Command<'a>, Error> {
+    let peer = word(alloc, "peer", "A", "Whom it joins, e.g. 10.0.0.2:7000");
+    let command = Command::new(alloc, "join")
+        .about("Has a member join another one, and waits up to 3 seconds for it")
+        .after_help(examples::JOIN);
+    let command = with_arg(Ok(command), peer);
+    with_arg(command, address(alloc))
+}
+
+/// `swim leave [ADDR]`.
+fn leave_command<'a>(alloc: Global) -> Result<Command<'a>, Error> {
+    let command = Command::new(alloc, "leave")
+        .about("Has a member leave its group, which goes on answering until it is stopped")
+        .after_help(examples::LEAVE);
+    with_arg(Ok(command), address(alloc))
+}
+
+/// `swim stop [ADDR] [--now]`.
+fn stop_command<'a>(alloc: Global) -> Result<Command<'a>, Error> {
+    let command = Command::new(alloc, "stop")
+        .about("Stops a member, and waits until it has ended")
+        .after_help(examples::STOP);
+    let command = with_arg(Ok(command), address(alloc));
+    with_arg(command, at_once(alloc))
+}
+
+/// `swim members [ADDR] [--json]`.
 fn members_command<'a>(alloc: Global) -> Result<Command<'a>, Error> {
     let command = Command::new(alloc, "members")
         .about("Prints all members that a member knows")
@@ -224,7 +287,7 @@ fn members_command<'a>(alloc: Global) -> Result<Command<'a>, Error> {
     with_arg(command, json(alloc))
 }
 
-/// `swim watch ADDR [--json] [--every N] [--once]`.
+/// `swim watch [ADDR] [--json] [--every N] [--once]`.
 fn watch_command<'a>(alloc: Global) -> Result<Command<'a>, Error> {
     let every = number(
         alloc,
@@ -248,14 +311,9 @@ fn watch_command<'a>(alloc: Global) -> Result<Command<'a>, Error> {
     with_arg(command, once)
 }
 
-/// `swim web --of ADDR [--listen ADDR]`.
+/// `swim web [--of ADDR] [--listen ADDR]`.
 fn web_command<'a>(alloc: Global) -> Result<Command<'a>, Error> {
-    let of = word(
-        alloc,
-        "of",
-        "ADDR",
-        "The member's control socket, as 127.0.0.1:7100",
-    );
+    let of = option(alloc, "of", "ADDR", ADDRESS);
     let listen = option(
         alloc,
         "listen",
@@ -265,30 +323,30 @@ fn web_command<'a>(alloc: Global) -> Result<Command<'a>, Error> {
     let command = Command::new(alloc, "web")
         .about("Serves what a member says over HTTP: a page, metrics, all rows and its health")
         .after_help(examples::WEB);
-    let command = with_arg(Ok(command), of.long("of"));
+    let command = with_arg(Ok(command), of);
     with_arg(command, listen.default_value("127.0.0.1:7080"))
 }
 
-/// `swim ctl ADDR LINE [--json] [--now]`.
-fn ctl_command<'a>(alloc: Global) -> Result<Command<'a>, Error> {
-    let line = word(
-        alloc,
-        "line",
-        "LINE",
-        "status, members, members A, counters, join A, leave, record, reload or stop",
-    );
-    let as_json = json(alloc).help("Prints the answer to status or counters as a JSON object");
-    let at_once = Arg::new(alloc, "now")
+/// `--now`.
+fn at_once<'a>(alloc: Global) -> Arg<'a> {
+    Arg::new(alloc, "now")
         .long("now")
         .action(ArgAction::SetTrue)
-        .help("Ends at the answer to stop, and not once the member has ended");
+        .help("Ends at the answer to stop, and not once the member has ended")
+}
+
+/// `swim ctl [ADDR] LINE.. [--json] [--now]`.
+fn ctl_command<'a>(alloc: Global) -> Result<Command<'a>, Error> {
+    let line =
+        "The control socket, if it is another one, and then status, members, members A, counters, join A, leave, record, reload or stop";
+    let line = word(alloc, "line", "LINE", line).num_args(1..);
+    let as_json = json(alloc).help("Prints the answer to status or counters as a JSON object");
     let command = Command::new(alloc, "ctl")
         .about("Sends a control line and prints the answer")
         .after_help(examples::CTL);
-    let command = with_arg(Ok(command), address(alloc));
-    let command = with_arg(command, line.allow_hyphen_values(true));
+    let command = with_arg(Ok(command), line);
     let command = with_arg(command, as_json);
-    with_arg(command, at_once)
+    with_arg(command, at_once(alloc))
 }
 
 /// A word that may stand after its name.
@@ -349,6 +407,37 @@ fn run_command<'a>(alloc: Global) -> Result<Command<'a>, Error> {
     with_arg(command, shows)
 }
 
+/// `swim up --me A [--join A].. [--group N] [--control A] [--preset P] [--dir DIR]`.
+fn up_command<'a>(alloc: Global) -> Result<Command<'a>, Error> {
+    let me = word(
+        alloc,
+        "me",
+        "A",
+        "The member's endpoint, e.g. 10.0.0.1:7000",
+    )
+    .long("me");
+    let join = option(alloc, "join", "A", "Whom it joins; up to eight times").action(
+        ArgAction::Append,
+    );
+    let command = Command::new(alloc, "up")
+        .about("Makes what a member lacks, its state file and its settings, and runs it")
+        .after_help(examples::UP);
+    let command = with_arg(Ok(command), me);
+    let command = with_arg(command, join);
+    let group = number(
+        alloc,
+        "group",
+        "The number of the group; 1 where the file is new",
+    );
+    let command = with_arg(command, group);
+    let control = "The control socket; SWIM_CONTROL, or else 127.0.0.1:7001, where the file is new";
+    let command = with_arg(command, option(alloc, "control", "ADDR", control));
+    let preset = "The times that it takes: local, lan or wan";
+    let command = with_arg(command, option(alloc, "preset", "P", preset));
+    let dir = "The folder of both files; without it swim-A, in this folder";
+    with_arg(command, option(alloc, "dir", "DIR", dir))
+}
+
 /// All that the program takes.
 fn command<'a>(alloc: Global) -> Result<Command<'a>, Error> {
     let play = Command::new(alloc, "play")
@@ -364,10 +453,15 @@ fn command<'a>(alloc: Global) -> Result<Command<'a>, Error> {
         .about("A member of a SWIM group that survives its own restarts")
         .bin_name("swim")?
         .propagate_version(true)
-        .after_help(examples::PROGRAM)
+        .override_help(examples::PROGRAM)
         .subcommand_required(true);
-    let command = with_subcommand(Ok(command), init_command(alloc));
+    let command = with_subcommand(Ok(command), up_command(alloc));
+    let command = with_subcommand(command, init_command(alloc));
     let command = with_subcommand(command, run_command(alloc));
+    let command = with_subcommand(command, join_command(alloc));
+    let command = with_subcommand(command, leave_command(alloc));
+    let command = with_subcommand(command, stop_command(alloc));
+    let command = with_subcommand(command, status_command(alloc));
     let command = with_subcommand(command, ctl_command(alloc));
     let command = with_subcommand(command, members_command(alloc));
     let command = with_subcommand(command, watch_command(alloc));
@@ -403,11 +497,46 @@ fn init<'a>(words: &ArgMatches<'a>) -> Option<Subcommand<'a>> {
     })
 }
 
+/// Whom the words name to join.
+fn joins(alloc: Global, words: &ArgMatches<'_>) -> Result<Vec<String>, AllocError> {
+    let mut joins = Vec::new(alloc);
+    for word in words.get_strs("join").unwrap_or(&[]) {
+        joins.push(String::from_str(alloc, word)?)?;
+    }
+    Ok(joins)
+}
+
+/// What the words after `up` ask for.
+fn up<'a>(alloc: Global, words: &ArgMatches<'a>) -> Result<Subcommand<'a>, AllocError> {
+    let join = joins(alloc, words)?;
+    Ok(Subcommand::Up(UpWords {
+        me: text(words, "me"),
+        join,
+        group: words.get_one::<u64>("group"),
+        control: words.get_str("control"),
+        preset: words.get_str("preset"),
+        dir: words.get_str("dir"),
+    }))
+}
+
+/// What the words after `ctl` ask for; none where they name no line.
+fn ctl<'a>(alloc: Global, words: &ArgMatches<'a>) -> Result<Option<Subcommand<'a>>, AllocError> {
+    let said = ControlWords::of(alloc, words.get_strs("line").unwrap_or(&[]))?;
+    let Some(said) = said else {
+        return Ok(None);
+    };
+    Ok(Some(Subcommand::Ctl {
+        words: said,
+        as_json: words.get_flag("json"),
+        at_once: words.get_flag("now"),
+    }))
+}
+
 /// What the words after `watch` ask for.
 fn watch<'a>(words: &ArgMatches<'a>) -> Option<Subcommand<'a>> {
     let every = words.get_one::<u64>("every")?;
     Some(Subcommand::Watch {
-        to: text(words, "addr"),
+        to: words.get_str("addr"),
         as_json: words.get_flag("json"),
         every,
         once: words.get_flag("once"),
@@ -447,19 +576,28 @@ fn chosen<'a>(matches: &ArgMatches<'a>, all: &'a [String]) -> Option<Subcommand<
             config: text(words, "config"),
             shows: words.get_flag("show-settings"),
         }),
-        "ctl" => Some(Subcommand::Ctl {
-            to: text(words, "addr"),
-            line: text(words, "line"),
+        "status" => Some(Subcommand::Status {
+            to: words.get_str("addr"),
             as_json: words.get_flag("json"),
+        }),
+        "join" => Some(Subcommand::Join {
+            peer: text(words, "peer"),
+            to: words.get_str("addr"),
+        }),
+        "leave" => Some(Subcommand::Leave {
+            to: words.get_str("addr"),
+        }),
+        "stop" => Some(Subcommand::Stop {
+            to: words.get_str("addr"),
             at_once: words.get_flag("now"),
         }),
         "members" => Some(Subcommand::Members {
-            to: text(words, "addr"),
+            to: words.get_str("addr"),
             as_json: words.get_flag("json"),
         }),
         "watch" => watch(words),
         "web" => Some(Subcommand::Web {
-            of: text(words, "of"),
+            of: words.get_str("of"),
             listen: text(words, "listen"),
         }),
         "show" => Some(Subcommand::Show {
@@ -474,10 +612,23 @@ fn chosen<'a>(matches: &ArgMatches<'a>, all: &'a [String]) -> Option<Subcommand<
     }
 }
 
+/// What the matched words ask for, where memory is needed for it too.
+fn asked<'a>(
+    alloc: Global,
+    matches: &ArgMatches<'a>,
+    all: &'a [String],
+) -> Result<Option<Subcommand<'a>>, AllocError> {
+    match matches.subcommand() {
+        Some(("up", words)) => Ok(Some(up(alloc, words)?)),
+        Some(("ctl", words)) => ctl(alloc, words),
+        _ => Ok(chosen(matches, all)),
+    }
+}
+
 /// What the words ask for, the program's name among them; none where they ask for nothing that is known. An error is
 /// help, a version or a mistake, with its text; want of memory is of kind `OutOfMemory`.
 pub fn read_words<'a>(alloc: Global, words: &'a [String]) -> Result<Option<Subcommand<'a>>, Error> {
     let command = command(alloc)?;
     let matches = command.try_get_matches_from(words)?;
-    Ok(chosen(&matches, words))
+    Ok(asked(alloc, &matches, words)?)
 }

@@ -1,12 +1,54 @@
 //! Examples, which stand at the end of the help texts. Each line is a command and what it does, with two spaces or more between them.
 
-/// Examples of the program.
-pub(crate) const PROGRAM: &str = "Examples:
-  swim init member.state --group 7 --me 127.0.0.1:7000  makes a state file, once
-  swim run member.toml                                  runs the member
-  swim members 127.0.0.1:7001                           prints whom it knows
-  swim ctl 127.0.0.1:7001 stop                          stops it
-  swim help run                                         says more of one command";
+/// The help of the program: its commands by what they are for, each with what its own help begins with.
+pub(crate) const PROGRAM: &str = "A member of a SWIM group that survives its own restarts
+
+Usage: swim <COMMAND>
+
+Run:
+  up        Makes what a member lacks, its state file and its settings, and runs it
+  init      Makes a state file
+  run       Runs a member until it is stopped
+  join      Has a member join another one, and waits up to 3 seconds for it
+  leave     Has a member leave its group, which goes on answering until it is stopped
+  stop      Stops a member, and waits until it has ended
+
+Look:
+  status    Prints what a member says of itself
+  members   Prints all members that a member knows
+  watch     Prints what changes of the members, a line a change, until it is stopped or nobody reads it
+  web       Serves what a member says over HTTP: a page, metrics, all rows and its health
+  ctl       Sends a control line and prints the answer
+
+Explain:
+  show      Prints what a state file says, and what `swim run` would do with it; it writes nothing
+  explain   Prints when a member was heard of, suspected, confirmed, and why
+
+Try:
+  simulate  Simulates a group, and prints how soon it noticed who was killed
+  play      Plays a script or a recording from standard input, of at most 256 MiB
+
+Check:
+  check     Looks in a capture from standard input, of at most 256 MiB, for a datagram that breaks the law of the group
+  help      Print this message or the help of the given subcommand(s)
+
+Options:
+  -h, --help     Print help
+  -V, --version  Print version
+
+Examples:
+  swim up --me 127.0.0.1:7000                         runs a member, and makes its files the first time
+  swim up --me 10.0.0.2:7000 --join 10.0.0.1:7000     another one, which joins it
+  swim members                                        prints whom it knows
+  swim stop                                           stops it
+  swim help run                                       says more about one command
+";
+
+/// Examples of `swim up`.
+pub(crate) const UP: &str = "Examples:
+  swim up --me 10.0.0.1:7000                       the first member of a group
+  swim up --me 10.0.0.2:7000 --join 10.0.0.1:7000  another one, which joins it
+  swim up --me 10.0.0.2:7000                       the same, from the second time on";
 
 /// Examples of `swim init`.
 pub(crate) const INIT: &str = "Examples:
@@ -18,16 +60,33 @@ pub(crate) const RUN: &str = "Examples:
   swim run member.toml                  runs until the control line stop
   swim run --show-settings member.toml  prints all keys with their values";
 
+/// Examples of `swim status`.
+pub(crate) const STATUS: &str = "Examples:
+  swim status                        of the member at 127.0.0.1:7001, or at SWIM_CONTROL
+  swim status 10.0.0.1:7001 --json   of another one, as an object";
+
+/// Examples of `swim join`.
+pub(crate) const JOIN: &str = "Examples:
+  swim join 10.0.0.2:7000  asks the member at 10.0.0.2:7000 for all that it knows";
+
+/// Examples of `swim leave`.
+pub(crate) const LEAVE: &str = "Examples:
+  swim leave  the others hold it for failed at once; then stop it";
+
+/// Examples of `swim stop`.
+pub(crate) const STOP: &str = "Examples:
+  swim stop        ends once the member has ended
+  swim stop --now  ends at its answer";
+
 /// Examples of `swim ctl`.
 pub(crate) const CTL: &str = "Examples:
-  swim ctl 127.0.0.1:7001 status                what the member says of itself
-  swim ctl 127.0.0.1:7001 counters              what it has done since it began
-  swim ctl 127.0.0.1:7001 \"join 10.0.0.2:7000\"  a line with a space is quoted
-  swim ctl 127.0.0.1:7001 stop                  stops it, and waits until it has ended";
+  swim ctl counters                            what the member has done since it began
+  swim ctl 127.0.0.1:7001 join 10.0.0.2:7000   has it join another one
+  swim ctl 127.0.0.1:7001 reload               has it read its settings again";
 
 /// Examples of `swim members`.
 pub(crate) const MEMBERS: &str = "Examples:
-  swim members 127.0.0.1:7001         a table of all members
+  swim members                        a table of all members
   swim members 127.0.0.1:7001 --json  an object a line, for scripts";
 
 /// Examples of `swim watch`.

@@ -2,10 +2,14 @@
 #![tactic(auto)]
 
 mod command_line;
+mod control_words;
 mod descriptors;
 mod examples;
 mod making;
+mod up_words;
 
 pub use command_line::{Subcommand, read_words};
+pub use control_words::ControlWords;
 pub use descriptors::hold_standard;
 pub use making::make;
+pub use up_words::UpWords;

@@ -1,14 +1,33 @@
 //! `swim init`.
 
+use std::alloc::Global;
 use std::fs::File;
-use std::io;
+use std::io::{self, ErrorKind};
 use std::rt::Files;
 use swim_disk::FileDisk;
-use swim_ending::Ending;
+use swim_ending::{Ending, Failure};
 use swim_start::{open_locked, sync_folder};
 use swim_state::{InitFault, Owner, init};
 use swim_wire::NUMBER_MAX;
 use swim_words::read_endpoint;
+
+/// The ending where a new state file is not written.
+fn unwritten(alloc: Global, file: &str, fault: InitFault) -> Failure {
+    Failure::about(
+        alloc,
+        Ending::Init(fault),
+        format_args!("state file {file}"),
+    )
+}
+
+/// The ending where a ceiling is above all numbers.
+fn above_all(alloc: Global, ceiling: u64) -> Failure {
+    Failure::about(
+        alloc,
+        Ending::Init(InitFault::Range),
+        format_args!("--ceiling {ceiling}: it is above {NUMBER_MAX}"),
+    )
+}
 
 /// Makes the state file of a member, whose endpoint is a word not yet judged. A ceiling above the greatest number is
 /// refused before the file is touched, so that none is left behind.
@@ -18,15 +37,25 @@ pub fn make<R: Files<File = File> + AllocGlobal>(
     group: u64,
     me: &str,
     ceiling: u64,
-) -> Result<(), Ending> {
-    let me = read_endpoint(me.as_bytes()).ok_or(Ending::Address)?;
+) -> Result<(), Failure> {
+    let alloc = rt.alloc();
+    let Some(me) = read_endpoint(me.as_bytes()) else {
+        return Err(Failure::of_address(alloc, "--me", me));
+    };
     if ceiling > NUMBER_MAX {
-        return Err(Ending::Init(InitFault::Range));
+        return Err(above_all(alloc, ceiling));
     }
-    let refused = |error: io::Error| Ending::of(&error, Ending::File);
-    let opened = open_locked(rt, file, true).map_err(refused)?;
-    let loaded = FileDisk::load(rt.alloc(), opened.into_file());
-    let mut disk = loaded.map_err(|error| Ending::of(&error, Ending::Init(InitFault::Device)))?;
-    init(&mut disk, Owner { group, me }, ceiling).map_err(Ending::Init)?;
-    sync_folder(rt, file).map_err(refused)
+    let opened = open_locked(rt, file, true).map_err(|error| Failure::of_state_file(
+        alloc, file, &error,
+    ))?;
+    let loaded = FileDisk::load(alloc, opened.into_file());
+    let mut disk = match loaded {
+        Ok(disk) => disk,
+        Err(error) if error.kind() == ErrorKind::OutOfMemory => {
+            return Err(Failure::from(Ending::Memory));
+        }
+        Err(_) => return Err(unwritten(alloc, file, InitFault::Device)),
+    };
+    init(&mut disk, Owner { group, me }, ceiling).map_err(|fault| unwritten(alloc, file, fault))?;
+    sync_folder(rt, file).map_err(|error| Failure::of_state_file(alloc, file, &error))
 }

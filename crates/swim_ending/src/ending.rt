@@ -67,6 +67,9 @@ pub enum Ending {
     /// A member did not answer with its rows.
     #[error("answer refused")]
     Answer,
+    /// Whom a member was told to join did not answer in time.
+    #[error("nobody answered")]
+    Unjoined,
     /// A member that was told to stop has not ended in time.
     #[error("not ended")]
     NotEnded,
@@ -110,7 +113,7 @@ const SETTINGS: &str =
 
 /// What else to say where a file was refused.
 const FILE: &str =
-    "look whether the file is there, whether this user may use it, and whether another `swim run` has it; if a state file is lost, see \"A lost state file\" in OPERATIONS.md before any `swim init`";
+    "if a state file is lost, see \"A lost state file\" in OPERATIONS.md before any `swim init`";
 
 /// What else to say where a file system takes no writes.
 const READ_ONLY: &str =

@@ -2,5 +2,10 @@
 #![tactic(auto)]
 
 mod ending;
+mod failure;
+mod mistake;
+mod nearest;
+mod takes;
 
 pub use ending::Ending;
+pub use failure::Failure;

@@ -16,14 +16,14 @@ pub struct LogLevel {
 }
 
 impl LogLevel {
-    /// The level that the environment variable `SWIM_LOG` names; warn where it names none.
+    /// The level that the environment variable `SWIM_LOG` names; info, at which the changes of members are told, where it names none.
     pub fn of_environment<R: Env + Alloc>(rt: &R) -> LogLevel {
         let usual = match env::var(rt, LEVEL_VARIABLE) {
             Ok(text) => text
                 .as_str()
                 .parse::<LevelFilter>()
-                .unwrap_or(LevelFilter::Warn),
-            Err(_) => LevelFilter::Warn,
+                .unwrap_or(LevelFilter::Info),
+            Err(_) => LevelFilter::Info,
         };
         LogLevel {
             usual,

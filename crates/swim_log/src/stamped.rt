@@ -5,7 +5,7 @@ use crate::stream::LogStream;
 use jiff::Timestamp;
 use log::kv::Source;
 use log::span::Spans;
-use log::{Line, Log, Metadata, Record};
+use log::{Log, Metadata, Record};
 use std::fmt::{self, Display, Formatter};
 use std::rt::Clock;
 use std::sync::Wait;
@@ -55,12 +55,12 @@ impl<'a, R: Eprint + Clock + Wait> Log for Stamped<'a, R> {
         if !stream.takes_line() {
             return;
         }
-        let line = Line::new(record);
+        let (level, line) = (record.level(), record.args());
         let left_out = LeftOut(stream.left_out);
         stream.left_out = 0;
         let _ = match Timestamp::now(&self.rt) {
-            Ok(now) => eprintln!(self.rt; "{now:.3} {line}{left_out}"),
-            Err(_) => eprintln!(self.rt; "- {line}{left_out}"),
+            Ok(now) => eprintln!(self.rt; "{now:.3} [{level:<5}] {line}{left_out}"),
+            Err(_) => eprintln!(self.rt; "- [{level:<5}] {line}{left_out}"),
         };
     }
 

@@ -17,4 +17,5 @@ mod sockets;
 mod state_file;
 mod surroundings;
 
+pub use reading::settings_at;
 pub use running::{run, shown_settings};

@@ -192,8 +192,8 @@ impl<'a, T: Threads + Wait + Log + Clock + Copy> Host for LiveSettings<'a, T> {
     fn reload(&mut self) -> Answer {
         match self.read_again() {
             Ok(then) => self.take(then.told),
-            Err(ending) => {
-                warn!(self.around.logged; "the settings were not read again, and stay as they are: {ending}");
+            Err(failure) => {
+                warn!(self.around.logged; "the settings were not read again, and stay as they are: {failure}");
                 answer_of(SETTINGS_REFUSED)
             }
         }

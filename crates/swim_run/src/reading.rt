@@ -5,9 +5,9 @@ ghost use Rattle.swim_settings.specs.Ranges.{AreInRange};
 
 use std::fs::File;
 use std::rt::Files;
-use swim_ending::Ending;
+use swim_ending::Failure;
 use swim_input::{SETTINGS_MAX, read_file};
-use swim_settings::{Refusal, RunSettings, read_settings};
+use swim_settings::{RunSettings, read_settings};
 
 /// Settings that a file said, each in its range.
 #[derive(Drop)]
@@ -20,24 +20,27 @@ pub(crate) struct CheckedSettings {
 pub(crate) fn checked_at<R: Files<File = File> + AllocGlobal>(
     rt: &R,
     config: &str,
-) -> Result<CheckedSettings, Ending> {
+) -> Result<CheckedSettings, Failure> {
     match settings_at(rt, config) {
         Ok(told) => Ok(CheckedSettings { told }),
-        Err(ending) => Err(ending),
+        Err(failure) => Err(failure),
     }
 }
 
 /// The settings that a file says. One that is no file, or has more than `SETTINGS_MAX` bytes, is refused.
-pub(crate) fn settings_at<R: Files<File = File> + AllocGlobal>(
+pub fn settings_at<R: Files<File = File> + AllocGlobal>(
     rt: &R,
     config: &str,
-) -> Result<RunSettings, Ending>
+) -> Result<RunSettings, Failure>
     ensures { IfOk result AreInRange }
 {
-    let bytes = read_file(rt, config, SETTINGS_MAX)?;
-    match read_settings(rt.alloc(), bytes.as_slice()) {
+    let alloc = rt.alloc();
+    let text = match read_file(rt, config, SETTINGS_MAX) {
+        Ok(text) => text,
+        Err(fault) => return Err(Failure::of_input(alloc, "settings", config, fault)),
+    };
+    match read_settings(alloc, text.as_slice()) {
         Ok(settings) => Ok(settings),
-        Err(Refusal::Memory) => Err(Ending::Memory),
-        Err(refusal) => Err(Ending::Settings(refusal)),
+        Err(refusal) => Err(Failure::of_settings(alloc, config, text.as_slice(), refusal)),
     }
 }

@@ -3,10 +3,10 @@
 use crate::errand::{Beside, Errand};
 use crate::reading::{CheckedSettings, checked_at};
 use std::thread::Threads;
-use swim_ending::Ending;
+use swim_ending::Failure;
 
 /// What a settings file says, or why it is refused.
-pub(crate) type Read = Result<CheckedSettings, Ending>;
+pub(crate) type Read = Result<CheckedSettings, Failure>;
 
 /// The settings file at a path, to be read.
 #[derive(Drop)]

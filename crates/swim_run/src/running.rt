@@ -14,15 +14,17 @@ use crate::settings_reading::SettingsReading;
 use crate::sockets::{Sockets, waits};
 use crate::state_file::{StateFile, open_node};
 use crate::surroundings::{HandedOver, Surroundings};
-use log::{Log, info};
+use log::{LevelFilter, Log, info};
+use std::alloc::Global;
 use std::fs::File;
 use std::io;
 use std::rt::Files;
 use std::sync::{Mutex, Wait};
 use std::thread::Threads;
 use std::time::{Clock, Duration};
-use swim_ending::Ending;
+use swim_ending::{Ending, Failure};
 use swim_log::LogLevel;
+use swim_member::Settings;
 use swim_serve::{DoorsAndChores, Outside, Setup, run_kept};
 use swim_settings::{RunSettings, show_settings};
 use swim_start::key_of;
@@ -32,9 +34,9 @@ use swim_start::key_of;
 pub fn shown_settings<R: Files<File = File> + AllocGlobal>(
     rt: &R,
     config: &str,
-) -> Result<String, Ending> {
+) -> Result<String, Failure> {
     let told = settings_at(rt, config)?;
-    show_settings(rt.alloc(), &told).map_err(|_| Ending::Memory)
+    show_settings(rt.alloc(), &told).map_err(|_| Failure::from(Ending::Memory))
 }
 
 /// How many ticks an expelled member waits before it ends; none if it is to stay. A member that hears last of the Confirm does so within
@@ -52,6 +54,41 @@ fn expelled_wait(told: &RunSettings) -> Option<u64>
     }
 }
 
+/// The ending where the member was not opened on its state file, with the one whose file these settings say that it is.
+fn unopened(alloc: Global, told: &RunSettings, ending: Ending) -> Failure {
+    let RunSettings { file, settings, .. } = told;
+    let (group, me) = (settings.group, settings.me);
+    Failure::about(
+        alloc,
+        ending,
+        format_args!("state file {file} (group {group}, me {me})"),
+    )
+}
+
+/// The ending where the system gives no random numbers.
+fn undrawn(alloc: Global, error: &io::Error) -> Failure {
+    let ending = Ending::of(error, Ending::File);
+    Failure::about(alloc, ending, format_args!("random numbers: {error}"))
+}
+
+/// Says that the member is up with this number, whatever the level of the log is otherwise. No worker logs yet.
+fn tell_up<T: Log>(logged: &T, level: &LogLevel, told: &RunSettings, number: u64) {
+    let RunSettings {
+        settings,
+        control,
+        ..
+    } = told;
+    let Settings {
+        me,
+        group,
+        rules,
+        ..
+    } = settings;
+    level.set(Some(LevelFilter::Info));
+    info!(logged; "up: {me} of group {group}, number {number}, rules {rules}; control {control}; joined nobody yet");
+    log_from(level, told.log);
+}
+
 /// What a start has taken hold of: the key of its generators, its state file, and its sockets.
 #[derive(Drop)]
 struct Start<'a, T: Clock> {
@@ -66,7 +103,7 @@ fn live<'a, T: Threads + Wait + Log + Clock + Send + Sync + Copy + Drop>(
     told: RunSettings,
     handed: &'a HandedOver,
     start: Start<'a, T>,
-) -> Result<(), Ending>
+) -> Result<(), Failure>
     requires { AreInRange told }
 {
     let Surroundings {
@@ -77,9 +114,12 @@ fn live<'a, T: Threads + Wait + Log + Clock + Send + Sync + Copy + Drop>(
     } = around;
     let Start { key, file, sockets } = start;
     let settings = told.settings;
-    let node = open_node(rt.alloc(), file.opened, file.watched, settings, told.limit)?;
+    let node = match open_node(rt.alloc(), file.opened, file.watched, settings, told.limit) {
+        Ok(node) => node,
+        Err(ending) => return Err(unopened(rt.alloc(), &told, ending)),
+    };
     let number = node.first();
-    info!(logged; "up with number {number}, at {}, control at {}", settings.me, told.control);
+    tell_up(logged, around.level, &told, number);
     let tick = Duration::from_millis(told.tick_ms);
     let expelled_ends = expelled_wait(&told);
     let mut host = LiveSettings::new(around, told, handed);
@@ -99,11 +139,11 @@ fn live<'a, T: Threads + Wait + Log + Clock + Send + Sync + Copy + Drop>(
     let doors = DoorsAndChores::new(sockets.doors, chores);
     let (inbound, link) = (sockets.inbound, sockets.link);
     let outside = Outside::new(rt.alloc(), *logged, setup, inbound, link, doors);
-    let outside = outside.map_err(|_| Ending::Memory)?;
+    let outside = outside.map_err(|_| Failure::from(Ending::Memory))?;
     let alarms = sockets.alarms;
     let ended = run_kept(logged, rt.alloc(), node, outside, &alarms, &mut host);
     host.finish();
-    ended_by(ended.how)
+    Ok(ended_by(ended.how)?)
 }
 
 /// Runs the member that the settings file describes until the line `stop`: locks its state file, binds its sockets, takes a
@@ -115,12 +155,13 @@ pub fn run<T: Threads + Wait + Log + Clock + Send + Sync + Copy + Drop>(
     logged: &T,
     level: &LogLevel,
     config: &str,
-) -> Result<(), Ending> {
+) -> Result<(), Failure> {
     let told = settings_at(rt, config)?;
     log_from(level, told.log);
     let file = StateFile::lock(rt, told.file.as_str())?;
+    let alloc = rt.alloc();
     let drawn = key_of(rt, told.random_key);
-    let key = drawn.map_err(|error: io::Error| Ending::of(&error, Ending::File))?;
+    let key = drawn.map_err(|error: io::Error| undrawn(alloc, &error))?;
     let (waits, connections) = waits(rt, rt.alloc())?;
     // The control socket stays open until all else is closed: who finds it closed may start the next life at once.
     let (sockets, _control) = Sockets::bind(rt, logged, &waits, connections, &told)?;

@@ -8,7 +8,7 @@ use std::io;
 use std::net::{Net, SocketAddr, TcpListener, TcpStream};
 use std::rt::Clock;
 use std::time::Duration;
-use swim_ending::Ending;
+use swim_ending::{Ending, Failure};
 use swim_net::{SocketAlarm, TcpDoors, UdpInbound, UdpLink, Waits, address_of, bind_datagrams};
 use swim_settings::RunSettings;
 use swim_wire::Endpoint;
@@ -35,22 +35,38 @@ fn doors_wait_of(wait: Duration) -> Duration
 
 /// The address that the others reach this member by. A machine binds the unspecified one and those of multicast too, but a
 /// datagram that is sent there does not come back to this member alone.
-fn own_address(me: Endpoint) -> Result<SocketAddr, Ending> {
+fn own_address(alloc: Global, me: Endpoint) -> Result<SocketAddr, Failure> {
     let at = address_of(me);
     if at.ip().is_unspecified() || at.ip().is_multicast() {
-        return Err(Ending::Socket);
+        let about = format_args!("UDP {me} (me): it is the address of no machine");
+        return Err(Failure::about(alloc, Ending::Socket, about));
     }
     Ok(at)
 }
 
-/// The ending where the system refuses a socket.
-fn unbound(error: io::Error) -> Ending {
-    Ending::of(&error, Ending::Socket)
+/// The ending where the system refuses the socket of datagrams.
+fn without_datagrams(alloc: Global, me: Endpoint, error: &io::Error) -> Failure {
+    let ending = Ending::of(error, Ending::Socket);
+    Failure::about(alloc, ending, format_args!("UDP {me} (me): {error}"))
+}
+
+/// The ending where the system refuses the control socket.
+fn without_doors(alloc: Global, control: Endpoint, error: &io::Error) -> Failure {
+    let ending = Ending::of(error, Ending::Socket);
+    Failure::about(
+        alloc,
+        ending,
+        format_args!("TCP {control} (control): {error}"),
+    )
 }
 
 /// The waits of the control socket's thread, and what ends them.
-pub(crate) fn waits<R: Net>(rt: &R, alloc: Global) -> Result<(Waits, SocketAlarm), Ending> {
-    Waits::new(rt, alloc).map_err(unbound)
+pub(crate) fn waits<R: Net>(rt: &R, alloc: Global) -> Result<(Waits, SocketAlarm), Failure> {
+    let unmade = |error: io::Error| {
+        let ending = Ending::of(&error, Ending::Socket);
+        Failure::about(alloc, ending, format_args!("poll: {error}"))
+    };
+    Waits::new(rt, alloc).map_err(unmade)
 }
 
 /// Binds the control socket, whose thread has these waits, and gives it twice.
@@ -60,11 +76,10 @@ fn bind_doors<'a, R: Net<Listener = TcpListener, Stream = TcpStream>, C: Clock>(
     waits: &'a Waits,
     control: Endpoint,
     wait: Duration,
-) -> Result<(TcpDoors<'a, C>, TcpListener), Ending> {
-    let bound = TcpListener::bind(rt, address_of(control));
-    let listener = bound.map_err(unbound)?;
-    let again = listener.try_clone().map_err(unbound)?;
-    let doors = TcpDoors::new(listener, waits, clock, doors_wait_of(wait)).map_err(unbound)?;
+) -> io::Result<(TcpDoors<'a, C>, TcpListener)> {
+    let listener = TcpListener::bind(rt, address_of(control))?;
+    let again = listener.try_clone()?;
+    let doors = TcpDoors::new(listener, waits, clock, doors_wait_of(wait))?;
     Ok((doors, again))
 }
 
@@ -87,18 +102,24 @@ impl<'a, C: Clock> Sockets<'a, C> {
         waits: &'a Waits,
         connections: SocketAlarm,
         told: &RunSettings,
-    ) -> Result<(Sockets<'a, C>, TcpListener), Ending> {
-        let wait = wait_of(told.tick_ms);
-        let at = own_address(told.settings.me)?;
-        let bound = bind_datagrams(rt, clock, rt.alloc(), at, wait);
-        let (inbound, link, datagrams) = bound.map_err(unbound)?;
-        let (doors, control) = bind_doors(rt, clock, waits, told.control, wait)?;
+    ) -> Result<(Sockets<'a, C>, TcpListener), Failure> {
+        let (me, control) = (told.settings.me, told.control);
+        let (wait, alloc) = (wait_of(told.tick_ms), rt.alloc());
+        let at = own_address(alloc, me)?;
+        let bound = bind_datagrams(rt, clock, alloc, at, wait);
+        let (inbound, link, datagrams) = bound.map_err(|error: io::Error| without_datagrams(
+            alloc, me, &error,
+        ))?;
+        let bound = bind_doors(rt, clock, waits, control, wait);
+        let (doors, again) = bound.map_err(|error: io::Error| without_doors(
+            alloc, control, &error,
+        ))?;
         let sockets = Sockets {
             inbound,
             link,
             doors,
             alarms: [datagrams, connections],
         };
-        Ok((sockets, control))
+        Ok((sockets, again))
     }
 }

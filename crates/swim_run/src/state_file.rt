@@ -6,7 +6,7 @@ ghost use Rattle.swim_member.specs.Checks.{AreSound};
 use std::alloc::Global;
 use std::io;
 use swim_disk::FileDisk;
-use swim_ending::Ending;
+use swim_ending::{Ending, Failure};
 use swim_member::Settings;
 use swim_node::OpenFault;
 use swim_start::{FileNode, LockedFile, OwnFile, Watch, open, open_locked};
@@ -25,11 +25,12 @@ pub(crate) struct StateFile {
 
 impl StateFile {
     /// Opens and locks the file at this path.
-    pub(crate) fn lock(rt: &HostRuntime, path: &str) -> Result<StateFile, Ending> {
-        let unopened = |error: io::Error| Ending::of(&error, Ending::File);
+    pub(crate) fn lock(rt: &HostRuntime, path: &str) -> Result<StateFile, Failure> {
+        let alloc = rt.alloc();
+        let unopened = |error: io::Error| Failure::of_state_file(alloc, path, &error);
         let opened = open_locked(rt, path, false).map_err(unopened)?;
         let own = OwnFile::new(*rt, rt.alloc(), path, &opened).map_err(unopened)?;
-        let watched = own.try_clone().map_err(|_| Ending::Memory)?;
+        let watched = own.try_clone().map_err(|_| Failure::from(Ending::Memory))?;
         Ok(StateFile {
             opened,
             own,

@@ -1,6 +1,7 @@
 //! Where in the text of a plan the key stands for which it is refused.
 
 use std::fmt;
+use swim_input::key_line;
 use swim_settings::Refusal;
 use swim_simulate::PlanRefusal;
 use swim_words::Word;
@@ -24,29 +25,11 @@ impl fmt::Display for PlacedRefusal {
     }
 }
 
-/// Whether a line gives a key its value.
-fn is_of(line: &[u8], key: &str) -> bool {
-    match line.trim_ascii_start().strip_prefix(key.as_bytes()) {
-        Some(rest) => rest.trim_ascii_start().starts_with(b"="),
-        None => false,
-    }
-}
-
-/// The first line of a text that gives this key its value, counted from 1.
-fn line_of(text: &[u8], key: &str) -> Option<usize> {
-    for (place, line) in text.split(|byte| *byte == b'\n').enumerate() {
-        if is_of(line, key) {
-            return Some(place.saturating_add(1));
-        }
-    }
-    None
-}
-
 /// A refusal of this text, with its line.
 pub fn placed(text: &[u8], refusal: PlanRefusal) -> PlacedRefusal {
     let line = match &refusal {
-        PlanRefusal::Key(key) => line_of(text, key.text()),
-        PlanRefusal::Text(Refusal::Unknown(key)) => line_of(text, key.as_str()),
+        PlanRefusal::Key(key) => key_line(text, key.text()),
+        PlanRefusal::Text(Refusal::Unknown(key)) => key_line(text, key.as_str()),
         PlanRefusal::Text(_) => None,
     };
     PlacedRefusal { refusal, line }

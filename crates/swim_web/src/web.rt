@@ -2,13 +2,14 @@
 
 use crate::known::{Known, follow};
 use crate::server::Server;
+use std::alloc::Global;
 use std::io::Error;
 use std::net::{Net, TcpListener, TcpStream};
 use std::rt::Clock;
 use std::sync::{Mutex, Wait};
 use std::thread::{self, Threads};
 use swim_ask::judge;
-use swim_ending::Ending;
+use swim_ending::{Ending, Failure};
 use swim_net::address_of;
 use swim_wire::Endpoint;
 use swim_words::read_endpoint;
@@ -22,16 +23,25 @@ pub struct Web<'a> {
     pub listen: &'a str,
 }
 
-/// Says on standard error why no socket listens there.
-fn refused<R: Eprint>(rt: &R, listen: &str, error: &Error) -> Ending {
-    let _ = eprintln!(rt; "swim: cannot listen at {listen}: {error}");
-    Ending::of(error, Ending::Socket)
+/// The ending where no socket listens there.
+fn refused(alloc: Global, listen: Endpoint, error: &Error) -> Failure {
+    let ending = Ending::of(error, Ending::Socket);
+    Failure::about(
+        alloc,
+        ending,
+        format_args!("TCP {listen} (--listen): {error}"),
+    )
 }
 
 /// Prints what is served where, and who can read it.
-fn announce<R: Print>(rt: &R, web: &Web<'_>, listen: Endpoint) -> Result<(), Ending> {
+fn announce<R: Print + AllocGlobal>(
+    rt: &R,
+    web: &Web<'_>,
+    listen: Endpoint,
+) -> Result<(), Failure> {
     let Web { of, .. } = *web;
-    let unprinted = |error: Error| Ending::of_output(&error);
+    let alloc = rt.alloc();
+    let unprinted = |error: Error| Failure::of_output(alloc, &error);
     println!(rt; "http://{listen}/ shows what {of} says").map_err(unprinted)?;
     if !address_of(listen).ip().is_loopback() {
         println!(rt;
@@ -44,19 +54,17 @@ fn announce<R: Print>(rt: &R, web: &Web<'_>, listen: Endpoint) -> Result<(), End
 /// Serves what a member says over HTTP until the process is ended, whether the member answers or not. An error is a word that is no
 /// endpoint, or the system's: the address is taken or not this machine's.
 pub fn serve_web<
-    R: Net<Listener = TcpListener, Stream = TcpStream>
-        + Clock
-        + AllocGlobal
-        + Print
-        + Eprint
-        + Sync,
+    R: Net<Listener = TcpListener, Stream = TcpStream> + Clock + AllocGlobal + Print + Sync,
     T: Threads + Wait + Sync,
->(rt: &R, threads: &T, web: &Web<'_>) -> Result<(), Ending> {
-    judge(web.of)?;
-    let listen = read_endpoint(web.listen.as_bytes()).ok_or(Ending::Address)?;
+>(rt: &R, threads: &T, web: &Web<'_>) -> Result<(), Failure> {
+    let alloc = rt.alloc();
+    judge(alloc, web.of)?;
+    let Some(listen) = read_endpoint(web.listen.as_bytes()) else {
+        return Err(Failure::of_address(alloc, "--listen", web.listen));
+    };
     let bound = TcpListener::bind(rt, address_of(listen));
-    let listener = bound.map_err(|error| refused(rt, web.listen, &error))?;
-    let server = Server::new(rt, listener).map_err(|error| refused(rt, web.listen, &error))?;
+    let listener = bound.map_err(|error| refused(alloc, listen, &error))?;
+    let server = Server::new(rt, listener).map_err(|error| refused(alloc, listen, &error))?;
     announce(rt, web, listen)?;
     let known = Mutex::new(Known::new());
     thread::join(
