@@ -1,28 +1,26 @@
 -- Where words and the settings of a file say different things.
-use Rattle.std.specs.Prelude.{◌≡◌, true}
+use Rattle.std.specs.Prelude.{◌≡◌, ◌≢◌, Bool, true, false}
 use Rattle.swim_settings.specs.declared.key.Key.{Key}
 use Rattle.swim_settings.specs.declared.key.Key.TheVariants as key
 use Rattle.swim_settings.specs.declared.settings.RunSettings.{RunSettings}
 use Rattle.swim_up.specs.declared.clash.Given.{Given}
 
--- the words name the key
-abbrev pub IsNamedBy : Given → Key → Type 0
-IsNamedBy given key.Group = given.group ≡ true
-IsNamedBy given key.Me = Unit
-IsNamedBy given key.Control = given.control ≡ true
-IsNamedBy given key.Preset = given.preset ≡ true
-IsNamedBy given key.Join = given.join ≡ true
-IsNamedBy given _ = ⊥
+-- both say the same at each key that the words name, and join the same if that is asked for
+pub record AgreeAtAll (told wanted : RunSettings) (joins_same : Bool) (given : Given) : Type 0 where
+  pub group : given.group ≡ true → told.settings.group ≡ wanted.settings.group
+  pub me : told.settings.me ≡ wanted.settings.me
+  pub control : given.control ≡ true → told.control ≡ wanted.control
+  pub preset : given.preset ≡ true → told.preset ≡ wanted.preset
+  pub join : given.join ≡ true → joins_same ≡ true
 
--- both say the same at the key, which words may name
-abbrev pub AgreeAt : (told wanted : RunSettings) → Key → Type 0
-AgreeAt told wanted key.Group = told.settings.group ≡ wanted.settings.group
-AgreeAt told wanted key.Me = told.settings.me ≡ wanted.settings.me
-AgreeAt told wanted key.Control = told.control ≡ wanted.control
-AgreeAt told wanted key.Preset = told.preset ≡ wanted.preset
-AgreeAt told wanted key.Join = told.join.items ≡ wanted.join.items
-AgreeAt told wanted _ = Unit
-
--- both say the same at each key that the words name
-abbrev pub AgreeAtAll : (told wanted : RunSettings) → Given → Type 0
-AgreeAtAll told wanted given = (key : Key) → IsNamedBy given key → AgreeAt told wanted key
+-- the words name the key, and the file has something else there
+abbrev pub ClashAt : (told wanted : RunSettings) → (joins_same : Bool) → Given → Key → Type 0
+ClashAt told wanted joins_same given key.Group =
+    (given.group ≡ true) × (told.settings.group ≢ wanted.settings.group)
+ClashAt told wanted joins_same given key.Me = told.settings.me ≢ wanted.settings.me
+ClashAt told wanted joins_same given key.Control =
+    (given.control ≡ true) × (told.control ≢ wanted.control)
+ClashAt told wanted joins_same given key.Preset =
+    (given.preset ≡ true) × (told.preset ≢ wanted.preset)
+ClashAt told wanted joins_same given key.Join = (given.join ≡ true) × (joins_same ≡ false)
+ClashAt told wanted joins_same given _ = ⊥

@@ -1,7 +1,7 @@
 //! Where words and the settings of a file say different things.
 
-ghost use Rattle.std.specs.Prelude.{◌≡◌, ◌≢◌, ◌×◌, ◌↔◌, IsTrue, IfSome, IfNone, true, false, Some, None};
-ghost use Rattle.swim_up.specs.Clash.{AgreeAt, AgreeAtAll, IsNamedBy};
+ghost use Rattle.std.specs.Prelude.{IfSome, IfNone};
+ghost use Rattle.swim_up.specs.Clash.{AgreeAtAll, ClashAt};
 
 use swim_settings::{Key, RunSettings};
 
@@ -14,18 +14,16 @@ pub(crate) struct Given {
     pub(crate) join: bool,
 }
 
-/// Whether both join the same, in the same order.
-fn joins_same(told: &RunSettings, wanted: &RunSettings) -> bool
-    ensures { IsTrue result ↔ (told.now.join.items ≡ wanted.now.join.items) }
-{
-    told.join.as_slice() == wanted.join.as_slice()
-}
-
-/// The first key that the words name and at which the file has something else; none where they agree.
-pub(crate) fn clash_of(told: &RunSettings, wanted: &RunSettings, given: Given) -> Option<Key>
-    ensures agree { IfNone result (AgreeAtAll told.now wanted.now given) }
-    ensures clash { IfSome result (λ key. IsNamedBy given key
-        × (AgreeAt told.now wanted.now key → ⊥)) }
+/// The first key that the words name and at which the file has something else; none where they agree. Whether both join the same is
+/// told.
+pub(crate) fn clash_of(
+    told: &RunSettings,
+    wanted: &RunSettings,
+    joins_same: bool,
+    given: Given,
+) -> Option<Key>
+    ensures agree { IfNone result (AgreeAtAll told.now wanted.now joins_same given) }
+    ensures clash { IfSome result (ClashAt told.now wanted.now joins_same given) }
 {
     if given.group && told.settings.group != wanted.settings.group {
         Some(Key::Group)
@@ -35,7 +33,7 @@ pub(crate) fn clash_of(told: &RunSettings, wanted: &RunSettings, given: Given) -
         Some(Key::Control)
     } else if given.preset && told.preset != wanted.preset {
         Some(Key::Preset)
-    } else if given.join && !joins_same(told, wanted) {
+    } else if given.join && !joins_same {
         Some(Key::Join)
     } else {
         None

@@ -1,6 +1,6 @@
 //! What a member lacks.
 
-ghost use Rattle.std.specs.Prelude.{◌≡◌, ◌↔◌, ◌×◌, true, false};
+ghost use Rattle.std.specs.Prelude.{◌≡◌, ◌↔◌, true, false};
 ghost use Rattle.swim_up.specs.Lacking.{lacking_of};
 
 /// What is to be made of a member before it runs.

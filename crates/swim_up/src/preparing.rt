@@ -158,7 +158,8 @@ fn keep(rt: &HostRuntime, paths: &Paths, words: &UpWords<'_>, usual: &str) -> Re
     let told = settings_at(rt, paths.settings.as_str())?;
     let text = settings_text(alloc, told.file.as_str(), words, usual).map_err(lacks_memory)?;
     let wanted = wanted_by(alloc, text.as_str(), words)?;
-    if let Some(key) = clash_of(&told, &wanted, given_by(words)) {
+    let joins_same = told.join.as_slice() == wanted.join.as_slice();
+    if let Some(key) = clash_of(&told, &wanted, joins_same, given_by(words)) {
         return Err(clashes(alloc, paths, &told, &wanted, key));
     }
     match lacking_of(true, is_there(rt, "state file", told.file.as_str())?) {

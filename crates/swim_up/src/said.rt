@@ -1,7 +1,7 @@
 //! What settings say at a key that words may name.
 
 use std::fmt::{self, Display, Formatter};
-use swim_settings::{Key, Place, RunSettings};
+use swim_settings::{Key, Place, Preset, RunSettings};
 use swim_words::Word;
 
 /// What settings say at a key that words may name.
@@ -28,6 +28,14 @@ impl Display for Places<'_> {
     }
 }
 
+/// The name of a preset, if there is one.
+fn name_of(preset: Option<Preset>) -> &'static str {
+    match preset {
+        Some(preset) => preset.text(),
+        None => "none",
+    }
+}
+
 impl Display for Said<'_> {
     fn fmt<W: fmt::Write>(&self, f: &mut Formatter<W>) -> fmt::Result {
         let run = self.run;
@@ -35,7 +43,7 @@ impl Display for Said<'_> {
             Key::Group => write!(f, "{}", run.settings.group),
             Key::Me => write!(f, "{}", run.settings.me),
             Key::Control => write!(f, "{}", run.control),
-            Key::Preset => write!(f, "{}", run.preset.map(Word::text).unwrap_or("none")),
+            Key::Preset => write!(f, "{}", name_of(run.preset)),
             _ => write!(f, "{}", Places(run.join.as_slice())),
         }
     }

@@ -57,8 +57,9 @@ pub(crate) fn settings_text(
     usual: &str,
 ) -> Result<String, AllocError> {
     let mut text = String::from_str(alloc, HEAD)?;
+    let group = i64::try_from(words.group()).unwrap_or(i64::MAX);
     add_text(alloc, &mut text, Key::File, file)?;
-    add(&mut text, Key::Group, Value::Integer(words.group() as i64))?;
+    add(&mut text, Key::Group, Value::Integer(group))?;
     add_text(alloc, &mut text, Key::Me, words.me)?;
     add_text(
         alloc,
