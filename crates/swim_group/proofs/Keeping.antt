@@ -108,7 +108,7 @@ breaks-nothing told sender Passed u s b = let less : u.number < u.number = b.1 u
 breaks-nothing told sender WentBack u s b = let low : b.1.0 ≤ u.number = s.own b.0 b.1.0 b.1.1 in let less : u.number < b.1.0 = b.1.2 in absurd (omega arith)
 
 -- what keeps the law is refused for nothing but want of memory
-refused-lawful : (sent : List Out) (d : Datagram) (fault : CheckFault) → MayFollow sent d → IsBroken sent d fault → fault ≡ NoMemory
+pub refused-lawful : (sent : List Out) (d : Datagram) (fault : CheckFault) → MayFollow sent d → IsBroken sent d fault → fault ≡ NoMemory
 refused-lawful sent d NoMemory follows broken = refl
 refused-lawful sent d (Broken u breach) follows broken =
     absurd (breaks-nothing (HasTold sent) d.sender breach u (All-contains (MaySay (HasTold sent) d.sender) d.updates.items u (All-from_recursion (MaySay (HasTold sent) d.sender) d.updates.items follows) broken.0) broken.1)

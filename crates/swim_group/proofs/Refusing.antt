@@ -31,10 +31,10 @@ use Rattle.swim_group.specs.declared.fault.NodesFault.TheVariants.{Unfit, NotOpe
 use Rattle.swim_group.specs.declared.fault.NodesFault.TheVariants as nodes
 use Rattle.swim_group.specs.declared.seat.Seat.{Seat}
 use Rattle.swim_group.specs.Real.{MayBegin}
-use Rattle.swim_group.specs.RealNodes.{RealNodes, NodeDisk}
+use Rattle.swim_group.specs.RealNodes.{RealNodes, NodeDisk, LeavesThere}
 use Rattle.swim_group.specs.Refusing.{IsNoLimit, IsUnrecovered, IsUnopened, IsUnopenedFirst, IsNotMade, IsUnentered, IsUnseated, AreUnbegun, IsDeaf, IsShut, IsUnheard, IsNoStep, IsNoDelivery, IsNoOpening, IsAbsent}
 use Rattle.swim_group.proofs.Holding.{get-at}
-use Rattle.swim_group.proofs.Seating.{real, seat_left, set-back, left-at}
+use Rattle.swim_group.proofs.Seating.{real, set-back, left-at}
 
 -- Files
 
@@ -157,14 +157,13 @@ module _ (seats : List Seat) (kept : List Out) (room limit which : ℕ) (old : S
   pub absent : (fault : NodesFault) → fault ≡ Gone → old.node ≡ None → IsAbsent (real seats kept room limit) which fault
   absent fault is gone = subst (IsAbsent (real seats kept room limit) which) (sym is) (record { seat = old; found = get-at seats which old there at; has = gone })
 
-  pub no-opening : (new : Seat) → new ≡ seat_left old → (fault : NodesFault) → IsShut old limit fault → IsNoOpening (real seats kept room limit) (real (slice_set seats which new) kept room limit) which fault
-  no-opening new is Gone h =
-      let same : new ≡ old = is ∙ ap (λ n. record old { node = n }) (sym h) in (
-        record { seat = old; found = get-at seats which old there at; has = h },
-        ap (λ ss. real ss kept room limit) (ap (slice_set seats which) same ∙ set-back seats which old there at),
-      )
-  no-opening new is (NotOpened why) h = (record { seat = old; found = get-at seats which old there at; has = h }, left-at seats kept room limit which old new there at is)
-  no-opening new is _ h = absurd h
+  pub no-opening : (new : Seat) (fault : NodesFault) → LeavesThere old new fault → IsShut old limit fault → IsNoOpening (real seats kept room limit) (real (slice_set seats which new) kept room limit) which fault
+  no-opening new Gone is h = (
+    record { seat = old; found = get-at seats which old there at; has = h },
+    ap (λ ss. real ss kept room limit) (ap (slice_set seats which) is ∙ set-back seats which old there at),
+  )
+  no-opening new (NotOpened why) is h = (record { seat = old; found = get-at seats which old there at; has = h }, left-at seats kept room limit which old new there at is)
+  no-opening new _ is h = absurd h
 
 pub no-step : (g : RealNodes) (which : ℕ) (event : Event) (fault : NodesFault) → IsUnheard g which fault → IsNoStep g which event fault
 no-step g which event Readable h = absurd h.has

@@ -1,5 +1,5 @@
 -- Real nodes after a move of one of them.
-use Rattle.std.proofs.Common.{◌≡◌, ℕ, ◌+◌, ◌<◌, ◌==◌, length, slice_index_or, arith, map, refl, sym, ◌∙◌, ap, subst, List, [], ◌∷◌, ◌++◌, take, zero, suc, Some, None, slice_get, slice_set}
+use Rattle.std.proofs.Common.{◌≡◌, ℕ, ◌+◌, ◌<◌, ◌==◌, length, slice_index_or, arith, map, refl, sym, ◌∙◌, ap, subst, List, [], ◌∷◌, ◌++◌, take, zero, suc, Some, None, slice_get, slice_set, append-nil}
 use Rattle.std.specs.List.{AllByRecursion, IsDistinct}
 use Rattle.swim_wire.specs.Spelling.{HasText}
 use Rattle.swim_member.specs.declared.answer.Out.{Out}
@@ -12,10 +12,12 @@ use Rattle.swim_node.specs.Lives.{Life, IsLived, IsLiving, MayEnd, life_of}
 use Rattle.swim_node.specs.Node.{NodeView, owner_of}
 use Rattle.swim_disk.specs.declared.mem.Choice.{Choice}
 use Rattle.swim_group.specs.declared.failure.Failure.{Failure}
+use Rattle.swim_group.specs.declared.fault.NodesFault.{NodesFault}
+use Rattle.swim_group.specs.declared.fault.NodesFault.TheVariants.{Gone}
 use Rattle.swim_group.specs.declared.seat.Seat.{Seat}
 use Rattle.swim_group.specs.Network.{WasSent, IsNotInvented}
 use Rattle.swim_group.specs.Nodes.{NodeGroup, NodeMove, Calls, Rebases, Opens, NodeMayMove, LivesAt, IsMoveOf, IsNodeRun, IsOpened, name_in, node_of, life_after, sent_in, moved_at, after_node_move, after_node_moves, members_of}
-use Rattle.swim_group.specs.RealNodes.{RealNodes, NodeDisk, node_disk_state, IsLifeOf, IsLifeIn, SitsThere, AreLivesOf, HasNodeRun, HasSoundNodeRun, HearsThere, HearsAt, OpensThere, OpensAt, LeavesAt, EraEndsThere, EraEndsAt, PlansThere, PlansAt, IsNewNode, AreNewNodes}
+use Rattle.swim_group.specs.RealNodes.{RealNodes, NodeDisk, node_disk_state, IsLifeOf, IsLifeIn, SitsThere, AreLivesOf, HasNodeRun, HasSoundNodeRun, HearsThere, HearsAt, OpensThere, OpensAt, LeavesThere, LeavesAt, seat_left, EraEndsThere, EraEndsAt, PlansThere, PlansAt, IsNewNode, AreNewNodes}
 use Rattle.swim_group.specs.Real.{MayBegin, names_in}
 use Rattle.swim_detect.proofs.Lists.{all-append, all-weaker, all-take}
 use Rattle.swim_group.proofs.Telling.{told-kept}
@@ -26,10 +28,6 @@ use Rattle.swim_group.proofs.Calling.{get-set, life_with}
 use Rattle.swim_group.proofs.Naming.{take-last}
 
 -- Seats
-
--- a seat of which the node is gone
-abbrev pub seat_left : Seat → Seat
-seat_left seat = record seat { node = None }
 
 -- who sits in a place lives the life in that place
 pub record Sitting (lives : List (Life NodeDisk)) (which : ℕ) (seat : Seat) : Type 0 where
@@ -93,15 +91,20 @@ module _ (g : NodeGroup NodeDisk) (which : ℕ) (life : Life NodeDisk) (found : 
       let is : IsLifeOf (life_of at.settings at.limit at.opened at.eras next) next = record { same = refl; living = at.living } in
       subst (λ l. IsLifeOf l next) (sym same) is
 
+-- the nodes of a run live so after one more move, by which this was sent
+pub record GoesOn (seats : List Seat) (kept : List Out) (h : HasNodeRun seats kept) (later : List Seat) (after more : List Out) : Type 0 where
+  pub next : HasNodeRun later after
+  pub sent : (after_node_moves next.group next.moves).sent ≡ (after_node_moves h.group h.moves).sent ++ more
+
 -- the run goes on with a move of a node that sits in a place
-pub went-on : (seats : List Seat) (kept more : List Out) (which : ℕ) (seat next : Seat) (before after : NodeView NodeDisk) (if_so : List Out → Type 0) (move : ℕ → NodeMove NodeDisk)
+went-on : (seats : List Seat) (kept more : List Out) (which : ℕ) (seat next : Seat) (before after : NodeView NodeDisk) (if_so : List Out → Type 0) (move : ℕ → NodeMove NodeDisk)
     → slice_get seats which ≡ Some seat → seat.node ≡ Some before → next.settings ≡ seat.settings → next.node ≡ Some after
     → IsMoveOf node_disk_state before after if_so move → node_of (move which) ≡ which
     → ((life : Life NodeDisk) → SitsThere life seat → owner_of seat.settings ≡ owner_of (life_after (move which) life).settings)
     → ((life : Life NodeDisk) (sent : List Out) → SitsThere life seat → IsLifeOf life before → AreSentIn sent kept → if_so sent)
     → ((sent : List Out) → AreSentIn sent kept → AreSentIn (sent ++ sent_in (move which)) more)
     → AllByRecursion (λ (out : Out). HasText out.datagram) more
-    → HasNodeRun seats kept → HasNodeRun (slice_set seats which next) more
+    → (h : HasNodeRun seats kept) → GoesOn seats kept h (slice_set seats which next) more (sent_in (move which))
 went-on seats kept more which seat next before after if_so move there was same is goes node owned so keeps fit h =
     let end : NodeGroup NodeDisk = after_node_moves h.group h.moves in
     let m : NodeMove NodeDisk = move which in
@@ -119,19 +122,22 @@ went-on seats kept more which seat next before after if_so move there was same i
     let now : after_node_moves h.group (h.moves ++ move which ∷ []) ≡ moved_at (after_node_moves h.group h.moves) (move which) (Some at.life) =
     node-moves-snoc h.moves h.group (move which) ∙ moved-is (after_node_moves h.group h.moves) which at.life at.found (move which) node in
     record {
-      group = h.group;
-      moves = h.moves ++ move which ∷ [];
-      begins = h.begins;
-      run = node-run-snoc h.moves h.group (move which) h.run moved.0;
-      lives = subst (λ (k : NodeGroup NodeDisk). AreLivesOf k.lives (slice_set seats which next)) (sym now)
-          (subst (λ ls. AreLivesOf ls (slice_set seats which next)) (sym (set-is (after_node_moves h.group h.moves) which at.life at.found (move which) node)) lives);
-      sent = subst (λ (k : NodeGroup NodeDisk). AreSentIn k.sent more) (sym now) (keeps (after_node_moves h.group h.moves).sent h.sent);
-      fit = fit;
+      next = record {
+        group = h.group;
+        moves = h.moves ++ move which ∷ [];
+        begins = h.begins;
+        run = node-run-snoc h.moves h.group (move which) h.run moved.0;
+        lives = subst (λ (k : NodeGroup NodeDisk). AreLivesOf k.lives (slice_set seats which next)) (sym now)
+            (subst (λ ls. AreLivesOf ls (slice_set seats which next)) (sym (set-is (after_node_moves h.group h.moves) which at.life at.found (move which) node)) lives);
+        sent = subst (λ (k : NodeGroup NodeDisk). AreSentIn k.sent more) (sym now) (keeps (after_node_moves h.group h.moves).sent h.sent);
+        fit = fit;
+      };
+      sent = ap (λ (k : NodeGroup NodeDisk). k.sent) now;
     }
 
 -- after a call
 pub heard-on : (seats : List Seat) (kept : List Out) (room which : ℕ) (seat next : Seat) (event : Event) (reply : Reply) → slice_get seats which ≡ Some seat → (hears : HearsThere seat next event reply) → IsNotInvented kept event
-    → HasNodeRun seats kept → HasNodeRun (slice_set seats which next) (take room (kept ++ hears.e.outs.items))
+    → (h : HasNodeRun seats kept) → GoesOn seats kept h (slice_set seats which next) (take room (kept ++ hears.e.outs.items)) hears.e.outs.items
 heard-on seats kept room which seat next event reply there hears comes h =
     went-on seats kept (take room (kept ++ hears.e.outs.items)) which seat next hears.before hears.after (λ sent. IsNotInvented sent event) (λ k. Calls k hears.e hears.after.disk) there hears.was (ap (λ (s : Seat). s.settings) hears.is) (ap (λ (s : Seat). s.node) hears.is) hears.moves refl
     (λ life sits. sits.owner) (λ life sent sits alive a. come-kept sent kept a event comes)
@@ -143,7 +149,7 @@ heard-on seats kept room which seat next event reply there hears comes h =
     h
 
 -- after a crash and an opening
-pub opened-on : {choice : Choice} (seats : List Seat) (kept : List Out) (limit which : ℕ) (seat next : Seat) → slice_get seats which ≡ Some seat → OpensThere seat next limit choice → HasNodeRun seats kept → HasNodeRun (slice_set seats which next) kept
+pub opened-on : {choice : Choice} (seats : List Seat) (kept : List Out) (limit which : ℕ) (seat next : Seat) → slice_get seats which ≡ Some seat → OpensThere seat next limit choice → (h : HasNodeRun seats kept) → GoesOn seats kept h (slice_set seats which next) kept []
 opened-on seats kept limit which seat next there opens h =
     went-on seats kept kept which seat next opens.before opens.after (λ sent. owner_of seat.settings ≡ opens.before.owner) (λ k. Opens k seat.settings limit opens.after.first opens.opened opens.after.disk) there opens.was (ap (λ (s : Seat). s.settings) opens.is) (ap (λ (s : Seat). s.node) opens.is) opens.moves refl
     (λ life sits. refl) (λ life sent sits alive a. sits.owner ∙ sym alive.living.same_owner)
@@ -151,16 +157,19 @@ opened-on seats kept limit which seat next there opens h =
     h.fit h
 
 -- a seat in which the same life goes on
-reseated : (seats : List Seat) (kept : List Out) (which : ℕ) (seat next : Seat) → slice_get seats which ≡ Some seat → ((life : Life NodeDisk) → SitsThere life seat → SitsThere life next) → HasNodeRun seats kept → HasNodeRun (slice_set seats which next) kept
+reseated : (seats : List Seat) (kept : List Out) (which : ℕ) (seat next : Seat) → slice_get seats which ≡ Some seat → ((life : Life NodeDisk) → SitsThere life seat → SitsThere life next) → (h : HasNodeRun seats kept) → GoesOn seats kept h (slice_set seats which next) kept []
 reseated seats kept which seat next there keeps h =
     record {
-      group = h.group;
-      moves = h.moves;
-      begins = h.begins;
-      run = h.run;
-      lives = alone (after_node_moves h.group h.moves).lives seats which h.lives there;
-      sent = h.sent;
-      fit = h.fit;
+      next = record {
+        group = h.group;
+        moves = h.moves;
+        begins = h.begins;
+        run = h.run;
+        lives = alone (after_node_moves h.group h.moves).lives seats which h.lives there;
+        sent = h.sent;
+        fit = h.fit;
+      };
+      sent = sym (append-nil (after_node_moves h.group h.moves).sent);
     }
   where
     alone : (lives : List (Life NodeDisk)) (ss : List Seat) (k : ℕ) → AreLivesOf lives ss → slice_get ss k ≡ Some seat → AreLivesOf lives (slice_set ss k next)
@@ -173,18 +182,18 @@ reseated seats kept which seat next there keeps h =
     alone (l ∷ lives) (t ∷ ss) (suc k) a e = (a.0, alone lives ss k a.1 e)
 
 -- a node that is gone
-pub gone-on : (seats : List Seat) (kept : List Out) (which : ℕ) (seat : Seat) → slice_get seats which ≡ Some seat → HasNodeRun seats kept → HasNodeRun (slice_set seats which (seat_left seat)) kept
+pub gone-on : (seats : List Seat) (kept : List Out) (which : ℕ) (seat : Seat) → slice_get seats which ≡ Some seat → (h : HasNodeRun seats kept) → GoesOn seats kept h (slice_set seats which (seat_left seat)) kept []
 gone-on seats kept which seat there h =
     reseated seats kept which seat (seat_left seat) there (λ life sits. record { owner = sits.owner; sound = sits.sound; alive = tt {0} }) h
 
 -- a node of whose disk a failure is planned
-pub planned-on : (seats : List Seat) (kept : List Out) (which : ℕ) (seat next : Seat) (failure : Failure) → slice_get seats which ≡ Some seat → PlansThere seat next failure → HasNodeRun seats kept → HasNodeRun (slice_set seats which next) kept
+pub planned-on : (seats : List Seat) (kept : List Out) (which : ℕ) (seat next : Seat) (failure : Failure) → slice_get seats which ≡ Some seat → PlansThere seat next failure → (h : HasNodeRun seats kept) → GoesOn seats kept h (slice_set seats which next) kept []
 planned-on seats kept which seat next failure there plans h =
     reseated seats kept which seat next there
     (λ life sits. subst (SitsThere life) (sym plans.is) (record { owner = sits.owner; sound = sits.sound; alive = sits.alive })) h
 
 -- after an era
-pub ended-on : (seats : List Seat) (kept : List Out) (which : ℕ) (seat next : Seat) → slice_get seats which ≡ Some seat → EraEndsThere seat next → HasNodeRun seats kept → HasNodeRun (slice_set seats which next) kept
+pub ended-on : (seats : List Seat) (kept : List Out) (which : ℕ) (seat next : Seat) → slice_get seats which ≡ Some seat → EraEndsThere seat next → (h : HasNodeRun seats kept) → GoesOn seats kept h (slice_set seats which next) kept []
 ended-on seats kept which seat next there ends h =
     went-on seats kept kept which seat next ends.before ends.after (λ sent. Unit {0}) (λ k. Rebases k) there ends.was (ap (λ (s : Seat). s.settings) ends.is) (ap (λ (s : Seat). s.node) ends.is) ends.moves refl
     (λ life sits. sits.owner) (λ life sent sits alive a. tt {0})
@@ -227,7 +236,14 @@ heard-at seats kept after room limit which old new event reply l at hears keeps 
 pub heard-run : (seats : List Seat) (kept after : List Out) (room which : ℕ) (old new : Seat) (event : Event) (reply : Reply) → which < length seats → old ≡ slice_index_or seats which old → (hears : HearsThere old new event reply) → after ≡ take room (kept ++ hears.e.outs.items) → IsNotInvented kept event
     → HasNodeRun seats kept → HasNodeRun (slice_set seats which new) after
 heard-run seats kept after room which old new event reply l at hears keeps comes h =
-    subst (HasNodeRun (slice_set seats which new)) (sym keeps) (heard-on seats kept room which old new event reply (get-at seats which old l at) hears comes h)
+    subst (HasNodeRun (slice_set seats which new)) (sym keeps) (heard-on seats kept room which old new event reply (get-at seats which old l at) hears comes h).next
+
+pub left-on : (seats : List Seat) (kept : List Out) (which : ℕ) (old new : Seat) (fault : NodesFault) → which < length seats → old ≡ slice_index_or seats which old → LeavesThere old new fault → (h : HasNodeRun seats kept) → GoesOn seats kept h (slice_set seats which new) kept []
+left-on seats kept which old new Gone l at is h =
+    subst (λ (ss : List Seat). GoesOn seats kept h ss kept []) (sym (ap (slice_set seats which) is ∙ set-back seats which old l at))
+    (record { next = h; sent = sym (append-nil (after_node_moves h.group h.moves).sent) })
+left-on seats kept which old new _ l at is h =
+    subst (λ (s : Seat). GoesOn seats kept h (slice_set seats which s) kept []) (sym is) (gone-on seats kept which old (get-at seats which old l at) h)
 
 pub opened-at : {choice : Choice} (seats : List Seat) (kept : List Out) (room limit which : ℕ) (old new : Seat) → which < length seats → old ≡ slice_index_or seats which old → OpensThere old new limit choice
     → OpensAt (real seats kept room limit) (real (slice_set seats which new) kept room limit) which choice

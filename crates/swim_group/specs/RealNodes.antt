@@ -22,6 +22,8 @@ use Rattle.swim_node.specs.Lives.{Life, IsLiving, life_of}
 use Rattle.swim_node.specs.Node.{NodeView, owner_of, next_base}
 use Rattle.swim_node.specs.Sending.{HasTexts}
 use Rattle.swim_group.specs.declared.failure.Failure.{Failure}
+use Rattle.swim_group.specs.declared.fault.NodesFault.{NodesFault}
+use Rattle.swim_group.specs.declared.fault.NodesFault.TheVariants.{Gone}
 use Rattle.swim_group.specs.declared.seat.Seat.{Seat}
 use Rattle.swim_group.specs.Network.{WasSent, IsNotInvented}
 use Rattle.swim_group.specs.Nodes.{NodeGroup, NodeMove, Calls, Rebases, Opens, NodesBegin}
@@ -90,6 +92,11 @@ pub record HasSoundNodeRun (view : RealNodes) : Type 0 where
   pub within : AllByRecursion (IsUnpassed (members_of (after_node_moves ran.group ran.moves)))
       (members_of (after_node_moves ran.group ran.moves)).places
 
+-- this is so of all that was sent in a run after which the nodes live so
+pub record HasSent (view : RealNodes) (P : List Out → Type 0) : Type 0 where
+  pub ran : HasNodeRun view.seats view.kept
+  pub all : P (after_node_moves ran.group ran.moves).sent
+
 -- this node sits there now, and all else is as it was
 abbrev pub seat_with : Seat → NodeView NodeDisk → Seat
 seat_with seat node = record seat { node = Some node }
@@ -156,13 +163,20 @@ pub record OpensAt (old new : RealNodes) (which : ℕ) (choice : Choice) : Type 
   pub opens : OpensThere seat next old.limit choice
   pub is : new ≡ record old { seats = slice_set old.seats which next }
 
+-- who sat there is gone with its disk, of which nothing is planned any more
+abbrev pub seat_left : Seat → Seat
+seat_left seat = record seat { node = None; planned = None }
+
+-- who sat there is gone by this refusal, or was before
+abbrev pub LeavesThere : Seat → Seat → NodesFault → Type 0
+LeavesThere old new Gone = new ≡ old
+LeavesThere old new _ = new ≡ seat_left old
+
 -- who sat there is gone, and nothing else changed
 pub record LeavesAt (old new : RealNodes) (which : ℕ) : Type 0 where
   pub seat : Seat
   pub found : slice_get old.seats which ≡ Some seat
-  pub is : new ≡ record old {
-    seats = slice_set old.seats which (record seat { node = None });
-  }
+  pub is : new ≡ record old { seats = slice_set old.seats which (seat_left seat) }
 
 -- the era of the node that sits there ended. In each group in which it lives that is its next move
 pub record EraEndsThere (old new : Seat) : Type 0 where

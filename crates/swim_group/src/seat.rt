@@ -8,15 +8,15 @@ ghost use Rattle.swim_node.specs.declared.entry.Entry.{Entry as Entries};
 ghost use Rattle.swim_node.specs.Node.{NodeView, owner_of};
 ghost use Rattle.swim_state.specs.File.{floor, IsSound};
 ghost use Rattle.swim_group.specs.declared.fault.NodesFault.TheVariants as nodes;
-ghost use Rattle.swim_group.specs.RealNodes.{NodeDisk as Disks, node_disk_state, HearsThere, OpensThere, EraEndsThere, PlansThere, IsNewNode, AreNewNodes};
+ghost use Rattle.swim_group.specs.RealNodes.{NodeDisk as Disks, node_disk_state, HearsThere, OpensThere, LeavesThere, EraEndsThere, PlansThere, IsNewNode, AreNewNodes};
 ghost use Rattle.swim_group.specs.Refusing.{IsDeaf, IsShut, IsNoLimit, IsNotMade, IsUnseated};
 
-use crate::failure::{Failure, plan_only};
+use crate::failure::{Failure, Planned};
 use crate::fault::NodesFault;
 use crate::node::{crash, hear, open_again, rebase};
 use crate::step::keep;
 use std::alloc::Global;
-use swim_disk::{Choice, FaultDisk, MemDisk, Plan};
+use swim_disk::{Choice, FaultDisk, MemDisk};
 use swim_member::{Event, OUTS_MAX, Out, Settings};
 use swim_node::{Link, LinkFault, Node, Reply, Tag};
 use swim_state::{InitFault, Owner, init};
@@ -32,9 +32,8 @@ pub struct Seat {
     pub settings: Settings,
     /// The node.
     pub node: Option<Node<NodeDisk>>,
-    /// The failure that was planned last of its disk, if one was since it was opened.
-    pub planned: Option<Failure>,
-    plan: Plan,
+    /// What is planned of its disk.
+    pub planned: Planned,
 }
 
 /// A link that takes every datagram and tells nothing of it: what becomes of them is the network's.
@@ -106,16 +105,15 @@ pub(crate) fn open_there(
         → owner_of seat.old.settings ≡ node.owner }
     ensures ok { OnOk result (OpensThere seat.old seat.new limit choice) }
     ensures refused { IfErr result (λ fault. IsShut seat.old limit fault) }
-    ensures err { OnErr result (seat.new ≡ record seat.old { node = None }) }
+    ensures err { IfErr result (LeavesThere seat.old seat.new) }
 {
     let Some(node) = seat.node.take() else {
         return Err(NodesFault::Gone);
     };
-    seat.plan.clear();
+    seat.planned.clear();
     match crash(alloc, node, choice, seat.settings, limit) {
         Ok(node) => {
             seat.node = Some(node);
-            seat.planned = None;
             Ok(())
         }
         Err((_, fault)) => Err(NodesFault::NotOpened(fault)),
@@ -144,8 +142,7 @@ pub(crate) fn plan_there(seat: &mut Seat, failure: Failure) -> Result<(), NodesF
     if seat.node.is_none() {
         return Err(NodesFault::Gone);
     }
-    plan_only(&seat.plan, failure);
-    seat.planned = Some(failure);
+    seat.planned.set(failure);
     Ok(())
 }
 
@@ -204,8 +201,7 @@ fn first_seat(
     let mut seat = Seat {
         settings,
         node: None,
-        planned: None,
-        plan,
+        planned: Planned::new(plan),
     };
     first_there(alloc, &mut seat, disk, limit)?;
     Ok(seat)

@@ -1,4 +1,4 @@
-use Rattle.std.proofs.Common.{◌≡◌, refl, sym, ◌∙◌, List, ℕ, Some}
+use Rattle.std.proofs.Common.{◌≡◌, ap, sym, ◌∙◌, List, ℕ, Some}
 use Rattle.swim_group.specs.RealNodes.{node_disk_state}
 use Rattle.swim_group.specs.Refusing.{IsUnopened}
 use Rattle.swim_group.proofs.seat.open_there.Goals as goal
@@ -9,7 +9,7 @@ returns-in-Ok-clause-ok c = record {
   after = c.in-Ok.node;
   opened = c.in-Ok.ensures.moved.0;
   was = sym c.take.ensures.value ∙ c.in-Some.is;
-  is = refl;
+  is = ap (λ p. record c.args.seat.now { node = Some c.in-Ok.node; planned = p }) c.clear.ensures;
   base = c.in-Ok.ensures.fresh.0;
   entries = c.in-Ok.ensures.fresh.1;
   left = c.in-Ok.ensures.moved.1;

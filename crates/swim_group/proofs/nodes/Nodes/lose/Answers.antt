@@ -17,7 +17,7 @@ module _ (c : goal.After-swap_remove) where
   left : HasNodeRun c.self.inside.seats.items c.swap_remove.new.self.items
   left =
       subst (HasNodeRun c.self.inside.seats.items) (sym c.swap_remove.ensures.items)
-      (left-run c.self.inside.seats.items c.self.inside.kept.items c.args.datagram c.swap_remove.result found c.self.invariant.0)
+      (left-run c.self.inside.seats.items c.self.inside.kept.items c.args.datagram c.swap_remove.result found c.self.invariant.0).next
 
 pub returns-clause-ok : goal.returns-clause-ok
 returns-clause-ok c = rw (← c.self.view_is) record {

@@ -17,7 +17,7 @@ returns-in-Err-clause-run c =
 pub invariant_of-self-2 : goal.invariant_of-self-2
 invariant_of-self-2 c =
     let there : c.args.node < length c.self.inside.seats.items = search rules in
-    (planned-on c.self.inside.seats.items c.self.inside.kept.items c.args.node c.index_mut.result.now c.plan_there.new.seat c.args.failure (get-at c.self.inside.seats.items c.args.node c.index_mut.result.now there c.index_mut.ensures.value) c.in_default.ensures.ok c.self.invariant.0, c.self.invariant.1)
+    ((planned-on c.self.inside.seats.items c.self.inside.kept.items c.args.node c.index_mut.result.now c.plan_there.new.seat c.args.failure (get-at c.self.inside.seats.items c.args.node c.index_mut.result.now there c.index_mut.ensures.value) c.in_default.ensures.ok c.self.invariant.0).next, c.self.invariant.1)
 
 pub returns-clause-ok : goal.returns-clause-ok
 returns-clause-ok c =
@@ -29,7 +29,7 @@ pub returns-clause-run : goal.returns-clause-run
 returns-clause-run c =
     let there : c.args.node < length c.self.inside.seats.items = search rules in
     sound-node-run (real (slice_set c.self.inside.seats.items c.args.node c.plan_there.new.seat) c.self.inside.kept.items c.self.inside.room c.self.inside.limit)
-    (planned-on c.self.inside.seats.items c.self.inside.kept.items c.args.node c.index_mut.result.now c.plan_there.new.seat c.args.failure (get-at c.self.inside.seats.items c.args.node c.index_mut.result.now there c.index_mut.ensures.value) c.in_default.ensures.ok c.self.invariant.0)
+    (planned-on c.self.inside.seats.items c.self.inside.kept.items c.args.node c.index_mut.result.now c.plan_there.new.seat c.args.failure (get-at c.self.inside.seats.items c.args.node c.index_mut.result.now there c.index_mut.ensures.value) c.in_default.ensures.ok c.self.invariant.0).next
 
 pub returns-in-Err-clause-refused : goal.returns-in-Err-clause-refused
 returns-in-Err-clause-refused c =
