@@ -17,7 +17,7 @@ use Rattle.swim_group.specs.declared.fault.NodesFault.TheVariants.{Gone}
 use Rattle.swim_group.specs.declared.seat.Seat.{Seat}
 use Rattle.swim_group.specs.Network.{WasSent, IsNotInvented}
 use Rattle.swim_group.specs.Nodes.{NodeGroup, NodeMove, Calls, Rebases, Opens, NodeMayMove, LivesAt, IsMoveOf, IsNodeRun, IsOpened, name_in, node_of, life_after, sent_in, moved_at, after_node_move, after_node_moves, members_of}
-use Rattle.swim_group.specs.RealNodes.{RealNodes, NodeDisk, node_disk_state, IsLifeOf, IsLifeIn, SitsThere, AreLivesOf, HasNodeRun, HasSoundNodeRun, HearsThere, HearsAt, OpensThere, OpensAt, LeavesThere, LeavesAt, seat_left, EraEndsThere, EraEndsAt, PlansThere, PlansAt, IsNewNode, AreNewNodes}
+use Rattle.swim_group.specs.RealNodes.{RealNodes, NodeDisk, node_disk_state, IsLifeOf, IsLifeIn, SitsThere, AreLivesOf, HasNodeRun, HasSent, HasSoundNodeRun, HearsThere, HearsAt, OpensThere, OpensAt, LeavesThere, LeavesAt, seat_left, EraEndsThere, EraEndsAt, PlansThere, PlansAt, IsNewNode, AreNewNodes}
 use Rattle.swim_group.specs.Real.{MayBegin, names_in}
 use Rattle.swim_detect.proofs.Lists.{all-append, all-weaker, all-take}
 use Rattle.swim_group.proofs.Telling.{told-kept}
@@ -322,16 +322,22 @@ first-lives limit (s ∷ settings) (seat ∷ seats) sound a =
       sit = (subst (SitsThere (life_of s limit first.opened [] first.node)) (sym first.is) sits, rest.sit);
     }
 
--- new nodes have run
-pub nodes-new : (limit : ℕ) (settings : List Settings) (seats : List Seat) → MayBegin settings → AreNewNodes limit settings seats → HasNodeRun seats []
-nodes-new limit settings seats may first =
+-- new nodes have run, and have sent nothing
+pub nodes-begun : (limit : ℕ) (settings : List Settings) (seats : List Seat) (room most : ℕ) (P : List Out → Type 0) → MayBegin settings → AreNewNodes limit settings seats → P [] → HasSent (real seats [] room most) P
+nodes-begun limit settings seats room most P may first none =
     let has : HasLives settings seats = first-lives limit settings seats (all-of AreSound settings may.sound) first in
     record {
-      group = record { lives = has.lives; sent = [] };
-      moves = [];
-      begins = record { opened = has.opened; names = subst (IsDistinct (λ x y. x == y)) (sym has.names) may.names; sent = refl };
-      run = tt {0};
-      lives = has.sit;
-      sent = tt {0};
-      fit = tt {0};
+      ran = record {
+        group = record { lives = has.lives; sent = [] };
+        moves = [];
+        begins = record { opened = has.opened; names = subst (IsDistinct (λ x y. x == y)) (sym has.names) may.names; sent = refl };
+        run = tt {0};
+        lives = has.sit;
+        sent = tt {0};
+        fit = tt {0};
+      };
+      all = none;
     }
+
+pub nodes-new : (limit : ℕ) (settings : List Settings) (seats : List Seat) → MayBegin settings → AreNewNodes limit settings seats → HasNodeRun seats []
+nodes-new limit settings seats may first = (nodes-begun limit settings seats 0 0 (λ sent. Unit {0}) may first (tt {0})).ran

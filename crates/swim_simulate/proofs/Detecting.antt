@@ -1,6 +1,5 @@
 -- What a run looks for is what the law of detection says.
-use Rattle.std.proofs.Common.{◌≡◌, ◌≢◌, ℕ, ◌+◌, ◌-◌, ◌%◌, ◌<◌, ◌≤◌, ◌==◌, ◌&&◌, nat_le, nat_lt, not, Bool, true, false, cond, refl, sym, ◌∙◌, ap, subst, inl, inr, ◌⊎◌, List, [], ◌∷◌, ◌++◌, Option, Some, None, arith}
-use Rattle.std.specs.List.{AllByRecursion}
+use Rattle.std.proofs.Common.{◌≡◌, ℕ, ◌+◌, ◌-◌, ◌%◌, ◌≤◌, ◌==◌, ◌&&◌, nat_le, nat_lt, not, Bool, true, false, cond, refl, sym, ◌∙◌, ap, subst, inl, inr, List, [], ◌∷◌, ◌++◌, Option, Some, None, arith}
 use Rattle.std.proofs.lemmas.Bool.{cases_Bool, eqb-true, eq-eqb, and_parts, false≢true, le-leb, leb-true, ltb-true, ltb-false}
 use Rattle.swim_wire.specs.declared.update.Update.{Update}
 use Rattle.swim_wire.specs.declared.update.UpdateKind.{UpdateKind}
@@ -15,22 +14,22 @@ use Rattle.swim_member.specs.declared.state.Probe.{Probe}
 use Rattle.swim_wire.specs.declared.datagram.Datagram.{Datagram}
 use Rattle.swim_member.specs.Checks.{AreSound}
 use Rattle.swim_member.specs.Events.{Step, changes_of, log_after, log_of, state_of}
-use Rattle.swim_member.specs.Judge.{judge, HasDeal}
+use Rattle.swim_member.specs.Judge.{judge}
 use Rattle.swim_member.specs.Member.{is_eligible_name}
 use Rattle.swim_member.specs.Probe.{ends_period, suspect_of}
 use Rattle.swim_member.specs.Readings.{state}
-use Rattle.swim_member.specs.State.{State, Change, Heard, Ticked}
+use Rattle.swim_member.specs.State.{State, Change, Ticked}
 use Rattle.swim_member.specs.Machinery.Steps.{apply}
 use Rattle.swim_member.proofs.FewRows.{order-read}
-use Rattle.swim_detect.specs.Causes.{Has, HasCause, Accused, Expired}
-use Rattle.swim_detect.specs.Finding.{StaysEligible, IsSoundAt, GetsFound, is_waited_for, ticks_left}
+use Rattle.swim_detect.specs.Causes.{HasCause, Accused, Expired}
+use Rattle.swim_detect.specs.Finding.{StaysEligible, GetsFound, is_waited_for}
 use Rattle.swim_detect.proofs.Dues.{KeepsOrLoses, keeps-same}
 use Rattle.swim_detect.proofs.Causing.{CameFrom, Accuses, Ticks_hear, Was_due, Was_accused, there}
 use Rattle.swim_detect.proofs.Caused.{HearsBy, By_datagram, By_tick, accusation, expiry, hears-by}
 use Rattle.swim_detect.proofs.Found.{log-append}
 use Rattle.swim_detect.proofs.Silent.{silent-found}
 use Rattle.swim_simulate.specs.declared.detection.Deadline.{Deadline}
-use Rattle.swim_simulate.specs.Detection.{IsDeadline, IsHeldBriefly, made_of, cause_at_tick, CausesAreNamed, TicksHaveCauses}
+use Rattle.swim_simulate.specs.Detection.{IsHeldBriefly, made_of, cause_at_tick, CausesAreNamed, TicksHaveCauses}
 
 -- Deadlines
 

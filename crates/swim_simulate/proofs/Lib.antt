@@ -1,2 +1,3 @@
 pub mod Planning
 mod Detecting
+pub mod Watching

@@ -3,3 +3,4 @@ pub mod Plan
 pub mod Network
 pub mod Detection
 pub mod Laws
+pub mod Running

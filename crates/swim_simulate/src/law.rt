@@ -1,7 +1,7 @@
 //! The law of a group, held against each datagram that is sent, and that of detection, held against what each member holds.
 
-ghost use Rattle.std.specs.Prelude.{◌≡◌, ◌≢◌, None, OnOk};
-ghost use Rattle.swim_simulate.specs.Laws.{LooksAt, KeepsFirst};
+ghost use Rattle.std.specs.Prelude.{◌≡◌, ◌≢◌, [], None, OnOk, OnErr};
+ghost use Rattle.swim_simulate.specs.Laws.{LooksAt, KeepsFirst, KnowsAll, PassesNext, first_of};
 
 use crate::fault::SimulateFault;
 use crate::shadow::Lapse;
@@ -76,7 +76,8 @@ impl Model for Law {
 impl Law {
     /// Nothing was told yet.
     pub fn new(alloc: Global) -> Law
-        ensures { result.stop ≡ None }
+        ensures stop { result.stop ≡ None }
+        ensures told { KnowsAll result.told [] }
     {
         Law {
             checker: Some(Checker::new(alloc)),
@@ -93,6 +94,7 @@ impl Law {
 
     /// Notes where a law was broken. What was noted first stays.
     pub fn note(&mut self, stop: Stop)
+        ensures stop { self.new.stop ≡ first_of self.old.stop stop }
         ensures first { KeepsFirst self.old self.new }
         ensures said { self.new.stop ≢ None }
         ensures told { self.new.told ≡ self.old.told }
@@ -101,13 +103,18 @@ impl Law {
     }
 
     /// From here on not every datagram is seen.
-    pub fn close(&mut self) {
+    pub fn close(&mut self)
+        ensures told { self.new.told ≡ None }
+        ensures stop { self.new.stop ≡ self.old.stop }
+    {
         self.checker = None;
     }
 
     /// Looks at the datagram that was sent next. `Memory` where there is none to remember it.
     pub fn look(&mut self, tick: u64, datagram: &Datagram) -> Result<(), SimulateFault>
         ensures look { OnOk result (LooksAt self.old self.new datagram.now) }
+        ensures passes { OnOk result (PassesNext self.old self.new datagram.now) }
+        ensures err { OnErr result (self.new ≡ self.old) }
         ensures first { KeepsFirst self.old self.new }
     {
         let Some(checker) = &mut self.checker else {

@@ -5,6 +5,8 @@
 mod detection;
 mod dice;
 mod fault;
+mod flight;
+mod handed;
 mod joining;
 mod key;
 mod law;
@@ -14,12 +16,15 @@ mod place;
 mod plan;
 mod refusal;
 mod run;
+mod scene;
 mod script;
 mod shadow;
 mod views;
+mod watched;
 
 pub use detection::{Deadline, cause_at_tick, looks_keep_the_law};
 pub use fault::SimulateFault;
+pub use handed::{Clock, Handed};
 pub use key::{KEYS, Key, Range};
 pub use law::{Broken, Law, Stop};
 pub use measures::{Counts, Kill, Measures};

@@ -2,6 +2,7 @@
 
 ghost use Rattle.std.specs.Prelude.{◌≡◌, ◌+◌, ◌*◌, ◌<◌};
 ghost use Rattle.swim_simulate.specs.Network.{endpoint_of};
+ghost use Rattle.swim_simulate.specs.Running.{is_awake};
 
 use crate::joining::Joins;
 use crate::key::Key;
@@ -59,7 +60,7 @@ pub(crate) struct Place {
     /// The tick until which it is paused.
     pub(crate) sleeps_until: u64,
     /// How far its clock is to the next tick, in hundredths.
-    pub(crate) clock: u64,
+    pub(crate) clock: u32,
     /// How many of its ticks are left until it draws a new order.
     pub(crate) until_deal: u64,
     /// The order for the next turn list.
@@ -86,7 +87,9 @@ impl Place {
     }
 
     /// Whether it hears what comes to it in this tick: it runs, and is not paused.
-    pub(crate) fn is_awake(&self, now: u64) -> bool {
+    pub(crate) fn is_awake(&self, now: u64) -> bool
+        ensures { result ≡ is_awake now self.now }
+    {
         self.is_up && self.sleeps_until <= now
     }
 

@@ -6,6 +6,7 @@ use crate::detection::{Deadline, cause_at_tick};
 use crate::fault::SimulateFault;
 use crate::place::place_of;
 use std::alloc::Global;
+use std::collections::BTreeMap;
 use swim_member::{Answer, Counts, Judgement, Member, MemberState, Out, Settings};
 use swim_node::Entry;
 use swim_rules::{ROWS_MAX, Row};
@@ -35,8 +36,9 @@ struct Ping {
 #[derive(Drop)]
 struct Allowed {
     me: Endpoint,
-    /// Each Suspect and each Confirm that had a cause.
-    caused: Vec<Update>,
+    /// Each Suspect and each Confirm that had a cause, by the member that it is about.
+    caused: BTreeMap<Endpoint, Vec<Update>>,
+    alloc: Global,
     /// The deadline of each member that may be held for alive or suspected.
     deadlines: Vec<Option<Deadline>>,
     ping: Option<Ping>,
@@ -47,16 +49,27 @@ struct Allowed {
 impl Allowed {
     /// Whether this may be held, or told.
     fn has(&self, update: &Update) -> bool {
-        update.kind == UpdateKind::Alive
-            || update.who == self.me
-            || self.caused.iter().rev().any(|known| *known == *update)
+        if update.kind == UpdateKind::Alive || update.who == self.me {
+            return true;
+        }
+        match self.caused.get(&update.who) {
+            Some(caused) => caused.iter().rev().any(|known| *known == *update),
+            None => false,
+        }
     }
 
     /// There is a cause to hold this.
     fn cause(&mut self, update: &Update) -> Result<(), SimulateFault> {
-        if !self.has(update) {
-            self.caused.push(*update)?;
+        if self.has(update) {
+            return Ok(());
         }
+        if let Some(caused) = self.caused.get_mut(&update.who) {
+            caused.push(*update)?;
+            return Ok(());
+        }
+        let mut caused = Vec::new(self.alloc);
+        caused.push(*update)?;
+        self.caused.insert(update.who, caused)?;
         Ok(())
     }
 
@@ -245,7 +258,8 @@ impl Shadow {
         deadlines.resize(members, None)?;
         let allowed = Allowed {
             me: settings.me,
-            caused: Vec::new(alloc),
+            caused: BTreeMap::new(alloc),
+            alloc,
             deadlines,
             ping: None,
             counts: member.counts(),
