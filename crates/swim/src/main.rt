@@ -188,12 +188,14 @@ fn ask_member<T: Threads>(
 
 /// The ending where a state file is not shown. Why it is not read is asked once more.
 fn unshown(rt: &HostRuntime, path: &str, fault: ShowFault) -> Failure {
-    let ending = match (fault, open_file(rt, path)) {
-        (ShowFault::Memory, _) => return Failure::from(Ending::Memory),
-        (_, Err(fault)) => return Failure::of_input(rt.alloc(), "state file", path, fault),
-        (ShowFault::NotFile, _) => Ending::NotFile,
-        (ShowFault::File, _) => Ending::File,
+    let ending = match fault {
+        ShowFault::Memory => return Failure::from(Ending::Memory),
+        ShowFault::NotFile => Ending::NotFile,
+        ShowFault::File => Ending::File,
     };
+    if let Err(fault) = open_file(rt, path) {
+        return Failure::of_input(rt.alloc(), "state file", path, fault);
+    }
     Failure::about(rt.alloc(), ending, format_args!("state file {path}"))
 }
 

@@ -61,7 +61,12 @@ where
         tick,
         joins: Joins {
             peers: ArrayVec::new(),
-            paces: Paces::of(&settings, 0, TICK_MILLIS),
+            paces: Paces {
+                answer: tick.saturating_mul(3),
+                period: tick.saturating_mul(10),
+                rejoin: None,
+                forget: tick.saturating_mul(6000),
+            },
         },
         key,
         expelled_ends: None,
