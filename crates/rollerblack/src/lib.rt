@@ -95,6 +95,8 @@
 //! lines and joins other members. It ends by the control line `stop`, by a fault, or, if it is told to end then, once it is
 //! expelled. This one stays.
 //!
+//! It is a whole program, on a state file that `swim init` or `init` has made. Only one process may have that file.
+//!
 //! ```text
 //! /// Opens a member on its state file.
 //! fn open<D: Disk + Drop>(alloc: Global, disk: D, settings: Settings) -> Result<Node<D>, &'static str>
@@ -152,11 +154,7 @@
 //!     ended.how.map_err(|_| "a worker")?;
 //!     Ok(())
 //! }
-//! ```
 //!
-//! With this it is a whole program, on a state file that `swim init` or `init` has made. Only one process may have that file.
-//!
-//! ```text
 //! /// The state file as a disk, which this process has locked until it ends.
 //! fn locked_disk<R: Files<File = File> + AllocGlobal>(
 //!     rt: &R,

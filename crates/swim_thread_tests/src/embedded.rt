@@ -1,4 +1,3 @@
-//! The examples in the head of `rollerblack`.
+//! The example by hand in the head of `rollerblack`.
 
 mod by_hand;
-mod over_udp;
