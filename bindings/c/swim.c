@@ -1,6 +1,7 @@
 /*
  * The calls of swim.h over the proved ones, which have `library` in their names. Nothing of this file is proved: it refuses
- * null, opens and locks the file of a path, goes over pages of rows, and has the texts.
+ * null, a second call in a handle and a handle of before a fork, makes, opens and locks the file of a path, refuses descriptors
+ * that would not do, goes over pages of rows, and has the texts.
  */
 #define _GNU_SOURCE
 #include "swim.h"
@@ -9,45 +10,59 @@
 #include <fcntl.h>
 #include <libgen.h>
 #include <limits.h>
+#include <pthread.h>
+#include <stdio.h>
+#include <stdlib.h>
 #include <string.h>
 #include <sys/file.h>
 #include <sys/mman.h>
+#include <sys/stat.h>
 #include <unistd.h>
 
 /* The rows of one page. */
 #define PAGE 30
 
 /* A closed handle, which stands in the place of an open one while a call lasts. */
-static const struct swim_member closed = SWIM_CLOSED_MEMBER;
+static const struct swim_inside closed = {0, NULL};
+
+/* A row as the proved side has it. */
+struct row {
+    uint64_t number;
+    uint32_t address;
+    uint16_t port;
+    uint8_t kind;
+};
 
 uint32_t swim_library_make_state(int32_t fd, const struct swim_settings *settings);
-uint32_t swim_library_open(struct swim_member *member, int32_t fd, const struct swim_settings *settings, uint32_t limit);
-uint32_t swim_library_close(struct swim_member *member, struct swim_member spare);
-uint32_t swim_library_tick(struct swim_member *member, struct swim_member spare, uint64_t random);
-uint32_t swim_library_receive(struct swim_member *member, struct swim_member spare, const struct swim_endpoint *from,
+uint32_t swim_library_open(struct swim_inside *member, int32_t fd, const struct swim_settings *settings, uint32_t limit);
+uint32_t swim_library_close(struct swim_inside *member, struct swim_inside spare);
+uint32_t swim_library_tick(struct swim_inside *member, struct swim_inside spare, uint64_t random);
+uint32_t swim_library_receive(struct swim_inside *member, struct swim_inside spare, const struct swim_endpoint *from,
                               const uint8_t *bytes, size_t length);
-uint32_t swim_library_receive_failed(struct swim_member *member, struct swim_member spare);
-uint32_t swim_library_send_failed(struct swim_member *member, struct swim_member spare, uint32_t count);
-uint32_t swim_library_join(struct swim_member *member, struct swim_member spare, const struct swim_endpoint *peer);
-uint32_t swim_library_leave(struct swim_member *member, struct swim_member spare);
-uint32_t swim_library_next_datagram(struct swim_member *member, struct swim_member spare, struct swim_endpoint *to,
+uint32_t swim_library_receive_failed(struct swim_inside *member, struct swim_inside spare);
+uint32_t swim_library_send_failed(struct swim_inside *member, struct swim_inside spare, uint32_t count);
+uint32_t swim_library_join(struct swim_inside *member, struct swim_inside spare, const struct swim_endpoint *peer);
+uint32_t swim_library_leave(struct swim_inside *member, struct swim_inside spare);
+uint32_t swim_library_next_datagram(struct swim_inside *member, struct swim_inside spare, struct swim_endpoint *to,
                                     uint8_t *bytes, size_t room, size_t *length);
-uint32_t swim_library_members(struct swim_member *member, struct swim_member spare, const struct swim_endpoint *after,
-                              struct swim_row *rows, size_t room, size_t *count);
-uint32_t swim_library_status(struct swim_member *member, struct swim_member spare, struct swim_status *status);
-uint32_t swim_library_notes(struct swim_member *member, struct swim_member spare, uint8_t *notes, size_t room, size_t *count);
-uint32_t swim_library_stored_peers(struct swim_member *member, struct swim_member spare, struct swim_endpoint *peers,
+uint32_t swim_library_members(struct swim_inside *member, struct swim_inside spare, const struct swim_endpoint *after,
+                              struct row *rows, size_t room, size_t *count);
+uint32_t swim_library_status(struct swim_inside *member, struct swim_inside spare, struct swim_status *status);
+uint32_t swim_library_notes(struct swim_inside *member, struct swim_inside spare, uint8_t *notes, size_t room, size_t *count);
+uint32_t swim_library_stored_peers(struct swim_inside *member, struct swim_inside spare, struct swim_endpoint *peers,
                                    size_t room, size_t *count);
-uint32_t swim_library_keep_peers(struct swim_member *member, struct swim_member spare);
+uint32_t swim_library_keep_peers(struct swim_inside *member, struct swim_inside spare);
 
-/* What crosses has the layout that the proved side and the bindings expect. */
+/* What crosses has the layout that the proved side and the bindings expect: the proved side knows no `reserved`. */
 #define LAYOUT(type, size, field, at)                                                                                  \
     typedef char type##_is_##field[sizeof(struct type) == (size) && offsetof(struct type, field) == (at) ? 1 : -1]
 LAYOUT(swim_endpoint, 8, port, 4);
-LAYOUT(swim_settings, 72, port, 64);
-LAYOUT(swim_row, 16, kind, 14);
-LAYOUT(swim_status, 48, phase, 40);
-LAYOUT(swim_member, 16, at, 8);
+LAYOUT(swim_settings, 96, port, 64);
+LAYOUT(swim_row, 32, kind, 14);
+LAYOUT(row, 16, kind, 14);
+LAYOUT(swim_status, 96, phase, 40);
+LAYOUT(swim_inside, 16, at, 8);
+LAYOUT(swim_member, 32, busy, 16);
 
 uint32_t swim_version(void) { return SWIM_VERSION; }
 
@@ -60,7 +75,7 @@ static const struct {
     {SWIM_NULL, "SWIM_NULL", "a pointer is null"},
     {SWIM_CLOSED, "SWIM_CLOSED", "the handle is closed"},
     {SWIM_IS_OPEN, "SWIM_IS_OPEN", "the handle is open already"},
-    {SWIM_NO_ENDPOINT, "SWIM_NO_ENDPOINT", "a port is 0"},
+    {SWIM_NO_ENDPOINT, "SWIM_NO_ENDPOINT", "the port is 0"},
     {SWIM_WAITING, "SWIM_WAITING", "datagrams of the last event have to be taken first"},
     {SWIM_SHORT, "SWIM_SHORT", "the buffer is too short"},
     {SWIM_NO_MEMORY, "SWIM_NO_MEMORY", "there was no memory"},
@@ -74,10 +89,12 @@ static const struct {
     {SWIM_BAD_HELPERS, "SWIM_BAD_HELPERS", "helpers is over 8"},
     {SWIM_BAD_BLOCK, "SWIM_BAD_BLOCK", "block is not 1 to 1,024"},
     {SWIM_BAD_RULES, "SWIM_BAD_RULES", "rules is not 1 or 2"},
+    {SWIM_BAD_ADDRESS, "SWIM_BAD_ADDRESS", "no member is reached at 0.0.0.0, 255.255.255.255 or an address of multicast"},
+    {SWIM_BAD_RESERVED, "SWIM_BAD_RESERVED", "a byte of reserved is not 0"},
     {SWIM_OPEN_DEVICE, "SWIM_OPEN_DEVICE", "a write or sync of the state file failed"},
     {SWIM_OPEN_NOT_STATE, "SWIM_OPEN_NOT_STATE", "it is no state file"},
     {SWIM_OPEN_WRONG_OWNER, "SWIM_OPEN_WRONG_OWNER", "the state file is of another group or endpoint"},
-    {SWIM_OPEN_NO_SLOT, "SWIM_OPEN_NO_SLOT", "the state file was never made to its end"},
+    {SWIM_OPEN_NO_SLOT, "SWIM_OPEN_NO_SLOT", "the making of the state file was cut short, or something else wrote it"},
     {SWIM_OPEN_DAMAGED, "SWIM_OPEN_DAMAGED", "the state file is damaged"},
     {SWIM_OPEN_EXHAUSTED, "SWIM_OPEN_EXHAUSTED", "there is no number left"},
     {SWIM_OPEN_LIMIT, "SWIM_OPEN_LIMIT", "limit is not 1 to 65,536"},
@@ -88,7 +105,20 @@ static const struct {
     {SWIM_KEEP_DEVICE, "SWIM_KEEP_DEVICE", "a write or sync of the state file failed"},
     {SWIM_KEEP_CHANGED, "SWIM_KEEP_CHANGED", "the state file is not as the member left it"},
     {SWIM_KEEP_EXHAUSTED, "SWIM_KEEP_EXHAUSTED", "there is no number left"},
+    {SWIM_BUSY, "SWIM_BUSY", "another thread is in a call on this handle"},
+    {SWIM_FORKED, "SWIM_FORKED", "the handle was opened before this process was forked"},
+    {SWIM_BAD_DESCRIPTOR, "SWIM_BAD_DESCRIPTOR", "the descriptor is not open for reading and writing, or it has O_APPEND"},
 };
+
+static const char *const notes_by_number[] = {
+    "unknown note", "BadDatagram",   "OtherGroup", "NotSender",  "FromSelf", "Leap",    "NoNumberLeft",
+    "TableFull",    "Misdirected",   "RelaysFull", "UnknownTarget", "Unasked", "SaveFailed", "Expelled",
+    "Stopped",      "ReceiveFailed", "SendFailed", "TimeOver",   "OtherVersion",
+};
+
+const char *swim_note_name(int note) {
+    return notes_by_number[note > 0 && note <= SWIM_NOTE_OTHER_VERSION ? note : 0];
+}
 
 const char *swim_name(int code) {
     for (size_t i = 0; i < sizeof codes / sizeof *codes; i++)
@@ -104,6 +134,41 @@ const char *swim_text(int code) {
     return "unknown code";
 }
 
+/* How often this process was forked since its first opening: each child counts on. */
+static volatile uint32_t forks;
+static int watch_failed;
+
+static void was_forked(void) { forks++; }
+
+static void watch_forks(void) { watch_failed = pthread_atfork(NULL, NULL, was_forked); }
+
+/* Begins a call on a handle: nobody else may be in it. */
+static int begin(struct swim_member *member) {
+    if (member == NULL)
+        return SWIM_NULL;
+    return __atomic_exchange_n(&member->busy, 1, __ATOMIC_ACQUIRE) == 0 ? SWIM_OK : SWIM_BUSY;
+}
+
+/* Ends it, with its code. */
+static int ended(struct swim_member *member, int code) {
+    __atomic_store_n(&member->busy, 0, __ATOMIC_RELEASE);
+    return code;
+}
+
+/* The same for a call on a member that has to be this process's own. */
+static int begin_own(struct swim_member *member) {
+    int code = begin(member);
+    if (code == SWIM_OK && member->inside.mark != 0 && member->forks != forks)
+        return ended(member, SWIM_FORKED);
+    return code;
+}
+
+#define OWN(member, call)                                                                                              \
+    do {                                                                                                               \
+        int began = begin_own(member);                                                                                 \
+        return began == SWIM_OK ? ended(member, (int)(call)) : began;                                                  \
+    } while (0)
+
 /* Closes a descriptor, and keeps errno. */
 static int closing(int fd, int code) {
     int error = errno;
@@ -112,18 +177,42 @@ static int closing(int fd, int code) {
     return code;
 }
 
-int swim_make_state(int fd, const struct swim_settings *settings) {
-    return settings == NULL ? SWIM_NULL : (int)swim_library_make_state(fd, settings);
+/* Removes a name, and keeps errno. */
+static int removing(const char *path, int code) {
+    int error = errno;
+    unlink(path);
+    errno = error;
+    return code;
 }
 
-/* Syncs the folder of a path, so that a new file stays there. */
+/* With O_APPEND each write would go to the end of the file, and with no write or no read there is no life. */
+static int check_descriptor(int fd) {
+    int flags = fcntl(fd, F_GETFL);
+    if (flags < 0)
+        return SWIM_FILE;
+    return (flags & O_ACCMODE) == O_RDWR && (flags & O_APPEND) == 0 ? SWIM_OK : SWIM_BAD_DESCRIPTOR;
+}
+
+static int check_settings(const struct swim_settings *settings) {
+    if (settings == NULL)
+        return SWIM_NULL;
+    for (size_t i = 0; i < sizeof settings->reserved; i++)
+        if (settings->reserved[i] != 0)
+            return SWIM_BAD_RESERVED;
+    return SWIM_OK;
+}
+
+int swim_make_state(int fd, const struct swim_settings *settings) {
+    int code = check_settings(settings);
+    if (code == SWIM_OK)
+        code = check_descriptor(fd);
+    return code == SWIM_OK ? (int)swim_library_make_state(fd, settings) : code;
+}
+
+/* Syncs the folder of a path, so that a new name stays there. */
 static int sync_folder(const char *path) {
     char copy[PATH_MAX];
     int folder;
-    if (strlen(path) >= sizeof copy) {
-        errno = ENAMETOOLONG;
-        return SWIM_FILE;
-    }
     strcpy(copy, path);
     folder = open(dirname(copy), O_RDONLY | O_DIRECTORY | O_CLOEXEC);
     if (folder < 0)
@@ -131,27 +220,61 @@ static int sync_folder(const char *path) {
     return closing(folder, fsync(folder) == 0 ? SWIM_OK : SWIM_FILE);
 }
 
+/* Names a file that is whole by its path, and never in the place of another. Some file systems have no second names. */
+static int name_whole(const char *aside, const char *path) {
+    if (link(aside, path) == 0)
+        return removing(aside, SWIM_OK);
+    if ((errno == EPERM || errno == EOPNOTSUPP) && renameat2(AT_FDCWD, aside, AT_FDCWD, path, RENAME_NOREPLACE) == 0)
+        return SWIM_OK;
+    return removing(aside, SWIM_FILE);
+}
+
 int swim_make(const char *path, const struct swim_settings *settings) {
-    int fd, code;
-    if (path == NULL || settings == NULL)
-        return SWIM_NULL;
-    fd = open(path, O_RDWR | O_CREAT | O_EXCL | O_CLOEXEC, 0600);
+    static const char ending[] = ".XXXXXX";
+    char aside[PATH_MAX];
+    struct stat there;
+    int fd, error = errno, code = check_settings(settings);
+    if (path == NULL || code != SWIM_OK)
+        return path == NULL ? SWIM_NULL : code;
+    if (strlen(path) + sizeof ending > sizeof aside || lstat(path, &there) == 0) {
+        errno = strlen(path) + sizeof ending > sizeof aside ? ENAMETOOLONG : EEXIST;
+        return SWIM_FILE;
+    }
+    strcat(strcpy(aside, path), ending);
+    fd = mkostemp(aside, O_CLOEXEC);
     if (fd < 0)
         return SWIM_FILE;
     code = closing(fd, swim_make_state(fd, settings));
-    if (code != SWIM_OK) {
-        int error = errno;
-        unlink(path);
+    if (code != SWIM_OK)
+        return removing(aside, code);
+    code = name_whole(aside, path);
+    if (code == SWIM_OK)
+        code = sync_folder(path);
+    if (code == SWIM_OK)
         errno = error;
-        return code;
-    }
-    return sync_folder(path);
+    return code;
+}
+
+/* An opening, within a call on the handle. */
+static int open_on(struct swim_member *member, int fd, const struct swim_settings *settings, uint32_t limit) {
+    static pthread_once_t once = PTHREAD_ONCE_INIT;
+    int code;
+    if (pthread_once(&once, watch_forks) != 0 || watch_failed)
+        return SWIM_NO_MEMORY;
+    code = (int)swim_library_open(&member->inside, fd, settings, limit);
+    if (code == SWIM_OK)
+        member->forks = forks;
+    return code;
 }
 
 int swim_open_descriptor(struct swim_member *member, int fd, const struct swim_settings *settings, uint32_t limit) {
-    if (member == NULL || settings == NULL)
-        return SWIM_NULL;
-    return (int)swim_library_open(member, fd, settings, limit);
+    int code = check_settings(settings);
+    if (member == NULL || code != SWIM_OK)
+        return member == NULL ? SWIM_NULL : code;
+    code = check_descriptor(fd);
+    if (code == SWIM_OK)
+        code = begin(member);
+    return code == SWIM_OK ? ended(member, open_on(member, fd, settings, limit)) : code;
 }
 
 int swim_open(struct swim_member *member, const char *path, const struct swim_settings *settings, uint32_t limit) {
@@ -181,81 +304,106 @@ int swim_open_memory(struct swim_member *member, const struct swim_settings *set
 }
 
 int swim_close(struct swim_member *member) {
-    return member == NULL ? SWIM_NULL : (int)swim_library_close(member, closed);
+    int code = begin(member);
+    return code == SWIM_OK ? ended(member, (int)swim_library_close(&member->inside, closed)) : code;
 }
 
 int swim_tick(struct swim_member *member, uint64_t random) {
-    return member == NULL ? SWIM_NULL : (int)swim_library_tick(member, closed, random);
+    OWN(member, swim_library_tick(&member->inside, closed, random));
 }
 
 int swim_receive(struct swim_member *member, struct swim_endpoint from, const uint8_t *bytes, size_t length) {
     static const uint8_t none;
-    if (member == NULL || (bytes == NULL && length != 0))
+    if (bytes == NULL && length != 0)
         return SWIM_NULL;
-    return (int)swim_library_receive(member, closed, &from, bytes == NULL ? &none : bytes, length);
+    OWN(member, swim_library_receive(&member->inside, closed, &from, bytes == NULL ? &none : bytes, length));
 }
 
 int swim_receive_failed(struct swim_member *member) {
-    return member == NULL ? SWIM_NULL : (int)swim_library_receive_failed(member, closed);
+    OWN(member, swim_library_receive_failed(&member->inside, closed));
 }
 
 int swim_send_failed(struct swim_member *member, uint32_t count) {
-    return member == NULL ? SWIM_NULL : (int)swim_library_send_failed(member, closed, count);
+    OWN(member, swim_library_send_failed(&member->inside, closed, count));
 }
 
 int swim_join(struct swim_member *member, struct swim_endpoint peer) {
-    return member == NULL ? SWIM_NULL : (int)swim_library_join(member, closed, &peer);
+    OWN(member, swim_library_join(&member->inside, closed, &peer));
 }
 
-int swim_leave(struct swim_member *member) {
-    return member == NULL ? SWIM_NULL : (int)swim_library_leave(member, closed);
-}
+int swim_leave(struct swim_member *member) { OWN(member, swim_library_leave(&member->inside, closed)); }
 
 int swim_next_datagram(struct swim_member *member, struct swim_endpoint *to, uint8_t *bytes, size_t room, size_t *length) {
-    if (member == NULL || to == NULL || bytes == NULL || length == NULL)
+    if (to == NULL || bytes == NULL || length == NULL)
         return SWIM_NULL;
-    return (int)swim_library_next_datagram(member, closed, to, bytes, room, length);
+    OWN(member, swim_library_next_datagram(&member->inside, closed, to, bytes, room, length));
 }
 
-int swim_members(struct swim_member *member, struct swim_row *rows, size_t room, size_t *count) {
+/* All rows, page by page, within a call on the handle. */
+static int list_rows(struct swim_inside *inside, struct row all[SWIM_MEMBERS_MAX], size_t *total) {
     struct swim_endpoint after = {0, 0};
-    struct swim_row page[PAGE], all[SWIM_MEMBERS_MAX];
-    size_t total = 0, got = PAGE;
-    if (member == NULL || count == NULL || (rows == NULL && room != 0))
-        return SWIM_NULL;
-    while (got == PAGE && total < SWIM_MEMBERS_MAX) {
-        int code = (int)swim_library_members(member, closed, &after, page, PAGE, &got);
+    struct row page[PAGE];
+    size_t got = PAGE;
+    for (*total = 0; got == PAGE && *total < SWIM_MEMBERS_MAX;) {
+        int code = (int)swim_library_members(inside, closed, &after, page, PAGE, &got);
         if (code != SWIM_OK)
             return code;
-        for (size_t i = 0; i < got && total < SWIM_MEMBERS_MAX; i++)
-            all[total++] = page[i];
+        for (size_t i = 0; i < got && *total < SWIM_MEMBERS_MAX; i++)
+            all[(*total)++] = page[i];
         if (got > 0) {
             after.address = page[got - 1].address;
             after.port = page[got - 1].port;
         }
     }
-    if (room > 0)
-        memcpy(rows, all, (total < room ? total : room) * sizeof *rows);
+    return SWIM_OK;
+}
+
+/* The calls that only read are told of a constant handle: what the member answers stays as it is. Its mark does not. */
+#define READ(member) ((struct swim_member *)(member))
+
+int swim_members(const struct swim_member *member, struct swim_row *rows, size_t room, size_t *count) {
+    struct row all[SWIM_MEMBERS_MAX];
+    size_t total;
+    int code;
+    if (count == NULL || (rows == NULL && room != 0))
+        return SWIM_NULL;
+    code = begin_own(READ(member));
+    if (code == SWIM_OK)
+        code = ended(READ(member), list_rows(&READ(member)->inside, all, &total));
+    if (code != SWIM_OK)
+        return code;
+    for (size_t i = 0; i < total && i < room; i++)
+        rows[i] = (struct swim_row){all[i].number, all[i].address, all[i].port, all[i].kind, {0}};
     *count = total;
     return SWIM_OK;
 }
 
-int swim_get_status(struct swim_member *member, struct swim_status *status) {
-    return member == NULL || status == NULL ? SWIM_NULL : (int)swim_library_status(member, closed, status);
+int swim_get_status(const struct swim_member *member, struct swim_status *status) {
+    static const struct swim_status none;
+    int code;
+    if (status == NULL)
+        return SWIM_NULL;
+    code = begin_own(READ(member));
+    if (code != SWIM_OK)
+        return code;
+    code = (int)swim_library_status(&READ(member)->inside, closed, status);
+    if (code == SWIM_OK)
+        memcpy(status->reserved, none.reserved, sizeof none.reserved);
+    return ended(READ(member), code);
 }
 
-int swim_notes(struct swim_member *member, uint8_t notes[SWIM_NOTES_MAX], size_t *count) {
-    if (member == NULL || notes == NULL || count == NULL)
+int swim_notes(const struct swim_member *member, uint8_t notes[SWIM_NOTES_MAX], size_t *count) {
+    if (notes == NULL || count == NULL)
         return SWIM_NULL;
-    return (int)swim_library_notes(member, closed, notes, SWIM_NOTES_MAX, count);
+    OWN(READ(member), swim_library_notes(&READ(member)->inside, closed, notes, SWIM_NOTES_MAX, count));
 }
 
-int swim_stored_peers(struct swim_member *member, struct swim_endpoint peers[SWIM_PEERS_MAX], size_t *count) {
-    if (member == NULL || peers == NULL || count == NULL)
+int swim_stored_peers(const struct swim_member *member, struct swim_endpoint peers[SWIM_PEERS_MAX], size_t *count) {
+    if (peers == NULL || count == NULL)
         return SWIM_NULL;
-    return (int)swim_library_stored_peers(member, closed, peers, SWIM_PEERS_MAX, count);
+    OWN(READ(member), swim_library_stored_peers(&READ(member)->inside, closed, peers, SWIM_PEERS_MAX, count));
 }
 
 int swim_keep_peers(struct swim_member *member) {
-    return member == NULL ? SWIM_NULL : (int)swim_library_keep_peers(member, closed);
+    OWN(member, swim_library_keep_peers(&member->inside, closed));
 }

@@ -3,8 +3,8 @@
  *
  *     member STATE-FILE GROUP PORT PEER-PORT SECONDS
  *
- * It makes the state file where there is none, joins the member on PEER-PORT and whom an earlier life knew, ticks each 100 ms,
- * prints whom it knows in the end, leaves, and ends. PEER-PORT 0 joins nobody.
+ * It makes the state file where there is none, joins the member on PEER-PORT and whom an earlier life knew, and again and again,
+ * ticks each 100 ms, prints whom it knows in the end, leaves, and ends. PEER-PORT 0 joins nobody.
  */
 #include "swim.h"
 
@@ -18,7 +18,15 @@
 #include <unistd.h>
 
 #define TICK_MS 100
+#define PERIOD 10  /* ticks, as in the settings */
+#define REJOIN 300 /* ticks */
 #define LOOPBACK 0x7f000001u
+
+/* Whom a member may ask about its group: those that it was given, and those of an earlier life. */
+struct peers {
+    struct swim_endpoint all[SWIM_PEERS_MAX + 1];
+    size_t count, next;
+};
 
 static void must(int code, const char *what) {
     if (code != SWIM_OK) {
@@ -49,11 +57,11 @@ static void send_all(struct swim_member *member, int udp) {
         must(swim_send_failed(member, lost), "send_failed");
 }
 
-/* Hands in what came, at most 64 datagrams at once, so that a tick is never late for them. */
+/* Hands in what came: all that waits after a pause, but at most so many datagrams that a tick is not late for them. */
 static void receive_all(struct swim_member *member, int udp) {
     uint8_t bytes[SWIM_DATAGRAM_MAX + 1];
     struct sockaddr_in at;
-    for (int i = 0; i < 64; i++) {
+    for (int i = 0; i < 1000; i++) {
         socklen_t size = sizeof at;
         ssize_t length = recvfrom(udp, bytes, sizeof bytes, MSG_DONTWAIT, (struct sockaddr *)&at, &size);
         if (length < 0)
@@ -64,24 +72,47 @@ static void receive_all(struct swim_member *member, int udp) {
     }
 }
 
-static void tick(struct swim_member *member, int udp) {
-    uint64_t random;
-    if (getrandom(&random, sizeof random, 0) != sizeof random)
+static uint64_t random_word(void) {
+    uint64_t word;
+    if (getrandom(&word, sizeof word, 0) != sizeof word)
         must(SWIM_FILE, "getrandom");
-    must(swim_tick(member, random), "tick");
+    return word;
+}
+
+static void tick(struct swim_member *member, int udp) {
+    must(swim_tick(member, random_word()), "tick");
     send_all(member, udp);
 }
 
-static void join_all(struct swim_member *member, int udp, uint16_t peer) {
-    struct swim_endpoint peers[SWIM_PEERS_MAX + 1];
+static void join(struct swim_member *member, int udp, struct swim_endpoint peer) {
+    must(swim_join(member, peer), "join");
+    send_all(member, udp);
+}
+
+static void join_all(struct swim_member *member, int udp, struct peers *peers, uint16_t given) {
+    must(swim_stored_peers(member, peers->all, &peers->count), "stored_peers");
+    if (given != 0)
+        peers->all[peers->count++] = (struct swim_endpoint){LOOPBACK, given};
+    for (size_t i = 0; i < peers->count; i++)
+        join(member, udp, peers->all[i]);
+}
+
+/* Asks again: the peers in turn, each period while alone, and each 300 ticks one of them and one member that is known, by chance.
+   Without it a group that was cut for longer than `suspect` stays in two. */
+static void join_again(struct swim_member *member, int udp, struct peers *peers, long long ticks) {
+    struct swim_row rows[SWIM_MEMBERS_MAX];
+    struct swim_status status;
     size_t count;
-    must(swim_stored_peers(member, peers, &count), "stored_peers");
-    if (peer != 0)
-        peers[count++] = (struct swim_endpoint){LOOPBACK, peer};
-    for (size_t i = 0; i < count; i++) {
-        must(swim_join(member, peers[i]), "join");
-        send_all(member, udp);
-    }
+    must(swim_get_status(member, &status), "get_status");
+    int is_alone = status.alive + status.suspect == 0;
+    if (ticks % REJOIN != 0 && (!is_alone || ticks % PERIOD != 0))
+        return;
+    if (peers->count > 0)
+        join(member, udp, peers->all[peers->next++ % peers->count]);
+    must(swim_members(member, rows, SWIM_MEMBERS_MAX, &count), "members");
+    struct swim_row row = rows[random_word() % count];
+    if (!is_alone && row.kind != SWIM_CONFIRM)
+        join(member, udp, (struct swim_endpoint){row.address, row.port});
 }
 
 static void print_members(struct swim_member *member) {
@@ -111,17 +142,19 @@ int main(int argc, char **argv) {
         return perror("bind"), 1;
     must(swim_open(&member, argv[1], &settings, 1), "open");
 
-    join_all(&member, udp, (uint16_t)atoi(argv[4]));
+    struct peers peers = {.count = 0};
+    join_all(&member, udp, &peers, (uint16_t)atoi(argv[4]));
     long long next = now_ms() + TICK_MS, end = now_ms() + atoll(argv[5]) * 1000;
-    while (now_ms() < end) {
+    for (long long ticks = 1; now_ms() < end;) {
         long long left = next - now_ms();
         struct pollfd ready = {udp, POLLIN, 0};
-        if (left > 0 && poll(&ready, 1, (int)left) > 0) {
-            receive_all(&member, udp);
-        } else if (now_ms() >= next) {
-            tick(&member, udp);
-            next += TICK_MS;
-        }
+        if (poll(&ready, 1, left > 0 ? (int)left : 0) > 0)
+            receive_all(&member, udp); /* what waits is read before a tick */
+        if (now_ms() < next)
+            continue;
+        tick(&member, udp);
+        join_again(&member, udp, &peers, ticks++);
+        next = next + TICK_MS > now_ms() ? next + TICK_MS : now_ms() + TICK_MS; /* late ticks are never made up */
     }
 
     print_members(&member);

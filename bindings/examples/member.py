@@ -1,6 +1,7 @@
 """A member in Python: `member.py STATE-FILE GROUP PORT PEER-PORT SECONDS`, on loopback alone, as member.c."""
 
 import os
+import random
 import select
 import socket
 import sys
@@ -9,6 +10,7 @@ import time
 import swim
 
 TICK = 0.1
+REJOIN = 300  # ticks
 
 
 def send_all(member, udp):
@@ -22,20 +24,43 @@ def send_all(member, udp):
         member.send_failed(lost)
 
 
-def run(member, udp, peers, seconds):
+def join(member, udp, peer):
+    member.join(peer)
+    send_all(member, udp)
+
+
+def join_again(member, udp, peers, period, ticks):
+    """Asks again: each period while alone, and each 300 ticks. Without it a group that was cut for long stays in two."""
+    status = member.status()
+    is_alone = status.alive + status.suspect == 0
+    if ticks % REJOIN == 0 or (is_alone and ticks % period == 0):
+        known = [row.who for row in member.members() if row.kind != swim.Kind.CONFIRM]
+        for choices in (peers, known):
+            if choices:
+                join(member, udp, random.choice(choices))
+
+
+def receive_until(member, udp, due):
+    """Hands in what waits, and what comes until then."""
+    while select.select([udp], [], [], max(0.0, due - time.monotonic()))[0]:
+        data, source = udp.recvfrom(swim.DATAGRAM_MAX + 1)
+        member.receive(source, data)
+        send_all(member, udp)
+        if time.monotonic() > due + TICK:
+            return
+
+
+def run(member, udp, peers, period, seconds):
     for peer in peers:
-        member.join(peer)
-        send_all(member, udp)
-    end, next_tick = time.monotonic() + seconds, time.monotonic() + TICK
+        join(member, udp, peer)
+    end, due, ticks = time.monotonic() + seconds, time.monotonic() + TICK, 0
     while time.monotonic() < end:
-        left = next_tick - time.monotonic()
-        if left > 0 and select.select([udp], [], [], left)[0]:
-            data, source = udp.recvfrom(513)
-            member.receive(source, data)
-        elif left <= 0:
-            member.tick()
-            next_tick += TICK
+        receive_until(member, udp, due)
+        member.tick()
         send_all(member, udp)
+        ticks += 1
+        join_again(member, udp, peers, period, ticks)
+        due = due + TICK if due + TICK > time.monotonic() else time.monotonic() + TICK  # late ticks are never made up
 
 
 def main():
@@ -46,7 +71,8 @@ def main():
     with socket.socket(socket.AF_INET, socket.SOCK_DGRAM) as udp:
         udp.bind(settings.me)
         with swim.Member(path, settings) as member:
-            run(member, udp, member.stored_peers() + ([("127.0.0.1", peer)] if peer else []), seconds)
+            peers = member.stored_peers() + ([("127.0.0.1", peer)] if peer else [])
+            run(member, udp, peers, settings.period, seconds)
             for row in member.members():
                 print(row.kind.name.lower(), f"{row.who[0]}:{row.who[1]}", row.number)
             member.keep_peers()

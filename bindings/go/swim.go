@@ -1,8 +1,10 @@
-// Package swim is a member of a SWIM group, over the C library. bindings/c/swim.h says what each call does; what the program has to
-// feed is in docs/EMBEDDING.md. CGO_CFLAGS and CGO_LDFLAGS name the folder that bindings/c/build has filled.
+// Package swim is a member of a SWIM group, by polling, over the C library. bindings/c/swim.h says what each call does; what the
+// program has to feed is in docs/EMBEDDING.md. pkg-config has to find swim.pc, which bindings/c/build and the Debian package
+// libswim-dev leave: PKG_CONFIG_PATH names its folder.
 package swim
 
 /*
+#cgo pkg-config: swim
 #include <stdlib.h>
 #include "swim.h"
 
@@ -14,40 +16,53 @@ static struct swim_settings usual_settings(void) {
 import "C"
 
 import (
+	"errors"
 	"fmt"
 	"net/netip"
+	"sync"
+	"syscall"
 	"unsafe"
 )
 
 // DatagramMax is the most bytes of a datagram.
 const DatagramMax = C.SWIM_DATAGRAM_MAX
 
-// What is held of a member.
-const (
-	Alive   = C.SWIM_ALIVE
-	Suspect = C.SWIM_SUSPECT
-	Confirm = C.SWIM_CONFIRM
-)
+// Version is that of the library that is linked: a thousand times the first number, and the second.
+func Version() uint32 { return uint32(C.swim_version()) }
 
-// A Code is why a call did nothing.
-type Code int
-
-// The codes that a program asks for. The others are told by their text.
-const (
-	Nothing Code = C.SWIM_NOTHING
-	Closed  Code = C.SWIM_CLOSED
-	Waiting Code = C.SWIM_WAITING
-	Locked  Code = C.SWIM_LOCKED
-)
-
+// Error is the name of a code in swim.h, and what it says.
 func (code Code) Error() string {
 	number := C.int(code)
 	return fmt.Sprintf("%s: %s", C.GoString(C.swim_name(number)), C.GoString(C.swim_text(number)))
 }
 
-func check(code C.int) error {
-	if code == C.SWIM_OK {
+// String is the name of a note, as docs/PROTOCOL.md has it.
+func (note Note) String() string { return C.GoString(C.swim_note_name(C.int(note))) }
+
+// A Fault is a code with what the system said. errors.Is finds the Code and, as in errors.Is(err, fs.ErrNotExist), the Errno.
+type Fault struct {
+	Code  Code
+	Errno syscall.Errno
+}
+
+func (fault *Fault) Error() string { return fmt.Sprintf("%v (%v)", fault.Code, fault.Errno) }
+
+// Is tells whether it is of this code.
+func (fault *Fault) Is(target error) bool { return target == fault.Code }
+
+// Unwrap is what the system said.
+func (fault *Fault) Unwrap() error { return fault.Errno }
+
+// check makes an error of a code, and of errno where the code has one.
+func check(code C.int, errno error) error {
+	switch code {
+	case C.SWIM_OK:
 		return nil
+	case C.SWIM_FILE, C.SWIM_OPEN_DEVICE, C.SWIM_MAKE_DEVICE, C.SWIM_KEEP_DEVICE:
+		var number syscall.Errno
+		if errors.As(errno, &number) {
+			return &Fault{Code(code), number}
+		}
 	}
 	return Code(code)
 }
@@ -71,20 +86,25 @@ func Usual(group uint64, me netip.AddrPort) Settings {
 	}
 }
 
-func (s Settings) toC() C.struct_swim_settings {
-	me := toC(s.Me)
+func (s Settings) toC() (C.struct_swim_settings, error) {
+	me, err := toC(s.Me)
 	return C.struct_swim_settings{
 		group: C.uint64_t(s.Group), address: me.address, port: me.port,
 		period: C.uint64_t(s.Period), direct: C.uint64_t(s.Direct), suspect: C.uint64_t(s.Suspect),
 		forget: C.uint64_t(s.Forget), block: C.uint64_t(s.Block),
 		lambda: C.uint32_t(s.Lambda), helpers: C.uint32_t(s.Helpers), rules: C.uint32_t(s.Rules),
-	}
+	}, err
 }
 
-func toC(at netip.AddrPort) C.struct_swim_endpoint {
-	b := at.Addr().Unmap().As4()
+// toC is an endpoint as C has it, or ErrNoEndpoint where the address is not one of IPv4.
+func toC(at netip.AddrPort) (C.struct_swim_endpoint, error) {
+	address := at.Addr().Unmap()
+	if !address.Is4() {
+		return C.struct_swim_endpoint{}, ErrNoEndpoint
+	}
+	b := address.As4()
 	number := uint32(b[0])<<24 | uint32(b[1])<<16 | uint32(b[2])<<8 | uint32(b[3])
-	return C.struct_swim_endpoint{address: C.uint32_t(number), port: C.uint16_t(at.Port())}
+	return C.struct_swim_endpoint{address: C.uint32_t(number), port: C.uint16_t(at.Port())}, nil
 }
 
 func fromC(address C.uint32_t, port C.uint16_t) netip.AddrPort {
@@ -92,69 +112,136 @@ func fromC(address C.uint32_t, port C.uint16_t) netip.AddrPort {
 	return netip.AddrPortFrom(netip.AddrFrom4(b), uint16(port))
 }
 
-// Make makes a new state file at this path, where nothing may be.
+// Make makes a new state file at this path, where nothing may be: whole, or not at all.
 func Make(path string, settings Settings) error {
-	name, given := C.CString(path), settings.toC()
+	given, err := settings.toC()
+	if err != nil {
+		return err
+	}
+	name := C.CString(path)
 	defer C.free(unsafe.Pointer(name))
-	return check(C.swim_make(name, &given))
+	code, errno := C.swim_make(name, &given)
+	return check(code, errno)
 }
 
-// A Member is one goroutine's at a time: a lock round each call does. Its handle lies in C's memory, since Go may not keep C's
-// pointers in its own.
-type Member struct{ handle *C.struct_swim_member }
+// A Member is a member that runs. Goroutines may call it side by side: each call waits for the one before. Its handle lies in C's
+// memory, since Go may not keep C's pointers in its own.
+type Member struct {
+	lock   sync.Mutex
+	handle *C.struct_swim_member
+}
 
-// Open begins a life on a state file, which stays locked until Close.
-func Open(path string, settings Settings) (*Member, error) {
-	name, given := C.CString(path), settings.toC()
-	defer C.free(unsafe.Pointer(name))
-	m := &Member{(*C.struct_swim_member)(C.calloc(1, C.sizeof_struct_swim_member))}
-	if err := check(C.swim_open(m.handle, name, &given, 1)); err != nil {
+// opened is a member by one of the openings.
+func opened(settings Settings, open func(*C.struct_swim_member, *C.struct_swim_settings) (C.int, error)) (*Member, error) {
+	given, err := settings.toC()
+	if err != nil {
+		return nil, err
+	}
+	m := &Member{handle: (*C.struct_swim_member)(C.calloc(1, C.sizeof_struct_swim_member))}
+	if err := check(open(m.handle, &given)); err != nil {
 		C.free(unsafe.Pointer(m.handle))
 		return nil, err
 	}
 	return m, nil
 }
 
-// Close ends the member. Nothing is sent. The member may not be used again.
+// Open begins a life on a state file, which stays locked until Close.
+func Open(path string, settings Settings) (*Member, error) {
+	name := C.CString(path)
+	defer C.free(unsafe.Pointer(name))
+	return opened(settings, func(handle *C.struct_swim_member, given *C.struct_swim_settings) (C.int, error) {
+		code, errno := C.swim_open(handle, name, given, 1)
+		return code, errno
+	})
+}
+
+// OpenMemory begins one on a state file in memory, for tests.
+func OpenMemory(settings Settings) (*Member, error) {
+	return opened(settings, func(handle *C.struct_swim_member, given *C.struct_swim_settings) (C.int, error) {
+		code, errno := C.swim_open_memory(handle, given, 1)
+		return code, errno
+	})
+}
+
+// call makes a call on an open member.
+func (m *Member) call(made func(*C.struct_swim_member) (C.int, error)) error {
+	m.lock.Lock()
+	defer m.lock.Unlock()
+	if m.handle == nil {
+		return ErrClosed
+	}
+	return check(made(m.handle))
+}
+
+// Close ends the member. Nothing is sent. A second time it is ErrClosed, as each later call.
 func (m *Member) Close() error {
-	err := check(C.swim_close(m.handle))
+	m.lock.Lock()
+	defer m.lock.Unlock()
+	if m.handle == nil {
+		return ErrClosed
+	}
+	err := check(C.swim_close(m.handle), nil)
 	C.free(unsafe.Pointer(m.handle))
 	m.handle = nil
 	return err
 }
 
-// Tick lets time go on by one tick, with 64 random bits.
-func (m *Member) Tick(random uint64) error { return check(C.swim_tick(m.handle, C.uint64_t(random))) }
+// Tick lets time go on by one tick, with 64 random bits. Late ticks are never made up.
+func (m *Member) Tick(random uint64) error {
+	return m.call(func(handle *C.struct_swim_member) (C.int, error) { return C.swim_tick(handle, C.uint64_t(random)), nil })
+}
 
-// Receive hands in bytes that came from there.
+// Receive hands in bytes that came from there. A datagram that is none of the group is noted, and one from port 0, or from an address
+// that is not of IPv4, is left aside: neither is an error.
 func (m *Member) Receive(from netip.AddrPort, data []byte) error {
+	at, err := toC(from)
+	if err != nil {
+		return nil
+	}
 	var first *C.uint8_t
 	if len(data) > 0 {
 		first = (*C.uint8_t)(unsafe.Pointer(&data[0]))
 	}
-	return check(C.swim_receive(m.handle, toC(from), first, C.size_t(len(data))))
+	return m.call(func(handle *C.struct_swim_member) (C.int, error) {
+		return C.swim_receive(handle, at, first, C.size_t(len(data))), nil
+	})
 }
 
 // ReceiveFailed notes that a receive failed.
-func (m *Member) ReceiveFailed() error { return check(C.swim_receive_failed(m.handle)) }
+func (m *Member) ReceiveFailed() error {
+	return m.call(func(handle *C.struct_swim_member) (C.int, error) { return C.swim_receive_failed(handle), nil })
+}
 
 // SendFailed notes that so many datagrams were not sent.
-func (m *Member) SendFailed(count int) error {
-	return check(C.swim_send_failed(m.handle, C.uint32_t(count)))
+func (m *Member) SendFailed(count uint32) error {
+	return m.call(func(handle *C.struct_swim_member) (C.int, error) {
+		return C.swim_send_failed(handle, C.uint32_t(count)), nil
+	})
 }
 
 // Join asks a member of the group for all that it knows.
-func (m *Member) Join(peer netip.AddrPort) error { return check(C.swim_join(m.handle, toC(peer))) }
+func (m *Member) Join(peer netip.AddrPort) error {
+	at, err := toC(peer)
+	if err != nil {
+		return err
+	}
+	return m.call(func(handle *C.struct_swim_member) (C.int, error) { return C.swim_join(handle, at), nil })
+}
 
 // Leave tells the group that the member leaves. It takes part no more.
-func (m *Member) Leave() error { return check(C.swim_leave(m.handle)) }
+func (m *Member) Leave() error {
+	return m.call(func(handle *C.struct_swim_member) (C.int, error) { return C.swim_leave(handle), nil })
+}
 
-// Next takes the next datagram that waits into the buffer, of which it gives the part that is filled, or Nothing.
+// Next takes the next datagram that waits into the buffer, of which it gives the part that is filled, or ErrNothing.
 func (m *Member) Next(buffer *[DatagramMax]byte) (to netip.AddrPort, data []byte, err error) {
 	var at C.struct_swim_endpoint
 	var length C.size_t
 	first := (*C.uint8_t)(unsafe.Pointer(&buffer[0]))
-	if err := check(C.swim_next_datagram(m.handle, &at, first, DatagramMax, &length)); err != nil {
+	err = m.call(func(handle *C.struct_swim_member) (C.int, error) {
+		return C.swim_next_datagram(handle, &at, first, DatagramMax, &length), nil
+	})
+	if err != nil {
 		return to, nil, err
 	}
 	return fromC(at.address, at.port), buffer[:length], nil
@@ -163,7 +250,7 @@ func (m *Member) Next(buffer *[DatagramMax]byte) (to netip.AddrPort, data []byte
 // A Row is what is held of a member.
 type Row struct {
 	Who    netip.AddrPort
-	Kind   int
+	Kind   Kind
 	Number uint64
 }
 
@@ -171,12 +258,15 @@ type Row struct {
 func (m *Member) Members() ([]Row, error) {
 	var rows [C.SWIM_MEMBERS_MAX]C.struct_swim_row
 	var count C.size_t
-	if err := check(C.swim_members(m.handle, &rows[0], C.SWIM_MEMBERS_MAX, &count)); err != nil {
+	err := m.call(func(handle *C.struct_swim_member) (C.int, error) {
+		return C.swim_members(handle, &rows[0], C.SWIM_MEMBERS_MAX, &count), nil
+	})
+	if err != nil {
 		return nil, err
 	}
 	all := make([]Row, 0, count)
 	for _, row := range rows[:count] {
-		all = append(all, Row{fromC(row.address, row.port), int(row.kind), uint64(row.number)})
+		all = append(all, Row{fromC(row.address, row.port), Kind(row.kind), uint64(row.number)})
 	}
 	return all, nil
 }
@@ -185,7 +275,10 @@ func (m *Member) Members() ([]Row, error) {
 func (m *Member) StoredPeers() ([]netip.AddrPort, error) {
 	var peers [C.SWIM_PEERS_MAX]C.struct_swim_endpoint
 	var count C.size_t
-	if err := check(C.swim_stored_peers(m.handle, &peers[0], &count)); err != nil {
+	err := m.call(func(handle *C.struct_swim_member) (C.int, error) {
+		return C.swim_stored_peers(handle, &peers[0], &count), nil
+	})
+	if err != nil {
 		return nil, err
 	}
 	all := make([]netip.AddrPort, 0, count)
@@ -195,5 +288,39 @@ func (m *Member) StoredPeers() ([]netip.AddrPort, error) {
 	return all, nil
 }
 
+// A Status is what a status page shows. First is the number with which this life began.
+type Status struct {
+	Phase                     Phase
+	Number, First             uint64
+	Alive, Suspect, Confirmed uint64
+}
+
+// Status is what a status page shows.
+func (m *Member) Status() (Status, error) {
+	var found C.struct_swim_status
+	err := m.call(func(handle *C.struct_swim_member) (C.int, error) { return C.swim_get_status(handle, &found), nil })
+	return Status{
+		Phase: Phase(found.phase), Number: uint64(found.number), First: uint64(found.first),
+		Alive: uint64(found.alive), Suspect: uint64(found.suspect), Confirmed: uint64(found.confirmed),
+	}, err
+}
+
+// Notes are what the last event took note of.
+func (m *Member) Notes() ([]Note, error) {
+	var notes [C.SWIM_NOTES_MAX]C.uint8_t
+	var count C.size_t
+	err := m.call(func(handle *C.struct_swim_member) (C.int, error) { return C.swim_notes(handle, &notes[0], &count), nil })
+	all := make([]Note, 0, count)
+	for _, note := range notes[:count] {
+		all = append(all, Note(note))
+	}
+	return all, err
+}
+
 // KeepPeers saves whom the member knows.
-func (m *Member) KeepPeers() error { return check(C.swim_keep_peers(m.handle)) }
+func (m *Member) KeepPeers() error {
+	return m.call(func(handle *C.struct_swim_member) (C.int, error) {
+		code, errno := C.swim_keep_peers(handle)
+		return code, errno
+	})
+}

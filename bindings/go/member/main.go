@@ -11,10 +11,13 @@ import (
 	"strconv"
 	"time"
 
-	"swim"
+	"example.com/rollerblack/swim"
 )
 
-const tick = 100 * time.Millisecond
+const (
+	tick   = 100 * time.Millisecond
+	rejoin = 300 // ticks
+)
 
 type datagram struct {
 	from netip.AddrPort
@@ -41,10 +44,10 @@ func loopback(port uint64) netip.AddrPort {
 // sendAll sends what waits, and tells how many datagrams the system refused.
 func sendAll(member *swim.Member, udp *net.UDPConn) {
 	var buffer [swim.DatagramMax]byte
-	lost := 0
+	lost := uint32(0)
 	for {
 		to, data, err := member.Next(&buffer)
-		if errors.Is(err, swim.Nothing) {
+		if errors.Is(err, swim.ErrNothing) {
 			break
 		}
 		must(err)
@@ -71,29 +74,62 @@ func receiveAll(udp *net.UDPConn, came chan<- datagram) {
 	}
 }
 
-func run(member *swim.Member, udp *net.UDPConn, peer uint64, seconds uint64) {
-	peers, err := member.StoredPeers()
+func join(member *swim.Member, udp *net.UDPConn, peer netip.AddrPort) {
+	must(member.Join(peer))
+	sendAll(member, udp)
+}
+
+// joinAgain asks again: each period while alone, and each 300 ticks. Without it a group that was cut for long stays in two.
+func joinAgain(member *swim.Member, udp *net.UDPConn, peers []netip.AddrPort, period, ticks uint64) {
+	status, err := member.Status()
 	must(err)
-	if peer != 0 {
-		peers = append(peers, loopback(peer))
+	alone := status.Alive+status.Suspect == 0
+	if ticks%rejoin != 0 && !(alone && ticks%period == 0) {
+		return
 	}
+	rows, err := member.Members()
+	must(err)
+	var known []netip.AddrPort
+	for _, row := range rows {
+		if row.Kind != swim.Confirm {
+			known = append(known, row.Who)
+		}
+	}
+	for _, choices := range [][]netip.AddrPort{peers, known} {
+		if len(choices) > 0 {
+			join(member, udp, choices[rand.Intn(len(choices))])
+		}
+	}
+}
+
+// run makes one tick a time: a Ticker leaves out those that are late, which are never made up.
+func run(member *swim.Member, udp *net.UDPConn, peers []netip.AddrPort, period, seconds uint64) {
 	for _, peer := range peers {
-		must(member.Join(peer))
-		sendAll(member, udp)
+		join(member, udp, peer)
 	}
 	came := make(chan datagram)
 	go receiveAll(udp, came)
-	ticks, end := time.NewTicker(tick), time.After(time.Duration(seconds)*time.Second)
+	ticks, count, end := time.NewTicker(tick), uint64(0), time.After(time.Duration(seconds)*time.Second)
 	for {
+		select { // what waits is read before a tick
+		case one := <-came:
+			must(member.Receive(one.from, one.data))
+			sendAll(member, udp)
+			continue
+		default:
+		}
 		select {
 		case <-end:
 			return
 		case <-ticks.C:
+			count++
 			must(member.Tick(rand.Uint64()))
+			sendAll(member, udp)
+			joinAgain(member, udp, peers, period, count)
 		case one := <-came:
 			must(member.Receive(one.from, one.data))
+			sendAll(member, udp)
 		}
-		sendAll(member, udp)
 	}
 }
 
@@ -112,12 +148,16 @@ func main() {
 	must(err)
 	member, err := swim.Open(path, settings)
 	must(err)
-	run(member, udp, number(os.Args[4]), number(os.Args[5]))
+	peers, err := member.StoredPeers()
+	must(err)
+	if peer := number(os.Args[4]); peer != 0 {
+		peers = append(peers, loopback(peer))
+	}
+	run(member, udp, peers, settings.Period, number(os.Args[5]))
 	rows, err := member.Members()
 	must(err)
 	for _, row := range rows {
-		kind := map[int]string{swim.Alive: "alive", swim.Suspect: "suspect", swim.Confirm: "confirm"}[row.Kind]
-		fmt.Println(kind, row.Who, row.Number)
+		fmt.Println(row.Kind, row.Who, row.Number)
 	}
 	must(member.KeepPeers())
 	must(member.Leave())

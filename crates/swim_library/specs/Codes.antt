@@ -19,6 +19,7 @@ code_of why.Waiting = 6
 code_of why.Short = 7
 code_of why.NoMemory = 8
 code_of why.File = 9
+code_of why.Address = 19
 code_of (why.Settings fault) = 10 + setting_number fault
 code_of (why.Opening fault) = 20 + number_of_open fault
 code_of (why.Making fault) = 30 + number_of_init fault
@@ -40,6 +41,9 @@ IS_OPEN = code_of why.IsOpen
 
 abbrev pub NO_ENDPOINT : ℕ
 NO_ENDPOINT = code_of why.NoEndpoint
+
+abbrev pub BAD_ADDRESS : ℕ
+BAD_ADDRESS = code_of why.Address
 
 abbrev pub WAITING : ℕ
 WAITING = code_of why.Waiting

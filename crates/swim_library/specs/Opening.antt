@@ -1,12 +1,19 @@
 -- What an opening gives.
-use Rattle.std.specs.Prelude.{◌≡◌, ℕ, []}
+use Rattle.std.specs.Prelude.{◌≡◌, ◌↔◌, ◌⊎◌, ◌<◌, ℕ, [], ⊤, Some}
 use Rattle.swim_disk.specs.Disk.{IsSettled}
 use Rattle.swim_disk.specs.File.{FileView, file_state}
+use Rattle.swim_member.specs.Checks.{fault_of}
 use Rattle.swim_member.specs.declared.settings.Settings.{Settings}
 use Rattle.swim_node.specs.History.{fresh_base}
 use Rattle.swim_node.specs.Lives.{BeginsAbove, IsLiving, MayEnd, life_of}
 use Rattle.swim_node.specs.Node.{NodeView, owner_of}
+use Rattle.swim_node.specs.declared.fault.OpenFault.TheVariants.{Limit}
+use Rattle.swim_node.specs.declared.opening.TheConstants.{LIMIT_MAX}
 use Rattle.swim_library.specs.Outbox.{waiting_in}
+use Rattle.swim_library.specs.declared.refusal.Refusal.{Refusal}
+use Rattle.swim_library.specs.declared.refusal.Refusal.TheVariants as why
+use Rattle.swim_library.specs.Shapes.{IsNoMembers, settings_of}
+use Rattle.swim_library.specs.declared.shapes.SwimSettings.{SwimSettings}
 use Rattle.swim_library.specs.declared.running.Running.{Running}
 
 -- A life has begun on what the file had. Its first number is above all that the life before said,
@@ -26,3 +33,20 @@ pub record Begins (settings : Settings) (limit : ℕ) (node : NodeView FileView)
 pub record OpensOn (settings : Settings) (limit : ℕ) (running : Running) : Type 0 where
   pub begins : Begins settings limit running.node
   pub waits : waiting_in running.outbox ≡ []
+
+-- What a refusal says of the file: a limit is refused where it is out of its range, and no other
+-- one. Which file the descriptor is no definition can say, so nothing is said of one that is
+-- refused, or of want of memory.
+abbrev pub RefusesFile : ℕ → Refusal → Type 0
+RefusesFile limit (why.Opening reason) = (reason ≡ Limit) ↔ ((limit ≡ 0) ⊎ (LIMIT_MAX < limit))
+RefusesFile limit why.NoMemory = ⊤
+RefusesFile limit why.File = ⊤
+RefusesFile limit _ = ⊥
+
+-- What a refusal of an opening says: of what C named the first fault, or else what it says of the
+-- file. No opening is refused otherwise.
+abbrev pub RefusesOpening : SwimSettings → ℕ → Refusal → Type 0
+RefusesOpening given limit why.NoEndpoint = given.port ≡ 0
+RefusesOpening given limit why.Address = IsNoMembers given.address
+RefusesOpening given limit (why.Settings fault) = fault_of (settings_of given) ≡ Some fault
+RefusesOpening given limit refusal = RefusesFile limit refusal

@@ -76,7 +76,8 @@ pub extern "C" fn swim_library_tick(member: &mut SwimMember, spare: SwimMember, 
     }
 }
 
-/// Bytes came. What passes 513 of them is cut off.
+/// Bytes came. What passes 513 of them is cut off. Whoever can send a datagram can send one from port 0; nobody can be
+/// answered there, so such a one is left aside, and nothing is entered.
 #[unsafe(no_mangle)]
 pub extern "C" fn swim_library_receive(
     member: &mut SwimMember,
@@ -84,13 +85,14 @@ pub extern "C" fn swim_library_receive(
     from: &SwimEndpoint,
     bytes: &[u8],
 ) -> u32
-    ensures entered { result ≡ OK
+    ensures entered { result ≡ OK → from.now.port ≢ 0
         → HandleBecomes member.old member.new (λ before after. EntersEvent before after
         (Datagram (number_of_endpoint from.now)
         (record { items = first RECEIVED_MAX bytes.now }))) }
     ensures refused { result ≢ OK → held member.new ≡ held member.old }
-    ensures closed { held member.old ≡ None → from.now.port ≢ 0 → result ≡ CLOSED }
-    ensures endpoint { from.now.port ≡ 0 → result ≡ NO_ENDPOINT }
+    ensures closed { held member.old ≡ None → result ≡ CLOSED }
+    ensures nobody { from.now.port ≡ 0 → held member.new ≡ held member.old }
+    ensures aside { from.now.port ≡ 0 → held member.old ≢ None → result ≡ OK }
     ensures waits { (running : Running) → held member.old ≡ Some running
         → from.now.port ≢ 0
         → waiting_in running.outbox ≢ []
@@ -101,7 +103,8 @@ pub extern "C" fn swim_library_receive(
         → IsDoneOrLacks result }
 {
     match from.endpoint() {
-        None => code(Err(Refusal::NoEndpoint)),
+        None if member.is_open() => code(Ok(())),
+        None => code(Err(Refusal::Closed)),
         Some(from) => {
             let bytes = kept_of(bytes);
             enter(member, spare, Event::Datagram { from, bytes })

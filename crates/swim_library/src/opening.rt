@@ -1,13 +1,14 @@
 //! Making a state file, opening a member on one, and closing it.
 
-ghost use Rattle.std.specs.Prelude.{◌≡◌, ◌≢◌, ◌≤◌, [], IfOk, IsErrOf, OnOk, Some, None};
+ghost use Rattle.std.specs.Prelude.{◌≡◌, ◌≢◌, ◌≤◌, ◌⊎◌, [], IfErr, IfOk, IsErrOf, OnOk, Some, None};
 ghost use Rattle.swim_disk.specs.Disk.{IsSettled};
 ghost use Rattle.swim_disk.specs.File.{FileView, file_state};
-ghost use Rattle.swim_library.specs.Codes.{CLOSED, IS_OPEN, NO_ENDPOINT, OK};
+ghost use Rattle.swim_library.specs.Codes.{BAD_ADDRESS, CLOSED, IS_OPEN, NO_ENDPOINT, OK, code_of};
 ghost use Rattle.swim_library.specs.Holding.{held};
-ghost use Rattle.swim_library.specs.Opening.{Begins, OpensOn};
+ghost use Rattle.swim_library.specs.Opening.{Begins, OpensOn, RefusesFile, RefusesOpening};
 ghost use Rattle.swim_library.specs.Outbox.{waiting_in};
-ghost use Rattle.swim_library.specs.Shapes.{settings_of};
+ghost use Rattle.swim_library.specs.Shapes.{IsNoMembers, settings_of};
+ghost use Rattle.swim_library.specs.declared.refusal.Refusal.{Refusal as Refusals};
 ghost use Rattle.swim_library.specs.declared.refusal.Refusal.TheVariants as why;
 ghost use Rattle.swim_library.specs.declared.running.Running.{Running};
 ghost use Rattle.swim_member.specs.Checks.{AreSound};
@@ -30,7 +31,8 @@ use swim_state::{Owner, init};
 
 /// A disk over the file of a descriptor, which stays its owner's to close.
 fn disk_of(alloc: Global, fd: i32) -> Result<FileDisk, Refusal>
-    ensures { IfOk result (λ disk. IsSettled (file_state disk)) }
+    ensures settled { IfOk result (λ disk. IsSettled (file_state disk)) }
+    ensures none { IfErr result (λ refusal. (refusal ≡ why.NoMemory) ⊎ (refusal ≡ why.File)) }
 {
     let own = duplicate(fd);
     if own < 0 {
@@ -47,6 +49,8 @@ fn disk_of(alloc: Global, fd: i32) -> Result<FileDisk, Refusal>
 fn make(alloc: Global, fd: i32, given: &SwimSettings) -> Result<(), Refusal>
     ensures sound { OnOk result (AreSound (settings_of given.now)) }
     ensures endpoint { given.now.port ≡ 0 → IsErrOf result why.NoEndpoint }
+    ensures address { given.now.port ≢ 0 → IsNoMembers given.now.address
+        → IsErrOf result why.Address }
 {
     let settings = given.checked()?;
     let owner = Owner {
@@ -68,6 +72,7 @@ fn node_on(
     ensures begins { IfOk result (Begins settings limit) }
     ensures limit { IfOk result (λ node. (1 ≤ limit) × (node.base.limit ≡ limit)
         × (node.entries ≡ [])) }
+    ensures refused { IfErr result (RefusesFile limit) }
 {
     let disk = disk_of(alloc, fd)?;
     match Node::open(alloc, disk, settings, limit) {
@@ -87,7 +92,11 @@ fn running_on(
     given: &SwimSettings,
     limit: u32,
 ) -> Result<Box<Running>, Refusal>
-    ensures { IfOk result (λ running. OpensOn (settings_of given.now) limit running.value) }
+    ensures opened { IfOk result (λ running. OpensOn (settings_of given.now) limit running.value) }
+    ensures refused { IfErr result (RefusesOpening given.now limit) }
+    ensures endpoint { given.now.port ≡ 0 → IsErrOf result why.NoEndpoint }
+    ensures address { given.now.port ≢ 0 → IsNoMembers given.now.address
+        → IsErrOf result why.Address }
 {
     let settings = given.checked()?;
     let node = node_on(alloc, fd, settings, limit)?;
@@ -97,7 +106,10 @@ fn running_on(
         notes: ArrayVec::new(),
         limit,
     };
-    Box::new(alloc, running).map_err(|_| Refusal::NoMemory)
+    match Box::new(alloc, running) {
+        Ok(running) => Ok(running),
+        Err(_) => Err(Refusal::NoMemory),
+    }
 }
 
 /// Makes the state file of a member on an empty file.
@@ -105,6 +117,8 @@ fn running_on(
 pub extern "C" fn swim_library_make_state(alloc: Global, fd: i32, settings: &SwimSettings) -> u32
     ensures sound { result ≡ OK → AreSound (settings_of settings.now) }
     ensures endpoint { settings.now.port ≡ 0 → result ≡ NO_ENDPOINT }
+    ensures address { settings.now.port ≢ 0 → IsNoMembers settings.now.address
+        → result ≡ BAD_ADDRESS }
 {
     code(make(alloc, fd, settings))
 }
@@ -123,6 +137,12 @@ pub extern "C" fn swim_library_open(
         × OpensOn (settings_of settings.now) limit running }
     ensures refused { result ≢ OK → held member.new ≡ held member.old }
     ensures open { held member.old ≢ None → result ≡ IS_OPEN }
+
+    ensures says { held member.old ≡ None → result ≢ OK → (refusal : Refusals)
+        × (result ≡ code_of refusal) × RefusesOpening settings.now limit refusal }
+    ensures endpoint { held member.old ≡ None → settings.now.port ≡ 0 → result ≡ NO_ENDPOINT }
+    ensures address { held member.old ≡ None → settings.now.port ≢ 0
+        → IsNoMembers settings.now.address → result ≡ BAD_ADDRESS }
 {
     if member.is_open() {
         return code(Err(Refusal::IsOpen));

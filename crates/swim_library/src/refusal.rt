@@ -26,6 +26,8 @@ pub(crate) enum Refusal {
     NoMemory,
     /// The system refused the descriptor, or a call on it.
     File,
+    /// No member is reached at the own address.
+    Address,
     /// A setting is out of its range.
     Settings(SettingsFault),
     /// The state file was not opened.
@@ -50,6 +52,7 @@ impl Refusal {
             Refusal::Short => 7,
             Refusal::NoMemory => 8,
             Refusal::File => 9,
+            Refusal::Address => 19,
             Refusal::Settings(fault) => 10 + u32::from(fault.number()),
             Refusal::Opening(fault) => 20 + u32::from(fault.number()),
             Refusal::Making(fault) => 30 + u32::from(fault.number()),

@@ -1,7 +1,8 @@
 //! What crosses to C by its fields.
 
-ghost use Rattle.std.specs.Prelude.{◌≡◌, ◌≢◌, ◌↔◌, IfErr, IfOk, IsErrOf, Some, SomeIff};
-ghost use Rattle.swim_library.specs.Shapes.{cursor_of, endpoint_as, number_of_endpoint, phase_as, row_as, settings_of, status_as};
+ghost use Rattle.std.specs.Prelude.{◌≡◌, ◌≢◌, ◌↔◌, IfErr, IfOk, IsErrOf, IsTrue, Some, SomeIff, ℕ};
+ghost use Rattle.swim_library.specs.Opening.{RefusesOpening};
+ghost use Rattle.swim_library.specs.Shapes.{cursor_of, endpoint_as, IsNoMembers, number_of_endpoint, phase_as, row_as, settings_of, status_as};
 ghost use Rattle.swim_library.specs.declared.refusal.Refusal.TheVariants as why;
 ghost use Rattle.swim_member.specs.Checks.{AreSound, fault_of};
 
@@ -109,19 +110,34 @@ impl SwimEndpoint {
     }
 }
 
+/// Whether no member is reached at this address: the unspecified one, the one of a broadcast, and those of multicast.
+fn is_no_members(address: u32) -> bool
+    ensures { IsTrue result ↔ IsNoMembers address }
+{
+    address == 0 || address == u32::MAX || address / (1 << 28) == 14
+}
+
 impl SwimSettings {
     /// The settings, where they are sound.
     pub(crate) fn checked(&self) -> Result<Settings, Refusal>
         ensures sound { IfOk result AreSound }
         ensures value { IfOk result (λ s. s ≡ settings_of self.now) }
         ensures endpoint { IsErrOf result why.NoEndpoint ↔ (self.now.port ≡ 0) }
+        ensures address { IsErrOf result why.Address
+            ↔ (self.now.port ≢ 0) × IsNoMembers self.now.address }
         ensures fault { IfErr result (λ refusal. refusal ≢ why.NoEndpoint
+            → refusal ≢ why.Address
             → (fault : _) × (refusal ≡ why.Settings fault)
             × (fault_of (settings_of self.now) ≡ Some fault)) }
+        ensures refused { IfErr result (λ refusal. (limit : ℕ)
+            → RefusesOpening self.now limit refusal) }
     {
         let Some(me) = Endpoint::new(self.address, self.port) else {
             return Err(Refusal::NoEndpoint);
         };
+        if is_no_members(self.address) {
+            return Err(Refusal::Address);
+        }
         let settings = Settings {
             group: self.group,
             me,

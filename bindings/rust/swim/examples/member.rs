@@ -9,8 +9,11 @@ use std::time::{Duration, Instant};
 use swim::{Kind, Member, Settings, DATAGRAM_MAX};
 
 const TICK: Duration = Duration::from_millis(100);
+const REJOIN: u64 = 300; // ticks
 
-fn send_all(member: &mut Member, udp: &UdpSocket) -> Result<(), Box<dyn Error>> {
+type Done = Result<(), Box<dyn Error>>;
+
+fn send_all(member: &mut Member, udp: &UdpSocket) -> Done {
     let (mut buffer, mut lost) = ([0; DATAGRAM_MAX], 0);
     while let Some((to, bytes)) = member.next_datagram(&mut buffer)? {
         lost += u32::from(udp.send_to(bytes, to).is_err());
@@ -21,63 +24,129 @@ fn send_all(member: &mut Member, udp: &UdpSocket) -> Result<(), Box<dyn Error>> 
     Ok(())
 }
 
-/// Waits for a datagram until the moment, and hands it in.
-fn receive_until(member: &mut Member, udp: &UdpSocket, until: Instant) -> Result<(), Box<dyn Error>> {
-    let left = until.saturating_duration_since(Instant::now());
-    if left.is_zero() {
-        return Ok(());
-    }
-    udp.set_read_timeout(Some(left))?;
+/// Hands in what waits, and what comes until then.
+fn receive_until(member: &mut Member, udp: &UdpSocket, until: Instant) -> Done {
     let mut bytes = [0; DATAGRAM_MAX + 1];
-    match udp.recv_from(&mut bytes) {
-        Ok((length, SocketAddr::V4(from))) => Ok(member.receive(from, &bytes[..length])?),
-        Err(error) if !matches!(error.kind(), ErrorKind::WouldBlock | ErrorKind::Interrupted) => {
-            Ok(member.receive_failed()?)
+    loop {
+        // what waits is read before a tick, but not for ever
+        let left = until.saturating_duration_since(Instant::now());
+        udp.set_nonblocking(left.is_zero())?;
+        if !left.is_zero() {
+            udp.set_read_timeout(Some(left))?;
         }
-        _ => Ok(()),
+        match udp.recv_from(&mut bytes) {
+            Ok((length, SocketAddr::V4(from))) => member.receive(from, &bytes[..length])?,
+            Ok(_) => {}
+            Err(error) if matches!(error.kind(), ErrorKind::WouldBlock | ErrorKind::TimedOut) => {
+                return Ok(())
+            }
+            Err(error) if error.kind() == ErrorKind::Interrupted => {}
+            Err(_) => member.receive_failed()?,
+        }
+        send_all(member, udp)?;
+        if Instant::now() > until + TICK {
+            return Ok(());
+        }
     }
 }
 
-fn main() -> Result<(), Box<dyn Error>> {
+fn join(member: &mut Member, udp: &UdpSocket, peer: SocketAddrV4) -> Done {
+    member.join(peer)?;
+    send_all(member, udp)
+}
+
+/// Asks again: each period while alone, and each 300 ticks. Without it a group that was cut for long stays in two.
+fn join_again(
+    member: &mut Member,
+    udp: &UdpSocket,
+    peers: &[SocketAddrV4],
+    period: u64,
+    ticks: u64,
+    word: u64,
+) -> Done {
+    let status = member.status()?;
+    let is_alone = status.alive + status.suspect == 0;
+    if ticks % REJOIN != 0 && !(is_alone && ticks % period == 0) {
+        return Ok(());
+    }
+    let mut known: Vec<SocketAddrV4> = Vec::new();
+    known.extend(
+        member
+            .members()?
+            .iter()
+            .filter(|row| row.kind != Kind::Confirm)
+            .map(|row| row.who),
+    );
+    for choices in [peers, &known[..]] {
+        if let Some(&peer) = choices.get((word % choices.len().max(1) as u64) as usize) {
+            join(member, udp, peer)?;
+        }
+    }
+    Ok(())
+}
+
+fn run(
+    member: &mut Member,
+    udp: &UdpSocket,
+    peers: &[SocketAddrV4],
+    settings: &Settings,
+    end: Instant,
+) -> Done {
+    let mut random = File::open("/dev/urandom")?;
+    for &peer in peers {
+        join(member, udp, peer)?;
+    }
+    let (mut next, mut ticks) = (Instant::now() + TICK, 0);
+    while Instant::now() < end {
+        receive_until(member, udp, next)?;
+        let mut word = [0; 8];
+        random.read_exact(&mut word)?;
+        member.tick(u64::from_ne_bytes(word))?;
+        send_all(member, udp)?;
+        ticks += 1;
+        join_again(
+            member,
+            udp,
+            peers,
+            settings.period,
+            ticks,
+            u64::from_ne_bytes(word),
+        )?;
+        let now = Instant::now();
+        next = if next + TICK > now {
+            next + TICK
+        } else {
+            now + TICK
+        }; // late ticks are never made up
+    }
+    Ok(())
+}
+
+fn main() -> Done {
     let words: Vec<String> = std::env::args().collect();
-    let [_, path, group, port, peer, seconds] = &words[..] else {
-        return Err("member STATE-FILE GROUP PORT PEER-PORT SECONDS".into());
+    let (path, group, port, peer, seconds) = match &words[..] {
+        [_, path, group, port, peer, seconds] => (Path::new(path), group, port, peer, seconds),
+        _ => return Err("member STATE-FILE GROUP PORT PEER-PORT SECONDS".into()),
     };
     let at = |port: u16| SocketAddrV4::new(Ipv4Addr::LOCALHOST, port);
-    let (path, peer) = (Path::new(path), peer.parse()?);
+    let peer: u16 = peer.parse()?;
     let settings = Settings::usual(group.parse()?, at(port.parse()?));
     if !path.exists() {
         swim::make(path, &settings)?;
     }
     let udp = UdpSocket::bind(settings.me)?;
     let mut member = Member::open(path, &settings, 1)?;
-    let mut random = File::open("/dev/urandom")?;
     let mut peers = member.stored_peers()?;
     peers.extend((peer != 0).then(|| at(peer)));
-    for peer in peers {
-        member.join(peer)?;
-        send_all(&mut member, &udp)?;
-    }
-    let start = Instant::now();
-    let (end, mut next) = (start + Duration::from_secs(seconds.parse()?), start + TICK);
-    while Instant::now() < end {
-        receive_until(&mut member, &udp, next)?;
-        send_all(&mut member, &udp)?;
-        if Instant::now() >= next {
-            let mut word = [0; 8];
-            random.read_exact(&mut word)?;
-            member.tick(u64::from_ne_bytes(word))?;
-            next += TICK;
-            send_all(&mut member, &udp)?;
-        }
-    }
+    let end = Instant::now() + Duration::from_secs(seconds.parse()?);
+    run(&mut member, &udp, &peers, &settings, end)?;
     for row in member.members()? {
-        let kind = match row.kind {
-            Kind::Alive => "alive",
-            Kind::Suspect => "suspect",
-            Kind::Confirm => "confirm",
-        };
-        println!("{kind} {} {}", row.who, row.number);
+        println!(
+            "{} {} {}",
+            format!("{:?}", row.kind).to_lowercase(),
+            row.who,
+            row.number
+        );
     }
     member.keep_peers()?;
     member.leave()?;

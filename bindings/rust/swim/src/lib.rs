@@ -1,72 +1,137 @@
 //! A member of a SWIM group, by polling, over the proved library libswim. `docs/EMBEDDING.md` says how time, random words and the
 //! state file are to be fed.
 //!
-//! After each event [`Member::next_datagram`] has to be asked until it gives none: the next event is refused until then.
+//! After each event [`Member::next_datagram`] has to be asked until it gives none: the next event is refused until then. Ticks that
+//! are late are skipped and never made up. The example `member` is a whole member over UDP.
+//!
+//! ```
+//! use swim::{Code, Kind, Member, Settings, DATAGRAM_MAX};
+//!
+//! # fn main() -> Result<(), swim::Fault> {
+//! let settings = Settings::usual(7, "127.0.0.1:7000".parse().unwrap());
+//! let mut member = Member::open_memory(&settings, 1)?;
+//! member.join("127.0.0.1:7001".parse().unwrap())?;
+//! assert_eq!(member.tick(1).unwrap_err().code, Code::Waiting);
+//! let mut buffer = [0; DATAGRAM_MAX];
+//! while let Some((to, bytes)) = member.next_datagram(&mut buffer)? {
+//!     assert_eq!((to.port(), bytes.len()), (7001, 48)); // send them there
+//! }
+//! member.tick(1)?;
+//! assert_eq!(member.members()?[0].kind, Kind::Alive);
+//! # Ok(())
+//! # }
+//! ```
+#![warn(missing_docs)]
 
-use std::ffi::{c_int, CStr, CString};
+#[rustfmt::skip]
+mod made;
+
+use std::ffi::{CStr, CString};
 use std::net::{Ipv4Addr, SocketAddrV4};
+use std::os::raw::c_int;
 use std::os::unix::ffi::OsStrExt;
 use std::path::Path;
-use std::{error, fmt, ptr};
+use std::{error, fmt, io, ptr};
 use swim_sys as sys;
 
+pub use made::{Code, Kind, Note, Phase};
 pub use swim_sys::SWIM_DATAGRAM_MAX as DATAGRAM_MAX;
 
-/// A code of swim.h other than SWIM_OK.
-#[derive(Clone, Copy, Debug, PartialEq, Eq)]
-pub struct Fault(pub c_int);
+/// Why a call did nothing.
+#[derive(Debug)]
+#[non_exhaustive]
+pub struct Fault {
+    /// The code of swim.h.
+    pub code: Code,
+    /// What the system said, where it refused something. It is the `source` too.
+    pub errno: Option<io::Error>,
+}
 
-impl fmt::Display for Fault {
-    fn fmt(&self, f: &mut fmt::Formatter<'_>) -> fmt::Result {
-        // SAFETY: both texts are static.
-        let (name, text) = unsafe {
-            (
-                CStr::from_ptr(sys::swim_name(self.0)),
-                CStr::from_ptr(sys::swim_text(self.0)),
-            )
-        };
-        write!(f, "{}: {}", name.to_string_lossy(), text.to_string_lossy())
+impl Fault {
+    /// Of a call that has just answered so.
+    fn of(number: c_int) -> Fault {
+        let said = io::Error::last_os_error();
+        let code = Code::of(number);
+        let has_errno = matches!(
+            code,
+            Code::File | Code::OpenDevice | Code::MakeDevice | Code::KeepDevice
+        );
+        Fault {
+            code,
+            errno: has_errno.then_some(said),
+        }
     }
 }
 
-impl error::Error for Fault {}
+impl fmt::Display for Fault {
+    fn fmt(&self, f: &mut fmt::Formatter<'_>) -> fmt::Result {
+        // SAFETY: the text is static.
+        let text = unsafe { CStr::from_ptr(sys::swim_text(self.code.number())) };
+        f.write_str(&text.to_string_lossy())
+    }
+}
+
+impl error::Error for Fault {
+    fn source(&self) -> Option<&(dyn error::Error + 'static)> {
+        self.errno.as_ref().map(|error| error as _)
+    }
+}
+
+impl fmt::Display for Note {
+    fn fmt(&self, f: &mut fmt::Formatter<'_>) -> fmt::Result {
+        // SAFETY: the name is static.
+        let name = unsafe { CStr::from_ptr(sys::swim_note_name(self.number().into())) };
+        f.write_str(&name.to_string_lossy())
+    }
+}
 
 fn done(code: c_int) -> Result<(), Fault> {
     match code {
         sys::SWIM_OK => Ok(()),
-        code => Err(Fault(code)),
+        code => Err(Fault::of(code)),
     }
 }
 
 /// What a member is told at its start; swim.h has the ranges.
 #[derive(Clone, Copy, Debug, PartialEq, Eq)]
 pub struct Settings {
+    /// The group's number.
     pub group: u64,
+    /// The own address and port, as the others see it.
     pub me: SocketAddrV4,
+    /// Ticks from one probe to the next.
     pub period: u64,
+    /// Ticks that a direct answer may take before helpers are asked.
     pub direct: u64,
+    /// Ticks after which a Suspect becomes Confirm.
     pub suspect: u64,
+    /// Ticks after which a Confirm is forgotten.
     pub forget: u64,
+    /// Own numbers that one save of the state file reserves.
     pub block: u64,
+    /// How often an update is sent, times the binary digits of the count of members.
     pub lambda: u32,
+    /// How many others are asked about a silent target.
     pub helpers: u32,
+    /// By which rules the group lives.
     pub rules: u32,
 }
 
 impl Settings {
     /// The defaults of `swim run`, by rules 2.
     pub fn usual(group: u64, me: SocketAddrV4) -> Settings {
+        let usual = sys::SWIM_USUAL_SETTINGS;
         Settings {
             group,
             me,
-            period: 10,
-            direct: 3,
-            suspect: 50,
-            forget: 6000,
-            block: 1,
-            lambda: 3,
-            helpers: 3,
-            rules: 2,
+            period: usual.period,
+            direct: usual.direct,
+            suspect: usual.suspect,
+            forget: usual.forget,
+            block: usual.block,
+            lambda: usual.lambda,
+            helpers: usual.helpers,
+            rules: usual.rules,
         }
     }
 
@@ -84,44 +149,60 @@ impl Settings {
             helpers: self.helpers,
             rules: self.rules,
             port: me.port,
+            ..sys::SWIM_USUAL_SETTINGS
         }
     }
-}
-
-/// What is held of a member.
-#[derive(Clone, Copy, Debug, PartialEq, Eq)]
-pub enum Kind {
-    Alive,
-    Suspect,
-    Confirm,
 }
 
 /// A member that is known.
 #[derive(Clone, Copy, Debug, PartialEq, Eq)]
 pub struct Row {
+    /// What is held of it.
     pub kind: Kind,
+    /// Its address and port.
     pub who: SocketAddrV4,
+    /// Its incarnation number.
     pub number: u64,
-}
-
-/// Whether a member takes part.
-#[derive(Clone, Copy, Debug, PartialEq, Eq)]
-pub enum Phase {
-    Running,
-    Left,
-    Expelled,
 }
 
 /// What a status page shows. `first` is the number with which this life began.
 #[derive(Clone, Copy, Debug, PartialEq, Eq)]
 pub struct Status {
+    /// Whether the member takes part.
     pub phase: Phase,
+    /// The own incarnation number.
     pub number: u64,
+    /// The number with which this life began.
     pub first: u64,
+    /// Other members that are held for alive.
     pub alive: u64,
+    /// Those that are suspected.
     pub suspect: u64,
+    /// Those that failed or left, and are not forgotten yet.
     pub confirmed: u64,
 }
+
+// What the library writes over.
+
+const NOWHERE: sys::swim_endpoint = sys::swim_endpoint { address: 0, port: 0 };
+
+const NO_ROW: sys::swim_row = sys::swim_row {
+    number: 0,
+    address: 0,
+    port: 0,
+    kind: 0,
+    reserved: [0; 17],
+};
+
+const NO_STATUS: sys::swim_status = sys::swim_status {
+    number: 0,
+    first: 0,
+    alive: 0,
+    suspect: 0,
+    confirmed: 0,
+    phase: 0,
+    reserved: [0; 52],
+};
 
 fn to_c(at: SocketAddrV4) -> sys::swim_endpoint {
     sys::swim_endpoint {
@@ -135,17 +216,25 @@ fn from_c(address: u32, port: u16) -> SocketAddrV4 {
 }
 
 fn path_to_c(path: &Path) -> Result<CString, Fault> {
-    CString::new(path.as_os_str().as_bytes()).map_err(|_| Fault(sys::SWIM_FILE))
+    CString::new(path.as_os_str().as_bytes()).map_err(|error| Fault {
+        code: Code::File,
+        errno: Some(error.into()),
+    })
 }
 
-/// Makes the state file of a member at a path where nothing is.
-pub fn make(path: &Path, settings: &Settings) -> Result<(), Fault> {
-    let path = path_to_c(path)?;
+/// Makes the state file of a member at a path where nothing is, whole or not at all.
+pub fn make(path: impl AsRef<Path>, settings: &Settings) -> Result<(), Fault> {
+    let path = path_to_c(path.as_ref())?;
     // SAFETY: path and settings live through the call.
     done(unsafe { sys::swim_make(path.as_ptr(), &settings.to_c()) })
 }
 
 /// A member. It is one thread's at a time: `Send`, and not `Sync`. Dropping it closes it, and sends nothing.
+///
+/// ```compile_fail
+/// fn is_shared<T: Sync>() {}
+/// is_shared::<swim::Member>();
+/// ```
 pub struct Member {
     handle: sys::swim_member,
 }
@@ -157,8 +246,13 @@ impl Member {
     fn open_by(open: impl FnOnce(*mut sys::swim_member) -> c_int) -> Result<Member, Fault> {
         let mut member = Member {
             handle: sys::swim_member {
-                mark: 0,
-                at: ptr::null_mut(),
+                inside: sys::swim_inside {
+                    mark: 0,
+                    at: ptr::null_mut(),
+                },
+                busy: 0,
+                forks: 0,
+                reserved: 0,
             },
         };
         done(open(&mut member.handle))?;
@@ -166,8 +260,8 @@ impl Member {
     }
 
     /// Opens a member on its state file. An era has so many entries; 1 is enough.
-    pub fn open(path: &Path, settings: &Settings, limit: u32) -> Result<Member, Fault> {
-        let path = path_to_c(path)?;
+    pub fn open(path: impl AsRef<Path>, settings: &Settings, limit: u32) -> Result<Member, Fault> {
+        let path = path_to_c(path.as_ref())?;
         // SAFETY: all three live through the call.
         Member::open_by(|handle| unsafe { sys::swim_open(handle, path.as_ptr(), &settings.to_c(), limit) })
     }
@@ -180,12 +274,12 @@ impl Member {
 
     // SAFETY of each call below: the handle is this member's alone, and what is passed lives through the call.
 
-    /// Time goes on by one tick, with 64 random bits.
+    /// Time goes on by one tick, with 64 random bits. Late ticks are never made up.
     pub fn tick(&mut self, random: u64) -> Result<(), Fault> {
         done(unsafe { sys::swim_tick(&mut self.handle, random) })
     }
 
-    /// Bytes came from there.
+    /// Bytes came from there. No datagram, whatever it is, makes this fail; one from port 0 is left aside.
     pub fn receive(&mut self, from: SocketAddrV4, bytes: &[u8]) -> Result<(), Fault> {
         done(unsafe { sys::swim_receive(&mut self.handle, to_c(from), bytes.as_ptr(), bytes.len()) })
     }
@@ -215,7 +309,7 @@ impl Member {
         &mut self,
         buffer: &'a mut [u8; DATAGRAM_MAX],
     ) -> Result<Option<(SocketAddrV4, &'a [u8])>, Fault> {
-        let (mut to, mut length) = (sys::swim_endpoint::default(), 0);
+        let (mut to, mut length) = (NOWHERE, 0);
         let code = unsafe {
             sys::swim_next_datagram(
                 &mut self.handle,
@@ -234,12 +328,12 @@ impl Member {
 
     /// The members that are known, the own one among them, by address and port.
     pub fn members(&mut self) -> Result<Vec<Row>, Fault> {
-        let (mut rows, mut count) = ([sys::swim_row::default(); sys::SWIM_MEMBERS_MAX], 0);
-        done(unsafe { sys::swim_members(&mut self.handle, rows.as_mut_ptr(), rows.len(), &mut count) })?;
+        let (mut rows, mut count) = ([NO_ROW; sys::SWIM_MEMBERS_MAX], 0);
+        done(unsafe { sys::swim_members(&self.handle, rows.as_mut_ptr(), rows.len(), &mut count) })?;
         Ok(rows[..count]
             .iter()
             .map(|row| Row {
-                kind: kind_of(row.kind),
+                kind: Kind::of(row.kind),
                 who: from_c(row.address, row.port),
                 number: row.number,
             })
@@ -248,38 +342,29 @@ impl Member {
 
     /// What a status page shows.
     pub fn status(&mut self) -> Result<Status, Fault> {
-        let mut status = sys::swim_status::default();
-        done(unsafe { sys::swim_get_status(&mut self.handle, &mut status) })?;
-        let sys::swim_status {
-            number,
-            first,
-            alive,
-            suspect,
-            confirmed,
-            phase,
-        } = status;
-        let phase = [Phase::Running, Phase::Left, Phase::Expelled][phase as usize];
+        let mut status = NO_STATUS;
+        done(unsafe { sys::swim_get_status(&self.handle, &mut status) })?;
         Ok(Status {
-            phase,
-            number,
-            first,
-            alive,
-            suspect,
-            confirmed,
+            phase: Phase::of(status.phase),
+            number: status.number,
+            first: status.first,
+            alive: status.alive,
+            suspect: status.suspect,
+            confirmed: status.confirmed,
         })
     }
 
-    /// The numbers of what the last event took note of.
-    pub fn notes(&mut self) -> Result<Vec<u8>, Fault> {
+    /// What the last event took note of.
+    pub fn notes(&mut self) -> Result<Vec<Note>, Fault> {
         let (mut notes, mut count) = ([0; sys::SWIM_NOTES_MAX], 0);
-        done(unsafe { sys::swim_notes(&mut self.handle, notes.as_mut_ptr(), &mut count) })?;
-        Ok(notes[..count].to_vec())
+        done(unsafe { sys::swim_notes(&self.handle, notes.as_mut_ptr(), &mut count) })?;
+        Ok(notes[..count].iter().map(|&note| Note::of(note)).collect())
     }
 
     /// Whom an earlier life knew.
     pub fn stored_peers(&mut self) -> Result<Vec<SocketAddrV4>, Fault> {
-        let (mut peers, mut count) = ([sys::swim_endpoint::default(); sys::SWIM_PEERS_MAX], 0);
-        done(unsafe { sys::swim_stored_peers(&mut self.handle, peers.as_mut_ptr(), &mut count) })?;
+        let (mut peers, mut count) = ([NOWHERE; sys::SWIM_PEERS_MAX], 0);
+        done(unsafe { sys::swim_stored_peers(&self.handle, peers.as_mut_ptr(), &mut count) })?;
         Ok(peers[..count]
             .iter()
             .map(|peer| from_c(peer.address, peer.port))
@@ -292,11 +377,9 @@ impl Member {
     }
 }
 
-fn kind_of(kind: u8) -> Kind {
-    match kind {
-        1 => Kind::Alive,
-        2 => Kind::Suspect,
-        _ => Kind::Confirm,
+impl fmt::Debug for Member {
+    fn fmt(&self, f: &mut fmt::Formatter<'_>) -> fmt::Result {
+        f.debug_struct("Member").finish_non_exhaustive()
     }
 }
 

@@ -1,4 +1,3 @@
-use Rattle.std.proofs.Common.{rules, ◌≡◌, ◌≤◌, ◌<◌, ◌^◌, ℕ}
 use Rattle.swim_library.proofs.Dealing.{reached}
 use Rattle.swim_library.proofs.deal.place_by.Goals as goal
 

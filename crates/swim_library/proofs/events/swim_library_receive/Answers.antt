@@ -5,7 +5,7 @@ use Rattle.swim_member.specs.declared.event.Event.TheVariants.{Datagram}
 use Rattle.swim_library.proofs.events.swim_library_receive.Goals as goal
 
 pub returns-in-Some-clause-entered : goal.returns-in-Some-clause-entered
-returns-in-Some-clause-entered c = λ ok.
+returns-in-Some-clause-entered c = λ ok named.
     subst (λ (from : ℕ). HandleBecomes c.args.member.now c.enter.new.member (λ before after. EntersEvent before after (Datagram from (record { items = take 513 c.args.bytes.now }))))
     c.in-Some.ensures.1
     (subst (λ (bytes : List ℕ). HandleBecomes c.args.member.now c.enter.new.member (λ before after. EntersEvent before after (Datagram c.in-Some.from (record { items = bytes }))))

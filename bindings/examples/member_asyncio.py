@@ -1,0 +1,26 @@
+"""A member in Python under asyncio: `member_asyncio.py STATE-FILE GROUP PORT PEER-PORT SECONDS`, on loopback alone, as member.c."""
+
+import asyncio
+import os
+import sys
+
+import swim
+import swim.aio
+
+
+async def run(path, settings, peers, seconds):
+    async with swim.aio.Member(path, settings, peers) as member:
+        await asyncio.sleep(seconds)
+        for row in member.members():
+            print(row.kind.name.lower(), f"{row.who[0]}:{row.who[1]}", row.number)
+
+
+def main():
+    path, group, port, peer, seconds = sys.argv[1], *map(int, sys.argv[2:6])
+    settings = swim.Settings(group=group, me=("127.0.0.1", port))
+    if not os.path.exists(path):
+        swim.make(path, settings)
+    asyncio.run(run(path, settings, [("127.0.0.1", peer)] if peer else [], seconds))
+
+
+main()

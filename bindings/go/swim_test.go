@@ -1,0 +1,121 @@
+package swim_test
+
+import (
+	"errors"
+	"fmt"
+	"io/fs"
+	"net/netip"
+	"path/filepath"
+	"sync"
+	"testing"
+
+	"example.com/rollerblack/swim"
+)
+
+var (
+	me   = netip.MustParseAddrPort("127.0.0.1:7000")
+	peer = netip.MustParseAddrPort("127.0.0.1:7001")
+)
+
+func open(t *testing.T) *swim.Member {
+	t.Helper()
+	member, err := swim.OpenMemory(swim.Usual(7, me))
+	if err != nil {
+		t.Fatal(err)
+	}
+	return member
+}
+
+func want(t *testing.T, err, expected error) {
+	t.Helper()
+	if !errors.Is(err, expected) {
+		t.Errorf("%v in place of %v", err, expected)
+	}
+}
+
+func TestErrorsTellTheirErrno(t *testing.T) {
+	path, settings := filepath.Join(t.TempDir(), "member.state"), swim.Usual(7, me)
+	_, err := swim.Open(path, settings)
+	want(t, err, swim.ErrFile)
+	want(t, err, fs.ErrNotExist)
+	want(t, swim.Make(path, settings), nil)
+	want(t, swim.Make(path, settings), fs.ErrExist)
+	member, err := swim.Open(path, settings)
+	want(t, err, nil)
+	_, err = swim.Open(path, settings)
+	want(t, err, swim.ErrLocked)
+	want(t, member.Close(), nil)
+	want(t, member.Close(), swim.ErrClosed)
+	want(t, member.Tick(1), swim.ErrClosed)
+}
+
+func TestNoAddressPanics(t *testing.T) {
+	member := open(t)
+	defer member.Close()
+	for _, from := range []netip.AddrPort{{}, netip.MustParseAddrPort("[::1]:7001"), netip.MustParseAddrPort("127.0.0.1:0")} {
+		want(t, member.Receive(from, []byte("x")), nil)
+		want(t, member.Join(from), swim.ErrNoEndpoint)
+	}
+	for _, at := range []string{"0.0.0.0:7000", "255.255.255.255:7000", "224.0.0.1:7000"} {
+		_, err := swim.OpenMemory(swim.Usual(7, netip.MustParseAddrPort(at)))
+		want(t, err, swim.ErrBadAddress)
+	}
+	_, err := swim.OpenMemory(swim.Usual(7, netip.MustParseAddrPort("[::1]:7000")))
+	want(t, err, swim.ErrNoEndpoint)
+}
+
+func TestGoroutinesWaitForOneAnother(t *testing.T) {
+	member := open(t)
+	defer member.Close()
+	var all sync.WaitGroup
+	for i := 0; i < 4; i++ {
+		all.Add(1)
+		go func() {
+			defer all.Done()
+			for j := 0; j < 200; j++ {
+				if err := member.Receive(peer, []byte("x")); err != nil {
+					t.Error(err)
+				}
+			}
+		}()
+	}
+	all.Wait()
+	notes, err := member.Notes()
+	if err != nil || len(notes) != 1 || notes[0] != swim.NoteBadDatagram || notes[0].String() != "BadDatagram" {
+		t.Error(notes, err)
+	}
+}
+
+func TestStatusIsOfTypes(t *testing.T) {
+	member := open(t)
+	defer member.Close()
+	want(t, member.Leave(), nil)
+	status, err := member.Status()
+	if err != nil || status != (swim.Status{Phase: swim.Left, Number: 1, First: 1}) {
+		t.Error(status, err)
+	}
+}
+
+func Example() {
+	member, err := swim.OpenMemory(swim.Usual(7, me))
+	if err != nil {
+		panic(err)
+	}
+	defer member.Close()
+	if err := member.Join(peer); err != nil {
+		panic(err)
+	}
+	var buffer [swim.DatagramMax]byte
+	for {
+		to, data, err := member.Next(&buffer)
+		if errors.Is(err, swim.ErrNothing) {
+			break
+		}
+		fmt.Println(to, len(data)) // send them there
+	}
+	rows, _ := member.Members()
+	fmt.Println(rows[0].Kind, rows[0].Who, rows[0].Number)
+	// Output:
+	// 127.0.0.1:7001 48
+	// alive 127.0.0.1:7000 1
+}

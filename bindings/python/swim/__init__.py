@@ -1,0 +1,266 @@
+"""A member of a SWIM group, by polling: the proved library libswim, through ctypes.
+
+    with swim.Member("member.state", swim.Settings(group=7, me=("127.0.0.1", 7000))) as member:
+        member.join(("127.0.0.1", 7001))
+        for to, data in member.datagrams(): ...       # send each
+        member.tick()                                 # each 100 ms; late ticks are skipped, never made up
+        member.receive(source, data)                  # each datagram
+
+After each event `datagrams` has to be taken to its end: the next event is refused until then. `swim.aio.Member` does all of it
+over UDP under asyncio. Threads may call one member: each call waits for the one before. `docs/EMBEDDING.md` says how time, random
+words and the state file are to be fed.
+
+A member in memory, for tests:
+
+>>> settings = Settings(group=7, me=("127.0.0.1", 7000))
+>>> with Member(None, settings) as member:
+...     member.join(("127.0.0.1", 7001))
+...     [(to, len(data)) for to, data in member.datagrams()]
+...     member.members()
+[(('127.0.0.1', 7001), 48)]
+[Row(kind=<Kind.ALIVE: 1>, who=('127.0.0.1', 7000), number=1)]
+>>> member.tick()
+Traceback (most recent call last):
+    ...
+swim.Closed: CLOSED: the handle is closed
+"""
+
+import ctypes as _c
+import ipaddress
+import os
+import secrets
+import threading
+from dataclasses import dataclass
+from typing import Any, Callable, Iterator, List, Optional, Tuple, Union
+
+from . import _made
+from ._made import DATAGRAM_MAX, MEMBERS_MAX, NOTES_MAX, PEERS_MAX, Code, Kind, Note, Phase
+
+__all__ = [
+    "DATAGRAM_MAX", "MEMBERS_MAX", "Closed", "Code", "Kind", "Locked", "Member", "Note", "Phase", "Row", "Settings", "Status",
+    "SwimError", "Waiting", "make", "version",
+]  # fmt: skip
+
+Address = Tuple[str, int]  # "127.0.0.1", 7000: as sockets have it
+Path = Union[str, bytes, "os.PathLike[str]"]
+Data = Union[bytes, bytearray, memoryview]
+
+if any(_c.sizeof(shape) != size for shape, size in _made.SIZES.items()):
+    raise ImportError("the layouts of swim.h are not those of this machine")
+
+
+def _load() -> _c.CDLL:
+    """The library beside this module, as a wheel has it, or where SWIM_LIBRARY says, or where the system looks."""
+    beside = os.path.join(os.path.dirname(__file__), "libswim.so.1")
+    usual = beside if os.path.exists(beside) else "libswim.so.1"
+    library = _c.CDLL(os.environ.get("SWIM_LIBRARY", usual), use_errno=True)
+    for name, (answer, arguments) in _made.CALLS.items():
+        call = getattr(library, name, None)
+        if call is None:
+            raise ImportError("libswim is older than this module")
+        call.argtypes, call.restype = arguments, answer
+    loaded = library.swim_version()
+    if loaded // 1000 != _made.VERSION // 1000 or loaded < _made.VERSION:
+        raise ImportError(f"libswim has version {loaded}, and this module is for {_made.VERSION}")
+    return library
+
+
+_library = _load()
+
+
+class SwimError(OSError):
+    """A code of the library other than SWIM_OK: `code`, and `errno` with it where the system refused something, else None."""
+
+    def __init__(self, code: int, errno: int = 0):
+        self.code = Code(code) if code in Code.__members__.values() else code
+        self.name: str = _library.swim_name(code).decode().replace("SWIM_", "", 1)
+        text = _library.swim_text(code).decode()
+        has_errno = errno != 0 and self.code in (Code.FILE, Code.OPEN_DEVICE, Code.MAKE_DEVICE, Code.KEEP_DEVICE)
+        text = f"{self.name}: {text}" + (f" ({os.strerror(errno)})" if has_errno else "")
+        super().__init__(*((errno, text) if has_errno else (text,)))
+        self._text: str = text
+
+    def __str__(self) -> str:
+        return self._text
+
+
+class Closed(SwimError):
+    """The member is closed."""
+
+
+class Waiting(SwimError):
+    """Datagrams of the last event have to be taken first."""
+
+
+class Locked(SwimError):
+    """Another member or another process has the state file."""
+
+
+_CLASSES = {Code.CLOSED: Closed, Code.WAITING: Waiting, Code.LOCKED: Locked}
+
+
+def _must(code: int) -> None:
+    if code != Code.OK:
+        raise _CLASSES.get(code, SwimError)(code, _c.get_errno())  # type: ignore[call-overload]
+
+
+def _to_c(address: Address) -> _made.swim_endpoint:
+    if not 0 <= address[1] <= 65535:
+        raise ValueError(f"{address[1]} is no port")
+    return _made.swim_endpoint(int(ipaddress.IPv4Address(address[0])), address[1])
+
+
+def _from_c(address: int, port: int) -> Address:
+    return str(ipaddress.IPv4Address(address)), port
+
+
+@dataclass(frozen=True)
+class Settings:
+    """What a member is told at its start, with the defaults of `swim run` and rules 2; swim.h has the ranges."""
+
+    group: int
+    me: Address
+    period: int = _made.USUAL["period"]
+    direct: int = _made.USUAL["direct"]
+    suspect: int = _made.USUAL["suspect"]
+    forget: int = _made.USUAL["forget"]
+    block: int = _made.USUAL["block"]
+    lambda_: int = _made.USUAL["lambda_"]
+    helpers: int = _made.USUAL["helpers"]
+    rules: int = _made.USUAL["rules"]
+
+    def _to_c(self) -> _made.swim_settings:
+        wide = {name: getattr(self, name) for name in ("group", "period", "direct", "suspect", "forget", "block")}
+        words = {name: getattr(self, name) for name in ("lambda_", "helpers", "rules")}
+        if any(not 0 <= n < 1 << 64 for n in wide.values()) or any(not 0 <= n < 1 << 32 for n in words.values()):
+            raise ValueError("a setting does not fit its type")
+        me = _to_c(self.me)
+        return _made.swim_settings(**wide, **words, address=me.address, port=me.port)
+
+
+@dataclass(frozen=True)
+class Row:
+    """What is held of a member."""
+
+    kind: Kind
+    who: Address
+    number: int
+
+
+@dataclass(frozen=True)
+class Status:
+    """What a status page shows. `first` is the number with which this life began."""
+
+    phase: Phase
+    number: int
+    first: int
+    alive: int
+    suspect: int
+    confirmed: int
+
+
+def version() -> int:
+    """The version of the library that is loaded, a thousand times the first number and then the second."""
+    return int(_library.swim_version())
+
+
+def make(path: Path, settings: Settings) -> None:
+    """Makes the state file of a member at a path where nothing is, whole or not at all."""
+    _must(_library.swim_make(os.fsencode(path), settings._to_c()))
+
+
+class Member:
+    """A member on its state file, or, where `path` is None, on one in memory, for tests. Calls of several threads wait for one
+    another."""
+
+    def __init__(self, path: Optional[Path], settings: Settings, limit: int = 1):
+        self._lock = threading.Lock()
+        self._handle = _made.swim_member()
+        if path is None:
+            _must(_library.swim_open_memory(self._handle, settings._to_c(), limit))
+        else:
+            _must(_library.swim_open(self._handle, os.fsencode(path), settings._to_c(), limit))
+
+    def __enter__(self) -> "Member":
+        return self
+
+    def __exit__(self, *why: object) -> None:
+        self.close()
+
+    def __del__(self) -> None:
+        if getattr(self, "_handle", None) is not None:
+            _library.swim_close(self._handle)  # nobody else has it any more
+
+    def _call(self, call: Callable[..., int], *arguments: Any) -> None:
+        with self._lock:
+            _must(call(self._handle, *arguments))
+
+    def close(self) -> None:
+        """Ends the member, and nothing is sent. A second time does nothing."""
+        with self._lock:
+            _library.swim_close(self._handle)
+
+    def tick(self, random: Optional[int] = None) -> None:
+        """Time goes on by one tick, with 64 random bits: the system's, if none are given. Late ticks are never made up."""
+        self._call(_library.swim_tick, secrets.randbits(64) if random is None else random)
+
+    def receive(self, source: Address, data: Data) -> None:
+        """Bytes came from there. No datagram, whatever it is, makes this fail; one from port 0 is left aside."""
+        kept = bytes(memoryview(data)[: DATAGRAM_MAX + 1])
+        self._call(_library.swim_receive, _to_c(source), kept, len(kept))
+
+    def receive_failed(self) -> None:
+        """A receive failed."""
+        self._call(_library.swim_receive_failed)
+
+    def send_failed(self, count: int = 1) -> None:
+        """So many datagrams were not sent."""
+        self._call(_library.swim_send_failed, count)
+
+    def join(self, peer: Address) -> None:
+        """Asks a member of the group for all that it knows."""
+        self._call(_library.swim_join, _to_c(peer))
+
+    def leave(self) -> None:
+        """Leaves the group: the datagrams that wait then tell it."""
+        self._call(_library.swim_leave)
+
+    def datagrams(self) -> Iterator[Tuple[Address, bytes]]:
+        """What is to be sent, each datagram once: where to, and its bytes."""
+        to, data, length = _made.swim_endpoint(), _c.create_string_buffer(DATAGRAM_MAX), _c.c_size_t()
+        while True:
+            with self._lock:
+                code = _library.swim_next_datagram(self._handle, to, data, DATAGRAM_MAX, length)
+                if code == Code.NOTHING:
+                    return
+                _must(code)
+                found = _from_c(to.address, to.port), data.raw[: length.value]
+            yield found
+
+    def members(self) -> List[Row]:
+        """A Row of each member that is known, the own one among them, by address and port."""
+        rows, count = (_made.swim_row * MEMBERS_MAX)(), _c.c_size_t()
+        self._call(_library.swim_members, rows, MEMBERS_MAX, count)
+        return [Row(Kind(row.kind), _from_c(row.address, row.port), row.number) for row in rows[: count.value]]
+
+    def status(self) -> Status:
+        """What a status page shows."""
+        found = _made.swim_status()
+        self._call(_library.swim_get_status, found)
+        return Status(Phase(found.phase), found.number, found.first, found.alive, found.suspect, found.confirmed)
+
+    def notes(self) -> List[int]:
+        """What the last event took note of: each a Note, or its number, where the library knows more than this module."""
+        notes, count = (_c.c_uint8 * NOTES_MAX)(), _c.c_size_t()
+        self._call(_library.swim_notes, notes, count)
+        return [Note(note) if note <= max(Note) else note for note in notes[: count.value]]
+
+    def stored_peers(self) -> List[Address]:
+        """Whom an earlier life knew."""
+        peers, count = (_made.swim_endpoint * PEERS_MAX)(), _c.c_size_t()
+        self._call(_library.swim_stored_peers, peers, count)
+        return [_from_c(peer.address, peer.port) for peer in peers[: count.value]]
+
+    def keep_peers(self) -> None:
+        """Saves whom the member knows in the state file."""
+        self._call(_library.swim_keep_peers)

@@ -1,0 +1,95 @@
+"""A whole member over UDP under asyncio: it ticks, joins again while it is alone and every 300 ticks, and skips ticks that are late.
+
+    async with swim.aio.Member("member.state", settings, peers=[("10.0.0.2", 7000)]) as member:
+        ...                     # member.members(), member.status(), as of swim.Member
+"""
+
+import asyncio
+import random
+from typing import Any, List, Optional, Sequence, Tuple
+
+import swim
+
+TICK, REJOIN = 0.1, 300  # seconds; ticks
+
+
+class Member(asyncio.DatagramProtocol):
+    """A member that runs from `start`, which `async with` calls, to `stop`. State files are saved in the loop, at a suspicion and
+    at the end: some milliseconds on a slow disk."""
+
+    def __init__(self, path: Optional[swim.Path], settings: swim.Settings, peers: Sequence[swim.Address] = ()):
+        self._settings, self._member = settings, swim.Member(path, settings)
+        self._peers = [*peers, *self._member.stored_peers()]
+        self.members, self.status = self._member.members, self._member.status
+
+    async def start(self) -> None:
+        loop = asyncio.get_running_loop()
+        try:
+            self._udp, _ = await loop.create_datagram_endpoint(lambda: self, local_addr=self._settings.me)
+        except OSError:
+            self._member.close()
+            raise
+        for peer in self._peers:
+            self._join(peer)
+        self._ticks = loop.create_task(self._tick())
+        self._ticks.add_done_callback(self._tell)
+
+    def _tell(self, ticks: "asyncio.Task[None]") -> None:
+        """Ticks never end but by `stop`: if they do, the loop is told."""
+        fault = None if ticks.cancelled() else ticks.exception()
+        if fault is not None:
+            ticks.get_loop().call_exception_handler({"message": "a swim member ticks no more", "exception": fault})
+
+    async def stop(self, leave: bool = True) -> None:
+        """Ends the member, which leaves its group if it is not to come back soon."""
+        self._ticks.cancel()
+        await asyncio.gather(self._ticks, return_exceptions=True)
+        self._member.keep_peers()
+        if leave:
+            self._member.leave()
+            self._send()
+        self._udp.close()
+        self._member.close()
+
+    async def __aenter__(self) -> "Member":
+        await self.start()
+        return self
+
+    async def __aexit__(self, *why: object) -> None:
+        await self.stop()
+
+    async def _tick(self) -> None:
+        now, ticks = asyncio.get_running_loop().time, 0
+        due = now() + TICK
+        while True:
+            await asyncio.sleep(max(0.0, due - now()))
+            await asyncio.sleep(0)  # what waits at the socket is read before a tick
+            self._member.tick()
+            self._send()
+            ticks += 1
+            self._join_again(ticks)
+            due = due + TICK if due + TICK > now() else now() + TICK
+
+    def _join_again(self, ticks: int) -> None:
+        status = self._member.status()
+        is_alone = status.alive + status.suspect == 0
+        if ticks % REJOIN == 0 or (is_alone and ticks % self._settings.period == 0):
+            known = [row.who for row in self._member.members() if row.kind != swim.Kind.CONFIRM and row.who != self._settings.me]
+            asked: List[swim.Address] = [random.choice(choices) for choices in (self._peers, known) if choices]
+            for peer in asked:
+                self._join(peer)
+
+    def _join(self, peer: swim.Address) -> None:
+        self._member.join(peer)
+        self._send()
+
+    def _send(self) -> None:
+        for to, data in self._member.datagrams():
+            self._udp.sendto(data, to)
+
+    def datagram_received(self, data: bytes, addr: Tuple[Any, ...]) -> None:
+        self._member.receive((addr[0], addr[1]), data)
+        self._send()
+
+    def error_received(self, exc: Exception) -> None:
+        """A send failed at once or later; the protocol lives with lost datagrams."""

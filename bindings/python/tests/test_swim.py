@@ -1,0 +1,105 @@
+"""What the module adds to libswim: exceptions, locks, types. tests/embedded tries the library itself."""
+
+import asyncio
+import errno
+import pickle
+import socket
+import threading
+
+import pytest
+
+import swim
+import swim.aio
+
+PEER = ("127.0.0.1", 7001)
+
+
+@pytest.fixture
+def settings():
+    with socket.socket(socket.AF_INET, socket.SOCK_DGRAM) as udp:
+        udp.bind(("127.0.0.1", 0))
+        return swim.Settings(group=7, me=udp.getsockname())
+
+
+@pytest.fixture
+def member(settings):
+    with swim.Member(None, settings) as member:
+        yield member
+
+
+def test_errors_tell_their_errno(tmp_path, settings):
+    path = tmp_path / "member.state"
+    with pytest.raises(swim.SwimError) as refused:
+        swim.Member(path, settings)
+    assert (refused.value.code, refused.value.errno) == (swim.Code.FILE, errno.ENOENT)
+    swim.make(path, settings)
+    with pytest.raises(OSError) as refused:
+        swim.make(path, settings)
+    assert refused.value.errno == errno.EEXIST
+    with swim.Member(path, settings):
+        with pytest.raises(swim.Locked):
+            swim.Member(path, settings)
+
+
+def test_codes_are_classes(member):
+    member.join(PEER)
+    with pytest.raises(swim.Waiting) as refused:
+        member.tick()
+    assert refused.value.errno is None
+    assert str(refused.value).startswith("WAITING: ")
+    member.close()
+    member.close()
+    with pytest.raises(swim.Closed):
+        member.tick()
+
+
+@pytest.mark.parametrize("address", ["0.0.0.0", "255.255.255.255", "224.0.0.1"])
+def test_no_member_is_reached_at(address):
+    with pytest.raises(swim.SwimError) as refused:
+        swim.Member(None, swim.Settings(group=7, me=(address, 7000)))
+    assert refused.value.code is swim.Code.BAD_ADDRESS
+
+
+@pytest.mark.parametrize("kind", [bytes, bytearray, memoryview])
+def test_any_bytes_are_taken(member, kind):
+    member.receive(PEER, kind(b"x" * 600))
+    assert member.notes() == [swim.Note.BAD_DATAGRAM]
+
+
+def test_port_0_is_left_aside(member):
+    member.receive(("127.0.0.1", 0), b"x")
+    assert member.notes() == []
+
+
+def test_threads_wait_for_one_another(member):
+    def use():
+        for _ in range(200):
+            member.receive(PEER, b"x")
+            member.members()
+
+    threads = [threading.Thread(target=use) for _ in range(4)]
+    for thread in threads:
+        thread.start()
+    for thread in threads:
+        thread.join()
+    assert len(member.members()) == 1
+
+
+def test_a_member_is_not_copied(member):
+    with pytest.raises((TypeError, ValueError)):
+        pickle.dumps(member)
+
+
+def test_asyncio(tmp_path, settings):
+    async def meet():
+        other = swim.Settings(group=7, me=("127.0.0.1", settings.me[1] + 1 if settings.me[1] < 65535 else 1024))
+        async with swim.aio.Member(None, settings, peers=[other.me]) as first:
+            await asyncio.sleep(0.3)  # it has asked in vain
+            async with swim.aio.Member(None, other) as second:
+                for _ in range(100):
+                    if first.status().alive == second.status().alive == 1:
+                        return True
+                    await asyncio.sleep(0.1)
+        return False
+
+    assert asyncio.run(meet())

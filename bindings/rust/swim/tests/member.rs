@@ -1,0 +1,103 @@
+//! What the crate adds to libswim: codes with their errno, types, threads. tests/embedded tries the library itself.
+
+use std::error::Error;
+use std::io::ErrorKind;
+use std::net::{Ipv4Addr, SocketAddrV4};
+use swim::{Code, Kind, Member, Note, Phase, Settings, DATAGRAM_MAX};
+
+fn at(port: u16) -> SocketAddrV4 {
+    SocketAddrV4::new(Ipv4Addr::LOCALHOST, port)
+}
+
+fn member() -> Member {
+    Member::open_memory(&Settings::usual(7, at(7000)), 1).expect("a member in memory")
+}
+
+#[test]
+fn a_fault_has_its_code_and_what_the_system_said() {
+    let settings = Settings::usual(7, at(7000));
+    let path = std::env::temp_dir().join(format!("swim-{}.state", std::process::id()));
+    let fault = Member::open(&path, &settings, 1).unwrap_err();
+    assert_eq!(fault.code, Code::File);
+    assert_eq!(
+        fault.errno.as_ref().map(|error| error.kind()),
+        Some(ErrorKind::NotFound)
+    );
+    assert!(fault.source().is_some());
+    swim::make(&path, &settings).expect("it is made");
+    let fault = swim::make(&path, &settings).unwrap_err();
+    assert_eq!(
+        fault.errno.map(|error| error.kind()),
+        Some(ErrorKind::AlreadyExists)
+    );
+    let open = Member::open(&path, &settings, 1).expect("it opens");
+    let fault = Member::open(&path, &settings, 1).unwrap_err();
+    assert_eq!((fault.code, fault.errno.is_none()), (Code::Locked, true));
+    drop(open);
+    std::fs::remove_file(&path).expect("it is there");
+}
+
+#[test]
+fn no_member_is_reached_at_some_addresses() {
+    for address in [
+        Ipv4Addr::UNSPECIFIED,
+        Ipv4Addr::BROADCAST,
+        Ipv4Addr::new(224, 0, 0, 1),
+    ] {
+        let settings = Settings::usual(7, SocketAddrV4::new(address, 7000));
+        assert_eq!(
+            Member::open_memory(&settings, 1).unwrap_err().code,
+            Code::BadAddress
+        );
+    }
+}
+
+#[test]
+fn datagrams_wait_until_they_are_taken() {
+    let (mut member, mut buffer) = (member(), [0; DATAGRAM_MAX]);
+    member.join(at(7001)).expect("it asks");
+    assert_eq!(member.tick(1).unwrap_err().code, Code::Waiting);
+    let (to, bytes) = member
+        .next_datagram(&mut buffer)
+        .expect("it hands out")
+        .expect("one waits");
+    assert_eq!((to, bytes.len()), (at(7001), 48));
+    assert!(member.next_datagram(&mut buffer).expect("it answers").is_none());
+    member.tick(1).expect("time goes on");
+}
+
+#[test]
+fn notes_have_names_and_port_0_is_left_aside() {
+    let mut member = member();
+    member.receive(at(0), b"x").expect("no datagram is an error");
+    assert_eq!(member.notes().expect("notes"), []);
+    member.receive(at(7001), b"x").expect("no datagram is an error");
+    assert_eq!(member.notes().expect("notes"), [Note::BadDatagram]);
+    assert_eq!(Note::BadDatagram.to_string(), "BadDatagram");
+}
+
+#[test]
+fn a_member_goes_to_another_thread() {
+    let mut member = member();
+    let rows = std::thread::spawn(move || member.members())
+        .join()
+        .expect("no panic")
+        .expect("rows");
+    assert_eq!(
+        (rows[0].kind, rows[0].who, rows[0].number),
+        (Kind::Alive, at(7000), 1)
+    );
+}
+
+#[test]
+fn a_status_is_of_types() {
+    let mut member = member();
+    let status = member.status().expect("a status");
+    assert_eq!(
+        (status.phase, status.number, status.first),
+        (Phase::Running, 1, 1)
+    );
+    member.leave().expect("it leaves");
+    assert_eq!(member.status().expect("a status").phase, Phase::Left);
+    assert!(!format!("{:?}", member).is_empty());
+}
