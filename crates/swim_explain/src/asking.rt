@@ -1,10 +1,11 @@
 //! `swim explain`.
 
-use crate::printing::print_story;
+use crate::tale::{Tale, tale_of};
 use std::alloc::AllocError;
-use std::fs::File;
+use std::fs::{self, File};
 use std::rt::Files;
 use swim_input::{INPUT_MAX, InputFault, read_file};
+use swim_recorder::read_name;
 use swim_replay::{Played, RecordingFault, RecordingReason, play_from};
 use swim_wire::Endpoint;
 use thiserror::Error;
@@ -60,7 +61,45 @@ fn refused(reason: RecordingReason) -> ExplainFault {
     ExplainFault::from(RecordingFault { line: 1, reason })
 }
 
-/// The files in the order of their names, which is that of the eras where all lie in one folder.
+/// The recordings of a folder.
+fn recordings_in<R: Files<File = File> + AllocGlobal + Clone>(
+    rt: &R,
+    folder: &str,
+) -> Result<Vec<String>, ExplainFault> {
+    let mut paths = Vec::new(rt.alloc());
+    let entries = fs::read_dir(rt, folder).map_err(|_| ExplainFault::File)?;
+    for entry in entries {
+        let entry = entry.map_err(|_| ExplainFault::File)?;
+        let name = entry.file_name();
+        if read_name(rt.alloc(), name)?.is_some() {
+            let path = format!(in rt.alloc(); "{folder}/{name}")?;
+            paths.push(path).map_err(|_| ExplainFault::Memory)?;
+        }
+    }
+    Ok(paths)
+}
+
+/// The recordings that a path stands for: those of a folder, in the order of their names, which is that of the eras; else itself.
+pub fn recordings_at<R: Files<File = File> + AllocGlobal + Clone>(
+    rt: &R,
+    path: &str,
+) -> Result<Vec<String>, ExplainFault> {
+    let is_folder = match fs::metadata(rt, path) {
+        Ok(metadata) => metadata.is_dir(),
+        Err(_) => false,
+    };
+    let mut paths = Vec::new(rt.alloc());
+    if is_folder {
+        paths = recordings_in(rt, path)?;
+        paths.sort()?;
+    } else {
+        let path = String::from_str(rt.alloc(), path)?;
+        paths.push(path).map_err(|_| ExplainFault::Memory)?;
+    }
+    Ok(paths)
+}
+
+/// The paths in the order of their names, which is that of the eras where all lie in one folder.
 pub fn in_order<R: AllocGlobal>(rt: &R, files: &[String]) -> Result<Vec<String>, AllocError> {
     let mut names = Vec::new(rt.alloc());
     for file in files {
@@ -70,18 +109,21 @@ pub fn in_order<R: AllocGlobal>(rt: &R, files: &[String]) -> Result<Vec<String>,
     Ok(names)
 }
 
-/// The story of one member that the recording at this path tells, as lines for a person or as JSON. Err: it cannot be opened
-/// or read, it is no recording, or there was no memory.
-pub fn explain_file<R: Files<File = File> + AllocGlobal>(
+/// What the recording at this path tells of a member. Err: it cannot be opened or read, it is no recording, or there was no memory.
+pub fn tell_file<R: Files<File = File> + AllocGlobal>(
     rt: &R,
     path: &str,
     who: Endpoint,
-    as_json: bool,
-) -> Result<String, ExplainFault> {
+) -> Result<Tale, ExplainFault> {
     let text = read_file(rt, path, INPUT_MAX)?;
-    let Played { beginning, era } = play_from(rt.alloc(), &text)?;
-    match print_story(rt.alloc(), beginning, &era, who, as_json) {
-        Ok(story) => Ok(story),
+    let Played {
+        time,
+        beginning,
+        era,
+    } = play_from(rt.alloc(), &text)?;
+    let path = String::from_str(rt.alloc(), path)?;
+    match tale_of(rt.alloc(), path, time, beginning, &era, who) {
+        Ok(tale) => Ok(tale),
         Err(fault) => Err(refused(RecordingReason::from(fault))),
     }
 }

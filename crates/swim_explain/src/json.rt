@@ -1,11 +1,15 @@
 //! A story as JSON, an object a line.
 
+use crate::account::Account;
+use crate::clock::stamp_of;
 use crate::fact::{Fact, Happening, Purpose};
 use crate::heading::Heading;
 use crate::lines::name_of;
+use crate::sentence::Sentence;
 use std::fmt;
 use swim_member::Settings;
 use swim_node::Outcome;
+use swim_record::EraTime;
 use swim_rules::{Heard, Row};
 
 /// A row without its member, or `null`.
@@ -178,15 +182,68 @@ impl fmt::Display for FactJson {
     }
 }
 
-/// A happening, as an object.
+/// When an account was, as RFC 3339 writes it, or `null`.
 #[derive(Clone, Copy)]
-pub(crate) struct HappeningJson(pub(crate) Happening);
+struct TimeJson(Option<u64>);
 
-impl fmt::Display for HappeningJson {
+impl fmt::Display for TimeJson {
     fn fmt<W: fmt::Write>(&self, f: &mut fmt::Formatter<W>) -> fmt::Result {
-        let Happening { call, tick, fact } = self.0;
-        let fact = FactJson(fact);
-        write!(f, "{{\"call\":{call},\"tick\":{tick},{fact}}}")
+        let stamp = match self.0 {
+            Some(at) => stamp_of(at),
+            None => None,
+        };
+        match &stamp {
+            Some(stamp) => write!(f, "\"{stamp:.3}\""),
+            None => f.write_str("null"),
+        }
+    }
+}
+
+/// An account, as an object.
+#[derive(Clone, Copy)]
+pub(crate) struct AccountJson(pub(crate) Account);
+
+impl fmt::Display for AccountJson {
+    fn fmt<W: fmt::Write>(&self, f: &mut fmt::Formatter<W>) -> fmt::Result {
+        let Account {
+            teller,
+            at,
+            happening,
+            ..
+        } = self.0;
+        let Happening { call, tick, fact } = happening;
+        let (time, fact) = (TimeJson(at), FactJson(fact));
+        write!(
+            f,
+            "{{\"time\":{time},\"teller\":\"{teller}\",\"call\":{call},\"tick\":{tick},{fact}}}"
+        )
+    }
+}
+
+/// The cause, as an object. The sentence has no letter that JSON writes in another way.
+#[derive(Clone, Copy)]
+pub(crate) struct CauseJson<'a>(pub(crate) &'a Sentence);
+
+impl<'a> fmt::Display for CauseJson<'a> {
+    fn fmt<W: fmt::Write>(&self, f: &mut fmt::Formatter<W>) -> fmt::Result {
+        let sentence = self.0;
+        write!(f, "{{\"cause\":\"{sentence}\"}}")
+    }
+}
+
+/// The length of a tick in milliseconds, or `null`.
+#[derive(Clone, Copy)]
+struct TickJson(Option<EraTime>);
+
+impl fmt::Display for TickJson {
+    fn fmt<W: fmt::Write>(&self, f: &mut fmt::Formatter<W>) -> fmt::Result {
+        match self.0 {
+            Some(time) => {
+                let tick = time.tick;
+                write!(f, "{tick}")
+            }
+            None => f.write_str("null"),
+        }
     }
 }
 
@@ -196,7 +253,11 @@ pub(crate) struct HeadingJson(pub(crate) Heading);
 
 impl fmt::Display for HeadingJson {
     fn fmt<W: fmt::Write>(&self, f: &mut fmt::Formatter<W>) -> fmt::Result {
-        let Heading { settings, who } = self.0;
+        let Heading {
+            settings,
+            time,
+            who,
+        } = self.0;
         let Settings {
             me,
             period,
@@ -204,9 +265,10 @@ impl fmt::Display for HeadingJson {
             forget,
             ..
         } = settings;
+        let tick = TickJson(time);
         write!(
             f,
-            "{{\"of\":\"{who}\",\"by\":\"{me}\",\"period\":{period},\"suspect\":{suspect},\"forget\":{forget}}}"
+            "{{\"of\":\"{who}\",\"by\":\"{me}\",\"period\":{period},\"suspect\":{suspect},\"forget\":{forget},\"tick_ms\":{tick}}}"
         )
     }
 }

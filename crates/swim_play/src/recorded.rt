@@ -1,10 +1,12 @@
 //! Plays a recording, and tells what happened as of a script.
 
-ghost use Rattle.std.specs.Prelude.{◌≡◌, List, All, IfOk, MatchResult};
+ghost use Rattle.std.specs.Prelude.{◌≡◌, List, All, Option, IfSome, IfOk, MatchResult};
 ghost use Rattle.swim_node.specs.declared.entry.Entry.{Entry as Entries};
 ghost use Rattle.swim_node.specs.History.{Base as Bases, IsLegal};
 ghost use Rattle.swim_node.specs.Sending.{HasTexts};
+ghost use Rattle.swim_record.specs.EraTimes.{IsEraTime};
 ghost use Rattle.swim_record.specs.Recording.{recording_text};
+ghost use Rattle.swim_record.specs.declared.time.EraTime.{EraTime as EraTimes};
 ghost use Rattle.swim_replay.specs.Recorded.{IsRecorded};
 ghost use Rattle.swim_replay.specs.declared.fault.RecordingReason.TheVariants.{NoMemory};
 
@@ -37,10 +39,12 @@ fn write_entries(alloc: Global, entries: &[Entry]) -> Result<String, AllocError>
 /// its journal.
 pub fn play_recorded(alloc: Global, text: &[u8]) -> Result<Recorded, RecordingFault>
     ensures legal { IfOk result (λ r. IsLegal r.era.base r.era.entries) }
-    ensures exact { IfOk result (λ r. text.now ≡ recording_text r.era.base r.era.entries) }
+    ensures exact { IfOk result (λ r. (time : Option EraTimes)
+        × (text.now ≡ recording_text time r.era.base r.era.entries)) }
     // a text that was written as the recording of an era is played as that era, unless there was no memory
-    ensures back { (b : Bases) (entries : List Entries) → IsRecorded b entries
-        → text.now ≡ recording_text b entries
+    ensures back { (time : Option EraTimes) (b : Bases) (entries : List Entries)
+        → IfSome time IsEraTime → IsRecorded b entries
+        → text.now ≡ recording_text time b entries
         → MatchResult result
         (λ r. (r.era.base ≡ b) × (r.era.entries ≡ entries))
         (λ fault. fault.reason ≡ NoMemory) }

@@ -48,7 +48,7 @@ argument-ends : (a : Argument) → IsArgument a → Lacks 10 (argument_text a)
 argument-ends (Number n) is = number-ends n is
 argument-ends (Who e) is = endpoint-ends e is
 
-arguments-ends : (args : List Argument) → All IsArgument args → Lacks 10 (arguments_text args)
+pub arguments-ends : (args : List Argument) → All IsArgument args → Lacks 10 (arguments_text args)
 arguments-ends [] are = All-nil (differs 10)
 arguments-ends (a ∷ args) are =
     All-cons (differs 10) 32 (argument_text a ++ arguments_text args) (λ same. omega arith)

@@ -1,6 +1,7 @@
 pub mod Backs
 pub mod Blocks
 mod EventWords
+pub mod EraTimes
 pub mod Events
 mod Heads
 pub mod Others

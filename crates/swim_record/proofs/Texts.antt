@@ -203,7 +203,7 @@ same_head h k same = sym (named-text h) ∙ ap named same ∙ named-text k
 
 -- Lines
 
-same_arguments : (args others : List Argument) → All IsArgument args → All IsArgument others → arguments_text args ≡ arguments_text others → args ≡ others
+pub same_arguments : (args others : List Argument) → All IsArgument args → All IsArgument others → arguments_text args ≡ arguments_text others → args ≡ others
 same_arguments [] [] fit fits same = refl
 same_arguments [] (b ∷ others) fit fits same = absurd (cc)
 same_arguments (a ∷ args) [] fit fits same = absurd (cc)

@@ -1,4 +1,5 @@
 pub mod Blocks
+pub mod EraTimes
 pub mod Events
 pub mod Lines
 pub mod Recording

@@ -1,4 +1,4 @@
--- What a recording of an era is: its settings, where it began, and its calls.
+-- What a recording of an era is: when it was, its settings, where it began, and its calls.
 use Rattle.std.specs.Prelude.{ℕ, ◌+◌, ◌==◌, List, [], ◌∷◌, ◌++◌, map, Option, Some, None, codes}
 use Rattle.std.specs.Prelude.{if◌then◌else◌}
 use Rattle.std.specs.Fmt.{decimal}
@@ -18,7 +18,9 @@ use Rattle.swim_node.specs.declared.entry.Outcome.TheVariants.{Taken, Lost}
 use Rattle.swim_node.specs.History.{Base}
 use Rattle.swim_record.specs.declared.line.Line.{Line}
 use Rattle.swim_record.specs.declared.line.Line.TheVariants as line
+use Rattle.swim_record.specs.declared.time.EraTime.{EraTime}
 use Rattle.swim_record.specs.Lines.{line_text}
+use Rattle.swim_record.specs.EraTimes.{time_text}
 
 -- each line, with its end
 abbrev pub lines_text : List Line → List ℕ
@@ -139,6 +141,11 @@ calls_text granted (e ∷ entries) = call_text granted e ++ calls_text e.granted
 
 -- ---- the whole
 
-abbrev pub recording_text : Base → List Entry → List ℕ
-recording_text b entries =
-    codes "recording 1" ++ 10 ∷ known_text b ++ begun_text b ++ calls_text b.granted entries
+-- its first lines: the version, and with the second one when the era was
+abbrev pub recording_head : Option EraTime → List ℕ
+recording_head None = codes "recording 1" ++ 10 ∷ []
+recording_head (Some t) = codes "recording 2" ++ 10 ∷ time_text t ++ 10 ∷ []
+
+abbrev pub recording_text : Option EraTime → Base → List Entry → List ℕ
+recording_text time b entries =
+    recording_head time ++ known_text b ++ begun_text b ++ calls_text b.granted entries

@@ -5,9 +5,10 @@ ghost use Rattle.hex.specs.Hex.{encode_lower};
 ghost use Rattle.swim_node.specs.declared.opening.TheConstants.{LIMIT_MAX};
 ghost use Rattle.swim_member.specs.declared.answer.TheConstants.{OUTS_MAX};
 ghost use Rattle.swim_record.specs.Lines.{line_text};
-ghost use Rattle.swim_record.specs.Recording.{begin_line, begun_text, call_text, calls_text, event_words, joining_line, joining_lines, known_text, lines_text, listed_line, lost_lines, met_lines, probe_line, probe_lines, recording_text, relay_line, row_line, say_line, member_line, times_line};
+ghost use Rattle.swim_record.specs.Recording.{begin_line, begun_text, call_text, calls_text, event_words, recording_head, joining_line, joining_lines, known_text, lines_text, listed_line, lost_lines, met_lines, probe_line, probe_lines, recording_text, relay_line, row_line, say_line, member_line, times_line};
 
 use crate::line::{Line, Start, Times};
+use crate::time::EraTime;
 use std::alloc::{AllocError, Global};
 use std::fmt::Write;
 use swim_gossip::Waiting;
@@ -302,17 +303,28 @@ fn write_begun(alloc: Global, text: &mut String, beginning: &Beginning) -> Resul
     write_line(text, begin_line(beginning))
 }
 
-/// The recording of an era that began so, and had these entries.
+/// Writes the first lines: the version, and when the era was, if that is known.
+fn write_head(text: &mut String, time: Option<EraTime>) -> Result<(), AllocError>
+    ensures { OnOk result (text.new.bytes.items ≡ text.old.bytes.items ++ recording_head time) }
+{
+    match time {
+        None => writeln!(text, "recording 1"),
+        Some(time) => writeln!(text, "recording 2\n{time}"),
+    }
+}
+
+/// The recording of an era that was at this time, if that is known, began so, and had these entries.
 pub fn recording(
     alloc: Global,
+    time: Option<EraTime>,
     beginning: &Beginning,
     entries: &[Entry],
 ) -> Result<String, AllocError>
     ensures { IfOk result (λ text. text.bytes.items
-        ≡ recording_text beginning.now entries.now) }
+        ≡ recording_text time beginning.now entries.now) }
 {
     let mut text = String::new(alloc);
-    writeln!(text, "recording 1")?;
+    write_head(&mut text, time)?;
     write_known(alloc, &mut text, beginning)?;
     write_begun(alloc, &mut text, beginning)?;
     write_calls(alloc, &mut text, beginning.granted, entries)?;

@@ -7,6 +7,7 @@ use std::fs::{self, File, OpenOptions};
 use std::io::{self, Write};
 use std::os::unix::fs::OpenOptionsExt;
 use std::rt::Files;
+use swim_record::EraTime;
 
 /// Who may read and write a recording: its owner alone.
 const MODE: u32 = 0o600;
@@ -106,10 +107,10 @@ impl Folder {
         Ok(())
     }
 
-    /// Writes the recording of an era under this name, and removes the oldest ones above the number that is kept. An error is the
-    /// system's, or there is no memory for the text.
-    pub fn record(&self, name: FileName, era: &Finished) -> io::Result<()> {
-        let text = era.recording(self.files.alloc())?;
+    /// Writes the recording of an era under this name, with when it was, and removes the oldest ones above the number that is kept. An
+    /// error is the system's, or there is no memory for the text.
+    pub fn record(&self, name: FileName, time: Option<EraTime>, era: &Finished) -> io::Result<()> {
+        let text = era.recording(self.files.alloc(), time)?;
         self.write(name, text.as_str())?;
         self.prune()
     }

@@ -5,9 +5,11 @@ ghost use Rattle.swim_node.specs.Lives.{EndsEra};
 ghost use Rattle.swim_node.specs.Node.{next_base};
 ghost use Rattle.swim_recorder.specs.Handing.{begun_at, recorded};
 
+use crate::begun::BegunEra;
 use crate::finished::Finished;
+use std::time::Clock;
 use swim_disk::Disk;
-use swim_node::{Beginning, Node, Room};
+use swim_node::{Node, Room};
 use swim_trace::Trace;
 
 /// Who keeps the eras of a member that ended.
@@ -31,14 +33,14 @@ pub trait Keeper {
         ensures { given self.new ≡ given self.old ++ era ∷ [] };
 }
 
-/// Where an era of a node that has no entry yet begins, for a keeper that keeps eras.
-pub fn begin<D: Disk, K: Keeper>(node: &Node<D>, keeper: &K) -> Option<Beginning>
+/// Where an era of a node that has no entry yet begins, which it does now, for a keeper that keeps eras.
+pub fn begin<R: Clock, D: Disk, K: Keeper>(rt: &R, node: &Node<D>, keeper: &K) -> Option<BegunEra>
     requires { node.now.entries ≡ [] }
     ensures at { IfSome result (λ beginning. beginning ≡ begun_at node.now.base) }
     ensures asked { is_some result ≡ K.keeps keeper.now }
 {
     if keeper.is_on() {
-        Some(node.beginning())
+        Some(BegunEra::new(rt, node.beginning()))
     } else {
         None
     }
@@ -47,7 +49,7 @@ pub fn begin<D: Disk, K: Keeper>(node: &Node<D>, keeper: &K) -> Option<Beginning
 /// Ends the era of a node, which began so, and hands it to its keeper. Where its beginning was not asked for, it is let go.
 pub fn hand_over<D: Disk, K: Keeper>(
     node: &mut Node<D>,
-    beginning: Option<Beginning>,
+    beginning: Option<BegunEra>,
     keeper: &mut K,
 )
     requires { IfSome beginning (λ beginning. beginning ≡ begun_at node.old.base) }

@@ -1,6 +1,7 @@
 pub mod Calls
 pub mod Entering
 pub mod Lines
-pub mod Sections
-pub mod Walks
 mod Ranges
+pub mod Sections
+pub mod Versions
+pub mod Walks

@@ -1,15 +1,16 @@
 -- The lines at the front of a recording.
-use Rattle.std.proofs.Common.{◌≡◌, ℕ, ◌+◌, ◌<◌, ◌≤◌, List, [], ◌∷◌, ◌++◌, length, map, refl, sym, ap, ◌∙◌, arith, append_assoc, length-append}
-use Rattle.std.specs.Prelude.{All, codes}
+use Rattle.std.proofs.Common.{◌≡◌, ℕ, ◌+◌, ◌<◌, ◌≤◌, List, [], ◌∷◌, ◌++◌, length, map, refl, sym, ap, ◌∙◌, arith, append_assoc, length-append, Option}
+use Rattle.std.specs.Prelude.{All}
 use Rattle.std.proofs.lemmas.List.Elements.{All-append, All-head, All-nil, All-tail}
 use Rattle.swim_words.specs.Words.{Lacks, split_by}
 use Rattle.swim_words.proofs.Splits.{no_split, same_split}
 use Rattle.swim_node.specs.declared.entry.Entry.{Entry}
 use Rattle.swim_node.specs.History.{Base}
 use Rattle.swim_record.specs.declared.line.Line.{Line}
+use Rattle.swim_record.specs.declared.time.EraTime.{EraTime}
 use Rattle.swim_record.specs.Blocks.{AreFit, HasNoLine, IsFit}
 use Rattle.swim_record.specs.Lines.{line_text}
-use Rattle.swim_record.specs.Recording.{begin_line, begun_text, call_text, calls_text, event_words, joining_lines, known_text, lines_text, listed_line, member_line, met_lines, probe_lines, recording_text, relay_line, row_line, say_line, times_line}
+use Rattle.swim_record.specs.Recording.{begin_line, begun_text, call_text, calls_text, event_words, recording_head, joining_lines, known_text, lines_text, listed_line, member_line, met_lines, probe_lines, recording_text, relay_line, row_line, say_line, times_line}
 use Rattle.swim_record.proofs.Blocks.{event_alone, line_ends}
 use Rattle.swim_record.proofs.Writing.{lines-append}
 use Rattle.swim_replay.specs.Recorded.{IsRecordedCall, base_lines}
@@ -23,15 +24,12 @@ sections s r q p e j l g = simp (lines-append, append_assoc)
 pub base-text : (b : Base) → known_text b ++ begun_text b ≡ lines_text (base_lines b)
 base-text b = sections (member_line b.state.settings ∷ times_line b.state.settings b.limit ∷ []) (map row_line b.state.rows) (map say_line b.state.queue) (probe_lines b.state.probe) (map relay_line b.state.relays) (joining_lines b.state.joining) (map listed_line b.state.listed) (begin_line b ∷ [])
 
--- what a recording begins with
-abbrev pub header : List ℕ
-header = codes "recording 1" ++ 10 ∷ []
-
-pub body : (b : Base) (entries : List Entry) → recording_text b entries ≡ header ++ (lines_text (base_lines b) ++ calls_text b.granted entries)
-body b entries =
-    ap (λ (t : List ℕ). t ++ calls_text b.granted entries) (append_assoc header (known_text b) (begun_text b))
-    ∙ append_assoc header (known_text b ++ begun_text b) (calls_text b.granted entries)
-    ∙ ap (λ (t : List ℕ). header ++ (t ++ calls_text b.granted entries)) (base-text b)
+-- what a recording begins with, and what follows that
+pub body : (time : Option EraTime) (b : Base) (entries : List Entry) → recording_text time b entries ≡ recording_head time ++ (lines_text (base_lines b) ++ calls_text b.granted entries)
+body time b entries =
+    ap (λ (t : List ℕ). t ++ calls_text b.granted entries) (append_assoc (recording_head time) (known_text b) (begun_text b))
+    ∙ append_assoc (recording_head time) (known_text b ++ begun_text b) (calls_text b.granted entries)
+    ∙ ap (λ (t : List ℕ). recording_head time ++ (t ++ calls_text b.granted entries)) (base-text b)
 
 -- Nothing has no line
 

@@ -1,2 +1,3 @@
 pub mod Machinery
 pub mod Recorded
+pub mod Versions

@@ -1,5 +1,7 @@
 //! Why no recording was played.
 
+ghost use Rattle.std.specs.Prelude.{◌≡◌};
+
 use swim_member::SettingsFault;
 use swim_node::{ApplyFault, BeginFault};
 use swim_record::EventFault;
@@ -11,7 +13,10 @@ pub enum RecordingReason {
     /// The text does not begin with the first line of a recording.
     #[error("no recording")]
     NoRecording,
-    /// The line, the second or the third, is not that of the settings that stand there.
+    /// The second line does not say when the era was.
+    #[error("no time of the era")]
+    NoTime,
+    /// The line, one of the two after the first ones, is not that of the settings that stand there.
     #[error("no settings")]
     NoSettings,
     /// No member has this setting.
@@ -51,6 +56,16 @@ pub struct RecordingFault {
     pub line: usize,
     /// What is wrong with it.
     pub reason: RecordingReason,
+}
+
+impl RecordingFault {
+    /// The same, so many lines further down.
+    pub(crate) fn below(self, lines: usize) -> RecordingFault
+        ensures { result.reason ≡ self.reason }
+    {
+        let line = self.line.saturating_add(lines);
+        RecordingFault { line, ..self }
+    }
 }
 
 impl From<EventFault> for RecordingReason {

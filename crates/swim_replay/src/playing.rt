@@ -1,11 +1,13 @@
 //! A recording that is played.
 
-ghost use Rattle.std.specs.Prelude.{◌≡◌, ◌≢◌, ◌⊎◌, ◌+◌, ◌^◌, ◌<◌, ◌≤◌, ◌∷◌, [], ◌++◌, ℕ, List, length, codes, true, false, None, OnOk, IfOk, IfErr, IsSomeAnd, MatchResult};
+ghost use Rattle.std.specs.Prelude.{◌≡◌, ◌≢◌, ◌⊎◌, ◌+◌, ◌^◌, ◌<◌, ◌≤◌, ◌∷◌, [], ◌++◌, ℕ, List, length, Option, IfSome, OnOk, IfOk, IfErr, IsSomeAnd, MatchResult};
 ghost use Rattle.swim_member.specs.Checks.{AreSound};
 ghost use Rattle.swim_node.specs.declared.entry.Entry.{Entry as Entries};
 ghost use Rattle.swim_node.specs.History.{Base as Bases, IsLegal, IsNext, calls_by};
 ghost use Rattle.swim_record.specs.declared.line.Line.{Line as Lines};
 ghost use Rattle.swim_record.specs.Blocks.{AreFit};
+ghost use Rattle.swim_record.specs.EraTimes.{IsEraTime};
+ghost use Rattle.swim_record.specs.declared.time.EraTime.{EraTime as EraTimes};
 ghost use Rattle.swim_record.specs.Recording.{calls_text, lines_text, recording_text};
 ghost use Rattle.swim_replay.specs.Machinery.Calls.{IsMet, IsToCome};
 ghost use Rattle.swim_replay.specs.Recorded.{IsPlayed, IsRecorded, IsWord, base_lines};
@@ -14,11 +16,12 @@ ghost use Rattle.swim_replay.specs.declared.fault.RecordingReason.TheVariants.{N
 use crate::beginning::read_beginning;
 use crate::call::{Call, read_call};
 use crate::fault::{RecordingFault, RecordingReason};
+use crate::heading::read_head;
 use crate::met::Met;
 use std::alloc::Global;
 use swim_member::Event;
 use swim_node::{Beginning, Cause, Entry, Replay, Tag};
-use swim_record::{read_lines, recording};
+use swim_record::{EraTime, read_lines, recording};
 use swim_words::split_at_byte;
 
 /// What follows so many lines.
@@ -231,18 +234,19 @@ fn differing_line(one: &[u8], other: &[u8]) -> usize {
     line
 }
 
-/// Judges whether a text is the recording of an era that began so and had these entries.
+/// Judges whether a text is the recording of an era that was at this time, began so and had these entries.
 fn check_text(
     alloc: Global,
+    time: Option<EraTime>,
     beginning: &Beginning,
     entries: &[Entry],
     text: &[u8],
 ) -> Result<(), RecordingFault>
-    ensures ok { OnOk result (text.now ≡ recording_text beginning.now entries.now) }
+    ensures ok { OnOk result (text.now ≡ recording_text time beginning.now entries.now) }
     ensures refused { IfErr result (λ fault. (fault.reason ≡ NoMemory)
-        ⊎ (text.now ≢ recording_text beginning.now entries.now)) }
+        ⊎ (text.now ≢ recording_text time beginning.now entries.now)) }
 {
-    let written = match recording(alloc, beginning, entries) {
+    let written = match recording(alloc, time, beginning, entries) {
         Ok(written) => written,
         Err(_) => return Err(RecordingFault {
             line: 1,
@@ -259,17 +263,26 @@ fn check_text(
     })
 }
 
-/// An era that was played, and where it began.
+/// An era that was played: when it was, if its recording says so, and where it began.
 #[derive(Drop)]
 pub struct Played {
+    /// When it was. Recordings of the first version do not say it.
+    pub time: Option<EraTime>,
     /// Where it began.
     pub beginning: Beginning,
     /// The era.
     pub era: Replay,
 }
 
-/// Plays what stands after the first line of a recording.
-fn play_body(alloc: Global, body: &[u8]) -> Result<Played, RecordingFault>
+/// Where an era began, and the era, which was played.
+#[derive(Drop)]
+struct Body {
+    beginning: Beginning,
+    era: Replay,
+}
+
+/// Plays what stands after the first lines of a recording. An error counts the lines as if there were one of those.
+fn play_body(alloc: Global, body: &[u8]) -> Result<Body, RecordingFault>
     ensures base { IfOk result (λ played. played.era.base ≡ played.beginning) }
     ensures sound { IfOk result (λ played. AreSound played.beginning.state.settings) }
     ensures back { (b : Bases) (entries : List Entries) → IsRecorded b entries
@@ -284,60 +297,46 @@ fn play_body(alloc: Global, body: &[u8]) -> Result<Played, RecordingFault>
         left,
     } = open(alloc, body)?;
     enter_calls(alloc, &mut era, left)?;
-    Ok(Played { beginning, era })
+    Ok(Body { beginning, era })
 }
 
-/// Whether a line is the first one of a recording.
-fn is_first_line(line: &[u8]) -> bool
-    ensures yes { result ≡ true → line.now ≡ codes "recording 1" }
-    ensures no { result ≡ false → line.now ≢ codes "recording 1" }
-{
-    line == b"recording 1".as_slice()
-}
-
-/// What follows the first line of a recording.
-pub fn after_first_line(text: &[u8]) -> Option<&[u8]>
-    ensures { (body : List ℕ) → text.now ≡ codes "recording 1" ++ 10 ∷ body
-        → IsSomeAnd result (λ r. r.now ≡ body) }
-{
-    let (first, body) = split_at_byte(text, b'\n')?;
-    if !is_first_line(first) {
-        return None;
-    }
-    Some(body)
-}
-
-/// The era of which a text is the recording, played again, and where it began. It plays what the lines say and writes the
-/// recording of that, which is to be the same text: so it needs memory for another one.
+/// The era of which a text is the recording, played again, with when it was and where it began. It plays what the lines say and
+/// writes the recording of that, which is to be the same text: so it needs memory for another one.
 pub fn play_from(alloc: Global, text: &[u8]) -> Result<Played, RecordingFault>
     ensures base { IfOk result (λ played. played.era.base ≡ played.beginning) }
     ensures sound { IfOk result (λ played. AreSound played.beginning.state.settings) }
     ensures legal { IfOk result (λ played. IsLegal played.era.base played.era.entries) }
     ensures exact { IfOk result (λ played. text.now
-        ≡ recording_text played.era.base played.era.entries) }
-    ensures back { (b : Bases) (entries : List Entries) → IsRecorded b entries
-        → text.now ≡ recording_text b entries
+        ≡ recording_text played.time played.era.base played.era.entries) }
+    ensures back { (time : Option EraTimes) (b : Bases) (entries : List Entries)
+        → IfSome time IsEraTime → IsRecorded b entries
+        → text.now ≡ recording_text time b entries
         → MatchResult result
-        (λ played. (played.era.base ≡ b) × (played.era.entries ≡ entries))
+        (λ played. (played.time ≡ time)
+        × (played.era.base ≡ b) × (played.era.entries ≡ entries))
         (λ fault. fault.reason ≡ NoMemory) }
 {
-    let Some(body) = after_first_line(text) else {
-        return Err(RecordingFault {
-            line: 1,
-            reason: RecordingReason::NoRecording,
-        });
+    let head = read_head(text)?;
+    let Body { beginning, era } = match play_body(alloc, head.body) {
+        Ok(played) => played,
+        Err(fault) => return Err(fault.below(head.time_lines)),
     };
-    let played = play_body(alloc, body)?;
-    check_text(alloc, &played.beginning, played.era.journal(), text)?;
-    Ok(played)
+    check_text(alloc, head.time, &beginning, era.journal(), text)?;
+    Ok(Played {
+        time: head.time,
+        beginning,
+        era,
+    })
 }
 
 /// The era of which a text is the recording, played again.
 pub fn play_recording(alloc: Global, text: &[u8]) -> Result<Replay, RecordingFault>
     ensures legal { IfOk result (λ era. IsLegal era.base era.entries) }
-    ensures exact { IfOk result (λ era. text.now ≡ recording_text era.base era.entries) }
-    ensures back { (b : Bases) (entries : List Entries) → IsRecorded b entries
-        → text.now ≡ recording_text b entries
+    ensures exact { IfOk result (λ era. (time : Option EraTimes)
+        × (text.now ≡ recording_text time era.base era.entries)) }
+    ensures back { (time : Option EraTimes) (b : Bases) (entries : List Entries)
+        → IfSome time IsEraTime → IsRecorded b entries
+        → text.now ≡ recording_text time b entries
         → IsPlayed b entries result }
 {
     Ok(play_from(alloc, text)?.era)

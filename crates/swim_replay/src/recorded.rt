@@ -6,6 +6,7 @@ ghost use Rattle.swim_gossip.specs.declared.buffer.Waiting.{Waiting as Waitings}
 ghost use Rattle.swim_member.specs.declared.state.Relay.{Relay as Relays};
 ghost use Rattle.swim_node.specs.Node.{HasCaller, next_base};
 ghost use Rattle.swim_record.specs.Blocks.{AreFit, IsFit};
+ghost use Rattle.swim_record.specs.EraTimes.{IsEraTime};
 ghost use Rattle.swim_record.specs.Events.{IsEvent};
 ghost use Rattle.swim_record.specs.Lines.{number_or_none};
 ghost use Rattle.swim_record.specs.Text.{IsArgument};
@@ -21,7 +22,7 @@ use swim_disk::Disk;
 use swim_gossip::Waiting;
 use swim_member::{Event, Joining, MemberState, Probe, Relay, Settings};
 use swim_node::{Beginning, Entry, Node, Replay};
-use swim_record::{Start, recording};
+use swim_record::{EraTime, Start, recording};
 use swim_rules::Row;
 use swim_wire::Endpoint;
 
@@ -156,6 +157,17 @@ fn state_is_fit(state: &MemberState, limit: u32)
     names_are_fit(&state.listed);
 }
 
+/// The line of a time can.
+fn time_is_fit(time: Option<EraTime>)
+    ensures { IfSome time IsEraTime }
+{
+    if let Some(time) = time {
+        number_is_fit(time.begun);
+        number_is_fit(time.ended);
+        number_is_fit(time.tick);
+    }
+}
+
 /// A number that may be missing can be written.
 fn past_is_fit(past: Option<u64>)
     ensures { All IsArgument (number_or_none past) }
@@ -269,9 +281,10 @@ pub fn era_is_recorded<D: Disk>(node: &Node<D>, beginning: &Beginning)
 }
 
 /// Records the era of a node, of which this is where it began, and plays the recording: that is the same era again, or
-/// there was no memory.
+/// there was no memory. When the era was stands in the recording, if it is known.
 pub fn play_era<D: Disk>(
     alloc: Global,
+    time: Option<EraTime>,
     node: &Node<D>,
     beginning: &Beginning,
 ) -> Result<Replay, RecordingFault>
@@ -279,7 +292,8 @@ pub fn play_era<D: Disk>(
         → IsPlayed beginning.now node.now.entries result }
 {
     era_is_recorded(node, beginning);
-    match recording(alloc, beginning, node.journal()) {
+    time_is_fit(time);
+    match recording(alloc, time, beginning, node.journal()) {
         Ok(text) => play_recording(alloc, text.as_bytes()),
         Err(_) => Err(RecordingFault {
             line: 1,

@@ -9,6 +9,8 @@ use Rattle.swim_node.specs.contracts.beginning.Beginning.TheInside as BeginningI
 use Rattle.swim_node.specs.contracts.era.Era as Era
 use Rattle.swim_node.specs.contracts.era.Era.TheInside as EraInside
 use Rattle.swim_node.proofs.Crosses.{Base-send}
+use Rattle.swim_recorder.specs.contracts.begun.BegunEra as BegunEra
+use Rattle.swim_recorder.specs.contracts.begun.BegunEra.TheInside as BegunEraInside
 use Rattle.swim_recorder.specs.contracts.finished.Finished as Finished
 use Rattle.swim_recorder.specs.contracts.finished.Finished.TheInside as FinishedInside
 
@@ -21,6 +23,9 @@ MemberState-send = search (sendable, crosses) depth 60 fits 20000
 pub Beginning-send : IsSend Beginning.the_row
 Beginning-send = view_send BeginningInside.the_row _ _ _ _ (recorded_send BeginningInside.the_field.row _ _ BeginningInside.the_type.to_one (struct_send (shape BeginningInside.the_type) (MemberState-send, (search sendable, (search (sendable, crosses) depth 20, (search sendable, tt))))))
 
+pub BegunEra-send : IsSend BegunEra.the_row
+BegunEra-send = view_send BegunEraInside.the_row _ _ _ _ (recorded_send BegunEraInside.the_field.row _ _ BegunEraInside.the_type.to_one (struct_send (shape BegunEraInside.the_type) (Beginning-send, (search (sendable, crosses) depth 20, tt))))
+
 -- an era that ended
 pub Finished-send : IsSend Finished.the_row
-Finished-send = view_send FinishedInside.the_row _ _ _ _ (recorded_send FinishedInside.the_field.row _ _ FinishedInside.the_type.to_one (struct_send (shape FinishedInside.the_type) (Beginning-send, (Era-send, tt))))
+Finished-send = view_send FinishedInside.the_row _ _ _ _ (recorded_send FinishedInside.the_field.row _ _ FinishedInside.the_type.to_one (struct_send (shape FinishedInside.the_type) (BegunEra-send, (Era-send, tt))))

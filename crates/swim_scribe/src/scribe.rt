@@ -10,6 +10,7 @@ use std::sync::atomic::{AtomicBool, Ordering};
 use std::thread::{self, JoinHandle, Threads};
 use std::time::{Clock, Duration, Instant};
 use swim_node::Room;
+use swim_record::EraTime;
 use swim_recorder::{FileName, Finished, Folder, Keeper};
 use swim_trace::Trace;
 
@@ -46,11 +47,12 @@ impl Rest {
     }
 }
 
-/// An era that is to be recorded in a folder, under a name.
+/// An era that is to be recorded in a folder, under a name, with when it was.
 #[derive(Drop)]
 struct Named {
     folder: Arc<Folder, Global>,
     name: FileName,
+    time: Option<EraTime>,
     era: Finished,
 }
 
@@ -65,8 +67,13 @@ struct Written {
 impl Named {
     /// Writes its recording.
     fn write(self) -> Written {
-        let Named { folder, name, era } = self;
-        let ended = folder.record(name, &era);
+        let Named {
+            folder,
+            name,
+            time,
+            era,
+        } = self;
+        let ended = folder.record(name, time, &era);
         Written {
             folder,
             ended: ended.map_err(|error| error.kind()),
@@ -158,6 +165,8 @@ pub struct Scribe<'a, T> {
     rt: &'a T,
     files: HostRuntime,
     folder: Option<Arc<Folder, Global>>,
+    /// The length of a tick, in milliseconds.
+    tick: u64,
     /// How many eras it was given.
     eras: u64,
     writer: Option<Writer>,
@@ -175,12 +184,20 @@ pub struct Scribe<'a, T> {
 impl<'a, T: Threads + Log + Clock> Scribe<'a, T> {
     ghost use Rattle.std.specs.Prelude.{◌≡◌};
 
-    /// Into the folder at this path, of which so many recordings are kept. Without a path it records nothing.
-    pub fn new(rt: &'a T, files: HostRuntime, path: Option<&str>, kept: u64) -> Scribe<'a, T> {
+    /// Into the folder at this path, of which so many recordings are kept, of a member whose ticks are to be so many milliseconds long.
+    /// Without a path it records nothing.
+    pub fn new(
+        rt: &'a T,
+        files: HostRuntime,
+        path: Option<&str>,
+        kept: u64,
+        tick: u64,
+    ) -> Scribe<'a, T> {
         Scribe {
             rt,
             files,
             folder: shared_folder(rt, files, path, kept),
+            tick,
             eras: 0,
             writer: None,
             rest: None,
@@ -314,7 +331,7 @@ impl<'a, T: Threads + Log + Clock> Scribe<'a, T> {
         }
     }
 
-    /// Has an era of this life recorded, now or later.
+    /// Has an era of this life, which ended now, recorded, now or later.
     fn record(&mut self, life: u64, era: Finished) {
         self.eras = self.eras.saturating_add(1);
         let Some(folder) = self.folder_now() else {
@@ -325,7 +342,13 @@ impl<'a, T: Threads + Log + Clock> Scribe<'a, T> {
             life,
             era: self.eras,
         };
-        let last = Named { folder, name, era };
+        let time = era.until_now(self.rt, self.tick);
+        let last = Named {
+            folder,
+            name,
+            time,
+            era,
+        };
         if self.is_busy() {
             self.stand_by(last);
         } else {
