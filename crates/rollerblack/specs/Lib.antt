@@ -4,3 +4,4 @@ pub use Rattle.swim_node.specs.History
 pub use Rattle.swim_node.specs.Lives
 pub use Rattle.swim_shared.specs.Passes
 pub use Rattle.swim_shell.specs.Calls
+pub mod OverUdp

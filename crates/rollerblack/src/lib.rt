@@ -91,96 +91,44 @@
 //!
 //! # Over UDP
 //!
-//! `run_member` gives a member workers on threads of their own: one takes datagrams, one ticks, one sends, and one answers control
-//! lines and joins other members. It ends by the control line `stop`, by a fault, or, if it is told to end then, once it is
-//! expelled. This one stays.
-//!
-//! It is a whole program, on a state file that `swim init` or `init` has made. Only one process may have that file.
+//! `run_over_udp` gives a member workers on threads of their own: one takes datagrams, one ticks, one sends, and one answers control
+//! lines and joins other members. It ends by the control line `stop`, by a fault, or where its settings are refused. The state file
+//! is one that `swim init` or `init` has made; `open_locked` keeps other processes from it.
 //!
 //! ```text
-//! /// Opens a member on its state file.
-//! fn open<D: Disk + Drop>(alloc: Global, disk: D, settings: Settings) -> Result<Node<D>, &'static str>
-//!     ensures { IfOk result (λ node. node.entries ≡ []) }
-//! {
-//!     settings.check().map_err(|_| "settings")?;
-//!     Node::open(alloc, disk, settings, LIMIT).map_err(|_| "a state file")
-//! }
-//!
-//! /// Runs a member until a control connection says `stop`. An error is what was refused. Its datagrams come in at the
-//! /// address `at`, by which the others have to know it: that of `settings.me`.
-//! fn run_over_udp<D, R, T>(
-//!     rt: &R,
+//! /// Runs a member of group 7 on its state file. An error is what was refused.
+//! fn run<T: Threads + Wait + Log + Clock + Send + Sync + Copy + Drop>(
+//!     rt: &HostRuntime,
 //!     logged: &T,
-//!     disk: D,
-//!     settings: Settings,
-//!     at: SocketAddr,
+//!     file: &str,
+//!     me: Endpoint,
 //!     control: TcpListener,
-//! ) -> Result<(), &'static str>
-//! where
-//!     D: Disk + Send + Drop,
-//!     R: Net<Listener = TcpListener, Stream = TcpStream> + RandomSource + AllocGlobal,
-//!     T: Threads + Wait + Log + Clock + Send + Sync + Copy + Drop,
-//! {
-//!     let alloc = rt.alloc();
-//!     let tick = Duration::from_millis(TICK_MILLIS);
-//!     let bound = bind_datagrams(rt, logged, alloc, at, tick);
-//!     let (inbound, link, datagrams) = bound.map_err(|_| "a socket")?;
-//!     let (waits, connections) = Waits::new(rt, alloc).map_err(|_| "waits")?;
-//!     let doors = TcpDoors::new(control, &waits, logged, tick).map_err(|_| "control")?;
-//!     let doors = DoorsAndChores::new(doors, NoChores);
-//!     let node = open(alloc, disk, settings)?;
-//!     let mut key = [0; 32];
-//!     rt.fill_bytes(&mut key).map_err(|_| "a random key")?;
-//!     let setup = Setup {
-//!         settings,
-//!         number: node.first(),
-//!         tick,
-//!         joins: Joins {
-//!             peers: ArrayVec::new(),
-//!             paces: Paces {
-//!                 answer: tick.saturating_mul(3),
-//!                 period: tick.saturating_mul(10),
-//!                 rejoin: None,
-//!                 forget: tick.saturating_mul(6000),
-//!             },
-//!         },
-//!         key,
-//!         expelled_ends: None,
-//!     };
-//!     let outside = Outside::new(alloc, *logged, setup, inbound, link, doors);
-//!     let outside = outside.map_err(|_| "memory")?;
-//!     let alarms = [datagrams, connections];
-//!     let ended = run_member(logged, alloc, node, outside, &alarms);
+//! ) -> Result<(), &'static str> {
+//!     let file = open_locked(rt, file, false).map_err(|_| "a state file")?;
+//!     let disk = FileDisk::load(rt.alloc(), file.into_file()).map_err(|_| "a state file")?;
+//!     let member = OverUdp::usual(Settings::usual(7, me));
+//!     let ended = run_over_udp(rt, logged, disk, control, member).map_err(|_| "a start")?;
 //!     ended.how.map_err(|_| "a worker")?;
 //!     Ok(())
 //! }
+//! ```
 //!
-//! /// The state file as a disk, which this process has locked until it ends.
-//! fn locked_disk<R: Files<File = File> + AllocGlobal>(
-//!     rt: &R,
-//!     path: &str,
-//! ) -> Result<FileDisk, &'static str> {
-//!     let mut options = OpenOptions::new();
-//!     options.read(true).write(true);
-//!     let file = options.open(rt, path).map_err(|_| "a state file")?;
-//!     file.try_lock().map_err(|_| "a lock")?;
-//!     FileDisk::load(rt.alloc(), file).map_err(|_| "a state file")
-//! }
+//! A program that runs one:
 //!
-//! /// Runs the member 127.0.0.1:7000 of group 7. An error is what was refused.
-//! fn run<T: Threads + Wait + Log + Clock + Send + Sync + Copy + Drop>(
+//! ```text
+//! /// Runs the member 127.0.0.1:7000. An error is what was refused.
+//! fn start<T: Threads + Wait + Log + Clock + Send + Sync + Copy + Drop>(
 //!     rt: &HostRuntime,
 //!     logged: &T,
 //! ) -> Result<(), &'static str> {
 //!     let me = Endpoint::new(0x7f00_0001, 7000).ok_or("an endpoint")?;
-//!     let disk = locked_disk(rt, "member.state")?;
 //!     let control = TcpListener::bind(rt, "127.0.0.1:7001").map_err(|_| "a control socket")?;
-//!     run_over_udp(rt, logged, disk, Settings::usual(7, me), address_of(me), control)
+//!     run(rt, logged, "member.state", me, control)
 //! }
 //!
 //! fn main(rt: HostRuntime) -> ExitCode {
 //!     let logged = Logged::new(rt, LevelFilter::Warn, Console(rt));
-//!     match run(&rt, &logged) {
+//!     match start(&rt, &logged) {
 //!         Ok(()) => ExitCode::SUCCESS,
 //!         Err(refused) => {
 //!             let _ = eprintln!(rt; "refused: {refused}");
@@ -190,12 +138,17 @@
 //! }
 //! ```
 //!
-//! What takes the place of the sockets is a type of one's own: an `Inbound` that is `Alarmed` gives datagrams, a `Link` takes them,
-//! `Doors` give control connections, and `Chores` are what else has to be seen to. A check asks that the disk, the inbound and the link
+//! Over other sockets a program calls `run_member` by an `Outside` of its own: an `Inbound` that is `Alarmed` gives datagrams, a `Link`
+//! takes them, `Doors` give control connections, and `Chores` are what else has to be seen to. A check asks that the disk, the inbound and the link
 //! may go to another thread, and finds by itself that a `FileDisk` and these sockets may.
 //!
 //! A program names this crate in its line of `crates.txt`, and no other for what stands here.
 #![tactic(auto)]
+
+mod over_udp;
+
+// A member over UDP, in one call.
+pub use over_udp::{OverUdp, StartFault, run_over_udp};
 
 // Whom a datagram names, and what it says of them.
 pub use swim_wire::{
@@ -230,7 +183,13 @@ pub use swim_shell::{
 };
 
 // The sockets that it usually has.
-pub use swim_net::{SocketAlarm, TcpDoors, UdpInbound, UdpLink, Waits, address_of, bind_datagrams};
+pub use swim_net::{
+    SocketAlarm, Sockets, TcpDoors, UdpInbound, UdpLink, Waits, address_of, bind_datagrams,
+    endpoint_of,
+};
+
+// A state file that no other process has.
+pub use swim_start::{LockedFile, open_locked};
 
 // What some of these are made of.
 pub use arrayvec::ArrayVec;

@@ -1,10 +1,16 @@
 -- Lives one after another, each opened on what became of the disk that the one before left.
-use Rattle.std.specs.Prelude.{◌≡◌, ℕ, ◌+◌, ◌<◌, ◌≤◌, List, [], ◌∷◌, ◌++◌}
+use Rattle.std.specs.Prelude.{◌≡◌, ◌↔◌, ◌⊎◌, ℕ, ◌+◌, ◌<◌, ◌≤◌, List, [], ◌∷◌, ◌++◌, Some}
 use Rattle.swim_disk.specs.Disk.{DiskState, IsSettled}
 use Rattle.swim_state.specs.declared.owner.Owner.{Owner}
 use Rattle.swim_state.specs.Held.{Held, Through, Covers}
+use Rattle.swim_state.specs.Recovery.{fault_of}
+use Rattle.swim_state.specs.declared.fault.RecoverFault.{RecoverFault}
+use Rattle.swim_state.specs.declared.fault.RecoverFault.TheVariants.{Device, Exhausted}
 use Rattle.swim_member.specs.declared.settings.Settings.{Settings}
 use Rattle.swim_node.specs.declared.entry.Entry.{Entry}
+use Rattle.swim_node.specs.declared.fault.OpenFault.{OpenFault}
+use Rattle.swim_node.specs.declared.fault.OpenFault.TheVariants as opening
+use Rattle.swim_node.specs.declared.opening.TheConstants.{LIMIT_MAX}
 use Rattle.swim_node.specs.History.{Base, IsLegal, granted_of, fresh_base}
 use Rattle.swim_node.specs.Owns.{owns, owns_in, AreAtMost, AreAtLeast}
 use Rattle.swim_node.specs.Node.{NodeView, granted_base, owner_of, next_base}
@@ -156,6 +162,25 @@ BeginsAbove {D} state owner opened first =
     (last : Life D) → IsLived state owner last
     → Reached D state owner (ceiling_of last) last.left opened
     → AreBelow (numbers_of last) (first ∷ [])
+
+-- On this disk no life began, for this reason. A device fault is one failed call, and no call
+-- failed for any other; the limit is refused where it is out of its range; any other fault is the
+-- first that the disk shows. From a disk that holds a number only a device fault or exhaustion
+-- comes, and no moment of the call left less on it, after a crash, than it held.
+pub record Unopened {D : Type 0} (state : D → DiskState) (settings : Settings) (limit : ℕ)
+    (reason : OpenFault) (opened left : D)
+    : Type 0 where
+  pub range : (reason ≡ opening.Limit) ↔ ((limit ≡ 0) ⊎ (LIMIT_MAX < limit))
+  pub device : reason ≡ opening.Refused Device
+      → (state left).failures ≡ (state opened).failures + 1
+  pub calm : (reason ≡ opening.Refused Device → ⊥)
+      → (state left).failures ≡ (state opened).failures
+  pub shown : (fault : RecoverFault) → (fault ≡ Device → ⊥) → reason ≡ opening.Refused fault
+      → fault_of (owner_of settings) (state opened).content ≡ Some fault
+  pub from_held : (b : ℕ) → Held (owner_of settings) (state opened) b → (fault : RecoverFault)
+      → reason ≡ opening.Refused fault → (fault ≡ Device) ⊎ (fault ≡ Exhausted)
+  pub leaves : (b : ℕ) → Held (owner_of settings) (state opened) b
+      → Through (Covers (owner_of settings) b) (state opened) (state left)
 
 -- lives of one owner, each opened after the one before
 abbrev pub AreLives : {D : Type 0} → (D → DiskState) → Owner → List (Life D) → Type 0

@@ -11,7 +11,7 @@ ghost use Rattle.swim_state.specs.declared.fault.RecoverFault.{RecoverFault as F
 ghost use Rattle.swim_state.specs.declared.fault.RecoverFault.TheVariants.{Device, Exhausted};
 ghost use Rattle.swim_state.specs.declared.layout.Version.TheVariants.{Two};
 ghost use Rattle.swim_node.specs.History.{fresh_base};
-ghost use Rattle.swim_node.specs.Lives.{BeginsAbove, IsLiving, life_of};
+ghost use Rattle.swim_node.specs.Lives.{BeginsAbove, IsLiving, Unopened, life_of};
 ghost use Rattle.swim_node.specs.Node.{disk_of, owner_of};
 ghost use Rattle.swim_wire.specs.declared.update.TheConstants.{NUMBER_MAX};
 
@@ -103,6 +103,11 @@ impl<D: Disk> Node<D> {
         ensures beside { D.keeps_model → version_in (D.state disk).content ≡ Two
             → LeavesAlone (IsBeside (target_in (D.state disk).content))
             (D.state disk) (D.state (disk_of result)) }
+
+        // No life begins where it is refused.
+        ensures refused { D.keeps_model
+            → IfErr result (λ refused. Unopened D.state settings limit refused.1 disk
+            refused.0) }
 
         // The life begins.
         ensures begins { D.keeps_model

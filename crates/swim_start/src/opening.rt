@@ -1,14 +1,13 @@
 //! The opening of a member on its state file.
 
-ghost use Rattle.std.specs.Prelude.{◌≡◌, ◌≢◌, ◌↔◌, ◌⊎◌, ◌<◌, ℕ, [], None, Some, IfErr, IfOk};
+ghost use Rattle.std.specs.Prelude.{◌≡◌, ◌≢◌, ◌↔◌, ◌⊎◌, ◌<◌, [], None, Some, IfErr, IfOk};
 ghost use Rattle.swim_disk.specs.File.{FileView, file_state};
 ghost use Rattle.swim_start.specs.WatchedDisk.{disk_below, watched_state};
 ghost use Rattle.swim_start.specs.declared.watched_disk.WatchedDisk.{WatchedDisk};
 ghost use Rattle.swim_member.specs.Checks.{AreSound};
-ghost use Rattle.swim_node.specs.Lives.{BeginsAbove, IsLiving, life_of};
+ghost use Rattle.swim_node.specs.Lives.{BeginsAbove, IsLiving, Unopened, life_of};
 ghost use Rattle.swim_node.specs.Node.{owner_of};
 ghost use Rattle.swim_node.specs.declared.opening.TheConstants.{LIMIT_MAX};
-ghost use Rattle.swim_state.specs.Held.{Covers, Held, Through};
 ghost use Rattle.swim_state.specs.Recovery.{fault_of};
 ghost use Rattle.swim_state.specs.declared.fault.RecoverFault.{RecoverFault as Faults};
 ghost use Rattle.swim_state.specs.declared.fault.RecoverFault.TheVariants.{Device};
@@ -55,12 +54,11 @@ pub fn open<W: Watch + Drop>(
         × IsLiving (watched_state file_state) node.owner
         (life_of settings limit opened [] node)) }
 
-    // A start that was refused, at whichever call of the disk, leaves what the lives before it held.
+    // A start that was refused, at whichever call of the disk, leaves what the lives before it held. If there was any, only a
+    // failed call or exhaustion refuses it.
     ensures refused { IfErr result (λ refused. (opened : WatchedDisk FileView W)
         × (disk_below opened ≡ disk)
-        × ((b : ℕ) → Held (owner_of settings) (watched_state file_state opened) b
-        → Through (Covers (owner_of settings) b) (watched_state file_state opened)
-        (watched_state file_state refused.0))) }
+        × Unopened (watched_state file_state) settings limit refused.1 opened refused.0) }
 {
     Node::open(alloc, WatchedDisk::new(disk, watch), settings, limit)
 }

@@ -1,3 +1,4 @@
-//! The example by hand in the head of `rollerblack`.
+//! The examples in the head of `rollerblack`.
 
 mod by_hand;
+mod over_udp;

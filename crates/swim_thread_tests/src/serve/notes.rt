@@ -1,6 +1,6 @@
 //! What is logged of notes.
 
-use crate::same::{holds, same};
+use crate::same::{given, holds, same};
 use arrayvec::ArrayVec;
 use log::kv::Source;
 use log::sink::Memory;
@@ -14,6 +14,7 @@ use swim_member::{Note, Phase};
 use swim_node::{Reply, Status};
 use swim_scenes::endpoint;
 use swim_serve::{LOGGED_MAX, NoteLog};
+use swim_wire::{Rules, WireFault};
 
 /// A clock that stands, beside a log in memory.
 #[derive(Drop)]
@@ -83,7 +84,7 @@ fn left_out_notes(rt: HostRuntime) -> Result<(), Fail> {
         second: 5,
         lines: Memory::new(rt.alloc()),
     };
-    let mut notes = NoteLog::new();
+    let mut notes = NoteLog::new(Rules::Two);
     let from = endpoint(2);
     for _ in 0..LOGGED_MAX + 2 {
         notes.log(&desk, &noted(Note::OtherGroup), &from);
@@ -92,19 +93,116 @@ fn left_out_notes(rt: HostRuntime) -> Result<(), Fail> {
     desk.second = 6;
     notes.log(&desk, &noted(Note::OtherGroup), &from);
     let lines = desk.lines.into_lines();
+    let other =
+        "10.0.0.2:7000 is of another group: it is ignored; look at its `group` and its `join` (note 2 OtherGroup)";
     let want = [
-        "note 2 OtherGroup from 10.0.0.2:7000",
-        "note 2 OtherGroup from 10.0.0.2:7000",
-        "note 2 OtherGroup from 10.0.0.2:7000",
-        "note 2 OtherGroup from 10.0.0.2:7000",
-        "note 2 OtherGroup from 10.0.0.2:7000",
-        "note 16 SendFailed 3",
-        "note 2 OtherGroup, and 2 of its kind in the same second",
-        "note 2 OtherGroup from 10.0.0.2:7000",
+        other,
+        other,
+        other,
+        other,
+        other,
+        "this member could not send 3 datagrams: look at the network; later probes send them again (note 16 SendFailed 3)",
+        "2 more of this kind in the same second (note 2 OtherGroup)",
+        other,
     ];
     same(&rt, lines.len(), want.len());
     for (line, want) in lines.as_slice().iter().zip(want) {
         holds(&rt, line.as_str().ends_with(want));
+    }
+    Ok(())
+}
+
+/// All notes, each as the only one of its kind.
+const NOTES: [Note; 18] = [
+    Note::BadDatagram(WireFault::TooLong),
+    Note::OtherGroup,
+    Note::NotSender,
+    Note::FromSelf,
+    Note::Leap,
+    Note::NoNumberLeft,
+    Note::TableFull,
+    Note::Misdirected,
+    Note::RelaysFull,
+    Note::UnknownTarget,
+    Note::Unasked,
+    Note::SaveFailed,
+    Note::Expelled,
+    Note::Stopped,
+    Note::ReceiveFailed,
+    Note::SendFailed(3),
+    Note::TimeOver,
+    Note::OtherVersion,
+];
+
+/// The notes that a healthy group makes too.
+const USUAL: [Note; 4] = [
+    Note::Misdirected,
+    Note::UnknownTarget,
+    Note::Unasked,
+    Note::Stopped,
+];
+
+/// Each note is one line at level warn, or at level debug if a healthy group makes it too. It begins with who did it, and ends with
+/// the number and the name.
+#[test]
+fn every_note(rt: HostRuntime) -> Result<(), Fail> {
+    for from in [None, endpoint(2)] {
+        let desk = Desk {
+            second: 5,
+            lines: Memory::new(rt.alloc()),
+        };
+        let mut notes = NoteLog::new(Rules::Two);
+        for note in NOTES {
+            notes.log(&desk, &noted(note), &from);
+        }
+        let lines = desk.lines.into_lines();
+        same(&rt, lines.len(), NOTES.len());
+        for (line, note) in lines.as_slice().iter().zip(NOTES) {
+            let end = given(&rt, format!(in rt.alloc(); " (note {note})"));
+            holds(&rt, line.as_str().ends_with(end.as_str()));
+            let level = if USUAL.contains(&note) {
+                "[DEBUG"
+            } else {
+                "[WARN"
+            };
+            holds(&rt, line.as_str().starts_with(level));
+            let is_own = from.is_none() || matches!(note, Note::SendFailed(_));
+            let who = if is_own {
+                "this member "
+            } else {
+                "10.0.0.2:7000 "
+            };
+            holds(&rt, line.as_str().contains(who));
+        }
+    }
+    Ok(())
+}
+
+/// A member of the other rules is told with both, whatever the own ones are.
+#[test]
+fn other_rules(rt: HostRuntime) -> Result<(), Fail> {
+    let rows = [
+        (
+            Rules::One,
+            "has rules 2, this member 1: it is ignored; give both the same `rules` (note 18 OtherVersion)",
+        ),
+        (
+            Rules::Two,
+            "has rules 1, this member 2: it is ignored; give both the same `rules` (note 18 OtherVersion)",
+        ),
+    ];
+    for (rules, want) in rows {
+        let desk = Desk {
+            second: 5,
+            lines: Memory::new(rt.alloc()),
+        };
+        let mut notes = NoteLog::new(rules);
+        notes.log(&desk, &noted(Note::OtherVersion), &endpoint(2));
+        let lines = desk.lines.into_lines();
+        same(&rt, lines.len(), 1);
+        for line in lines.as_slice() {
+            holds(&rt, line.as_str().ends_with(want));
+        }
     }
     Ok(())
 }
@@ -116,7 +214,7 @@ fn one_left_out_note(rt: HostRuntime) -> Result<(), Fail> {
         second: 5,
         lines: Memory::new(rt.alloc()),
     };
-    let mut notes = NoteLog::new();
+    let mut notes = NoteLog::new(Rules::Two);
     for _ in 0..LOGGED_MAX + 1 {
         notes.log(&desk, &noted(Note::NotSender), &None);
     }
@@ -127,8 +225,7 @@ fn one_left_out_note(rt: HostRuntime) -> Result<(), Fail> {
     let last = lines.as_slice().last().expect(&rt, "a line");
     holds(
         &rt,
-        last.as_str()
-            .ends_with("note 3 NotSender, and 1 of its kind in the same second"),
+        last.as_str().ends_with("1 more of this kind in the same second (note 3 NotSender)"),
     );
     Ok(())
 }
@@ -140,7 +237,7 @@ fn stopped_once(rt: HostRuntime) -> Result<(), Fail> {
         second: 5,
         lines: Memory::new(rt.alloc()),
     };
-    let mut notes = NoteLog::new();
+    let mut notes = NoteLog::new(Rules::Two);
     for second in 5..8 {
         desk.second = second;
         notes.log(&desk, &noted(Note::Stopped), &None);
@@ -148,7 +245,7 @@ fn stopped_once(rt: HostRuntime) -> Result<(), Fail> {
     let lines = desk.lines.into_lines();
     same(&rt, lines.len(), 1);
     for line in lines.as_slice() {
-        holds(&rt, line.as_str().ends_with("note 14 Stopped"));
+        holds(&rt, line.as_str().ends_with("(note 14 Stopped)"));
     }
     Ok(())
 }
