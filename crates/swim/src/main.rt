@@ -4,6 +4,9 @@
 //! the members of a group sent, and `swim simulate` plays whole groups.
 #![tactic(auto)]
 
+mod build_note;
+
+use build_note::build_note;
 use clap::Error;
 use clap::error::ErrorKind;
 use log::{LevelFilter, Log, Logged};
@@ -15,23 +18,26 @@ use std::thread::Threads;
 use std::time::Clock;
 use std::{env, fs};
 use swim_ask::{
-    Answered, CountersJson, Paint, StatusJson, Watched, ask, await_end, await_peer, read_counters,
-    read_status, show_members, watch_members,
+    AboutJson, Addresses, Answered, CountersJson, Paint, StatusJson, Watched, WholeJson, ask,
+    ask_about, await_end, await_peer, read_about, read_counters, read_status, show_members,
+    watch_members,
 };
 use swim_check::{Stop, check};
 use swim_cli::{Subcommand, hold_standard, make, read_words};
 use swim_ending::{Ending, Failure};
-use swim_explain::{ExplainFault, explain_file, in_order};
+use swim_explain::{ExplainFault, Printed, Tale, in_order, print_tales, recordings_at, tell_file};
 use swim_input::{InputFault, SETTINGS_MAX, look_at, open_file};
 use swim_log::{LogLevel, LogStream, Stamped};
 use swim_play::{play, play_recorded};
 use swim_replay::{RecordingFault, RecordingReason, after_first_line};
 use swim_run::{run, shown_settings};
 use swim_script::ScriptFault;
+use swim_shell::Alone;
 use swim_show::ShowFault;
 use swim_survey::{Asked, AskedFault};
 use swim_up::prepare;
 use swim_web::{Web, serve_web};
+use swim_wire::Endpoint;
 use swim_words::read_endpoint;
 
 /// The exit status where the words are refused.
@@ -51,6 +57,14 @@ fn print_bytes(rt: &HostRuntime, bytes: &[u8]) -> Result<(), Failure> {
     io::writer(rt)
         .write_all(bytes)
         .map_err(|error| Failure::of_output(rt.alloc(), &error))
+}
+
+/// Prints how the program was built, as far as that is known.
+fn print_build(rt: &HostRuntime) -> Result<(), Failure> {
+    match build_note(rt) {
+        Ok(note) => print_bytes(rt, note.as_bytes()),
+        Err(_) => Err(Failure::from(Ending::Memory)),
+    }
 }
 
 /// Prints a line.
@@ -111,13 +125,16 @@ fn check_input(rt: &HostRuntime) -> Result<ExitCode, Failure> {
     }
 }
 
-/// Prints the answer of a member, a status or counters as a JSON object.
+/// Prints the answer of a member, a status, counters or who it is as a JSON object.
 fn print_json(rt: &HostRuntime, answer: &[u8]) -> Result<(), Failure> {
     if let Some(status) = read_status(answer) {
         return print_line(rt, StatusJson(status));
     }
     if let Some(counters) = read_counters(answer) {
         return print_line(rt, CountersJson(counters));
+    }
+    if let Some(about) = read_about(answer) {
+        return print_line(rt, AboutJson(about));
     }
     print_bytes(rt, answer)
 }
@@ -155,7 +172,8 @@ fn await_stop(rt: &HostRuntime, question: &Question<'_>, answer: &Answered) -> R
 }
 
 /// The control lines that there are.
-const LINES: &str = "status, members, members A, counters, join A, leave, record, reload, stop";
+const LINES: &str =
+    "status, about, members, members A, counters, join A, leave, record, reload, stop";
 
 /// What a member answers to a line that it does not know.
 const UNKNOWN: &[u8] = b"error 1 ";
@@ -213,6 +231,44 @@ fn usual_control(rt: &HostRuntime) -> Result<String, Failure> {
     String::from_str(rt.alloc(), CONTROL).map_err(|_| Failure::from(Ending::Memory))
 }
 
+/// Prints what a member says of itself: its status, who it is, and that it is alone, where it is. One of an older version tells its
+/// status only.
+fn show_status<T: Threads>(
+    rt: &HostRuntime,
+    threads: &T,
+    to: &str,
+    as_json: bool,
+) -> Result<ExitCode, Failure> {
+    let answer = ask(rt, threads, to, "status")?;
+    let text = answer.text.as_slice();
+    let Some(status) = read_status(text) else {
+        print_bytes(rt, text)?;
+        return Ok(ExitCode::FAILURE);
+    };
+    match ask_about(rt, answer.at)? {
+        Some(about) if as_json => print_line(rt, WholeJson(status, about))?,
+        Some(about) => {
+            print_bytes(rt, text)?;
+            print_line(rt, about.who)?;
+            if about.is_alone {
+                print_line(rt, Alone(about.who))?;
+            }
+        }
+        None => print_answer(rt, text, as_json)?,
+    }
+    Ok(ExitCode::SUCCESS)
+}
+
+/// The addresses that are named, or the usual one where none is.
+fn named_or(mut named: Vec<String>, usual: String) -> Result<Vec<String>, Failure> {
+    if named.is_empty() {
+        named
+            .push(usual)
+            .map_err(|_| Failure::from(Ending::Memory))?;
+    }
+    Ok(named)
+}
+
 /// Has a member join another one, and says whether that is known to it as alive within seconds.
 fn join_peer<T: Threads>(
     rt: &HostRuntime,
@@ -252,34 +308,94 @@ fn show_file(rt: &HostRuntime, path: &str, as_json: bool) -> Result<ExitCode, Fa
     })
 }
 
-/// Prints what recordings tell of a member, a file after the other. One that tells nothing is named on standard error, and the
-/// status says whether there was one.
-fn explain_files(
+/// What recordings tell of a member, and whether all of them do.
+#[derive(Drop)]
+struct ToldTales {
+    tales: Vec<Tale>,
+    are_all: bool,
+}
+
+/// Names a file or a folder that tells nothing on standard error. An error is that there is no memory.
+fn name_refused(rt: &HostRuntime, path: &str, fault: ExplainFault) -> Result<(), Failure> {
+    if fault == ExplainFault::Memory {
+        return Err(Failure::from(Ending::Memory));
+    }
+    let _ = eprintln!(rt; "swim: {path}: {fault}");
+    Ok(())
+}
+
+/// Names a folder without recordings on standard error.
+fn name_empty(rt: &HostRuntime, folder: &str) {
+    let _ = eprintln!(rt;
+        "swim: {folder}: no recordings here: the setting `record` has a member write them"
+    );
+}
+
+/// Adds what the recordings at a path tell of a member.
+fn tell_place(
+    rt: &HostRuntime,
+    told: &mut ToldTales,
+    path: &str,
+    who: Endpoint,
+) -> Result<(), Failure> {
+    let files = match recordings_at(rt, path) {
+        Ok(files) => files,
+        Err(fault) => {
+            told.are_all = false;
+            return name_refused(rt, path, fault);
+        }
+    };
+    if files.is_empty() {
+        told.are_all = false;
+        name_empty(rt, path);
+    }
+    for file in &files {
+        match tell_file(rt, file, who) {
+            Ok(tale) => {
+                let kept = told.tales.push(tale);
+                kept.map_err(|_| Failure::from(Ending::Memory))?;
+            }
+            Err(fault) => {
+                told.are_all = false;
+                name_refused(rt, file, fault)?;
+            }
+        }
+    }
+    Ok(())
+}
+
+/// Prints what recordings tell of a member, in the order of time. A file that tells nothing and a folder without recordings are named on
+/// standard error, and the status says whether there was one.
+fn explain_places(
     rt: &HostRuntime,
     member: &str,
-    files: &[String],
+    places: &[String],
+    all: bool,
     as_json: bool,
 ) -> Result<ExitCode, Failure> {
     let Some(who) = read_endpoint(member.as_bytes()) else {
         return Err(Failure::of_address(rt.alloc(), "--member", member));
     };
-    let mut status = ExitCode::SUCCESS;
-    for file in &in_order(rt, files).map_err(|_| Failure::from(Ending::Memory))? {
-        match explain_file(rt, file, who, as_json) {
-            Ok(story) => {
-                if !as_json {
-                    print_line(rt, file)?;
-                }
-                print_bytes(rt, story.as_bytes())?;
-            }
-            Err(ExplainFault::Memory) => return Err(Failure::from(Ending::Memory)),
-            Err(fault) => {
-                let _ = eprintln!(rt; "swim: {file}: {fault}");
-                status = ExitCode::FAILURE;
-            }
-        }
+    let mut told = ToldTales {
+        tales: Vec::new(rt.alloc()),
+        are_all: true,
+    };
+    for place in &in_order(rt, places).map_err(|_| Failure::from(Ending::Memory))? {
+        tell_place(rt, &mut told, place, who)?;
     }
-    Ok(status)
+    if !told.tales.is_empty() {
+        let asked = Printed { who, all, as_json };
+        let text = print_tales(rt.alloc(), &told.tales, &asked);
+        print_bytes(
+            rt,
+            text.map_err(|_| Failure::from(Ending::Memory))?.as_bytes(),
+        )?;
+    }
+    Ok(if told.are_all {
+        ExitCode::SUCCESS
+    } else {
+        ExitCode::FAILURE
+    })
 }
 
 /// The colours of standard output.
@@ -371,13 +487,7 @@ fn answer<T: Threads + Wait + Log + Clock + Send + Sync + Copy + Drop>(
             ask_member(rt, logged, &question)
         }
         Subcommand::Status { to, as_json } => {
-            let question = Question {
-                to: to.unwrap_or(usual.as_str()),
-                line: "status",
-                as_json,
-                at_once: false,
-            };
-            ask_member(rt, logged, &question)
+            show_status(rt, logged, to.unwrap_or(usual.as_str()), as_json)
         }
         Subcommand::Join { peer, to } => {
             join_peer(rt, logged, to.unwrap_or(usual.as_str()), peer)
@@ -411,27 +521,33 @@ fn answer<T: Threads + Wait + Log + Clock + Send + Sync + Copy + Drop>(
             every,
             once,
         } => {
+            let to = named_or(to, usual)?;
             let watched = Watched {
-                to: to.unwrap_or(usual.as_str()),
+                to: Addresses::judged(rt.alloc(), to.as_slice())?,
                 as_json,
                 every,
                 once,
                 paint: paint(rt),
             };
-            watch_members(rt, logged, &watched)?;
+            watch_members(rt, logged, watched)?;
             Ok(ExitCode::SUCCESS)
         }
         Subcommand::Web { of, listen } => {
-            let of = of.unwrap_or(usual.as_str());
-            serve_web(rt, logged, &Web { of, listen })?;
+            let of = named_or(of, usual)?;
+            let web = Web {
+                of: of.as_slice(),
+                listen,
+            };
+            serve_web(rt, logged, &web)?;
             Ok(ExitCode::SUCCESS)
         }
         Subcommand::Show { file, as_json } => show_file(rt, file, as_json),
         Subcommand::Explain {
             member,
-            files,
+            places,
+            all,
             as_json,
-        } => explain_files(rt, member, files, as_json),
+        } => explain_places(rt, member, places, all, as_json),
         Subcommand::Play => play_input(rt),
         Subcommand::Check => check_input(rt),
         Subcommand::Simulate {
@@ -472,7 +588,7 @@ fn end(rt: &HostRuntime, failure: &Failure) -> ExitCode {
     ending.status()
 }
 
-/// Prints help, the version, or what is wrong with the words.
+/// Prints help or the version, which how the program was built goes with, or what is wrong with the words.
 fn explain(rt: &HostRuntime, error: &Error) -> ExitCode {
     if error.kind() == ErrorKind::OutOfMemory {
         return end(rt, &Failure::from(Ending::Memory));
@@ -481,9 +597,14 @@ fn explain(rt: &HostRuntime, error: &Error) -> ExitCode {
     if error.use_stderr() {
         return ExitCode::from(REFUSED);
     }
-    match printed {
+    let printed = printed.map_err(|error| Failure::of_output(rt.alloc(), &error));
+    let noted = match (printed, error.kind()) {
+        (Ok(()), ErrorKind::DisplayVersion) => print_build(rt),
+        (printed, _) => printed,
+    };
+    match noted {
         Ok(()) => ExitCode::SUCCESS,
-        Err(error) => end(rt, &Failure::of_output(rt.alloc(), &error)),
+        Err(failure) => end(rt, &failure),
     }
 }
 

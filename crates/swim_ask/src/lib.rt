@@ -1,6 +1,8 @@
 //! Who asks a running member over its control socket: a line and its answer, all rows, and what changes of them.
 #![tactic(auto)]
 
+mod about;
+mod addresses;
 mod asking;
 mod counters;
 mod gap;
@@ -16,12 +18,14 @@ mod stopping;
 mod timed;
 mod watching;
 
+pub use about::{AboutJson, ask_about, read_about};
+pub use addresses::Addresses;
 pub use asking::{Answered, ask};
 pub use counters::{CountersJson, read_counters};
 pub use joining::await_peer;
 pub use looking::{Shown, look};
 pub use paint::Paint;
-pub use place::{find, judge};
-pub use status::{StatusJson, read_status};
+pub use place::find;
+pub use status::{StatusJson, WholeJson, read_status};
 pub use stopping::await_end;
 pub use watching::{Watched, show_members, watch_members};

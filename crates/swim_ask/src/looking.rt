@@ -1,5 +1,6 @@
 //! One look at a running member.
 
+use crate::about::ask_about;
 use crate::asking::exchange;
 use crate::counters::read_counters;
 use crate::paging::read_rows;
@@ -9,7 +10,7 @@ use std::net::{Net, TcpStream};
 use std::rt::Clock;
 use swim_news::Rows;
 use swim_node::Status;
-use swim_shell::Counters;
+use swim_shell::{About, Counters};
 
 /// What a member said of itself and of all members.
 #[derive(Drop)]
@@ -20,9 +21,11 @@ pub struct Shown {
     pub rows: Option<Rows>,
     /// What it has done since it began; none where it does not know that line, as it is of an older version.
     pub counters: Option<Counters>,
+    /// Who it is; none where it does not know that line.
+    pub about: Option<About>,
 }
 
-/// Asks the member whose control socket a word names for its status, all rows, and what it has done. Each of its answers takes at
+/// Asks the member whose control socket a word names for its status, all rows, what it has done, and who it is. Each of its answers takes at
 /// most 5 seconds. None where it did not answer, or not so.
 pub fn look<R: Net<Stream = TcpStream> + Clock + AllocGlobal>(rt: &R, word: &str) -> Option<Shown> {
     let to = find(rt, word).ok()?;
@@ -30,9 +33,11 @@ pub fn look<R: Net<Stream = TcpStream> + Clock + AllocGlobal>(rt: &R, word: &str
     let status = read_status(answer.as_slice())?;
     let rows = read_rows(rt, to).ok()?;
     let answer = exchange(rt, to, "counters").ok()?;
+    let about = ask_about(rt, to).ok()?;
     Some(Shown {
         status,
         rows,
         counters: read_counters(answer.as_slice()),
+        about,
     })
 }

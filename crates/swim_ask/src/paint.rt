@@ -5,7 +5,7 @@ ghost use Rattle.swim_ask.specs.declared.paint.Paint.TheVariants as paints;
 
 use std::rt::Env;
 use std::{env, fmt};
-use swim_news::Change;
+use swim_news::{Change, state_name};
 use swim_wire::UpdateKind;
 
 /// The variable that asks for no colours if it has any text (no-color.org).
@@ -16,7 +16,7 @@ const NO_COLOR: &str = "NO_COLOR";
 pub enum Paint {
     /// As plain text.
     Plain,
-    /// Each state in its own colour: alive green, suspect yellow, confirm red.
+    /// Each state in its own colour: alive green, suspect yellow, failed red.
     Coloured,
 }
 
@@ -68,7 +68,7 @@ pub(crate) struct PaintedKind(pub(crate) Paint, pub(crate) UpdateKind);
 
 impl fmt::Display for PaintedKind {
     fn fmt<W: fmt::Write>(&self, f: &mut fmt::Formatter<W>) -> fmt::Result {
-        let (begin, name, end) = (self.0.begin(self.1), self.1.name(), self.0.end());
+        let (begin, name, end) = (self.0.begin(self.1), state_name(self.1), self.0.end());
         write!(f, "{begin}{name:<7}{end}")
     }
 }

@@ -16,7 +16,7 @@ use swim_words::{read_endpoint, read_host};
 const ADDRESS: &str = "ADDR";
 
 /// Refuses a word that names no control socket: it is neither an endpoint nor a host name and a port.
-pub fn judge(alloc: Global, word: &str) -> Result<(), Failure> {
+pub(crate) fn judge(alloc: Global, word: &str) -> Result<(), Failure> {
     let bytes = word.as_bytes();
     if read_endpoint(bytes).is_some() || read_host(bytes).is_some() {
         Ok(())

@@ -7,9 +7,11 @@ ghost use Rattle.swim_shell.specs.Answers.{status_text};
 ghost use Rattle.swim_words.specs.Words.{No, Lacks};
 ghost use Rattle.swim_ask.specs.Answers.{SaysStatus};
 
+use crate::about::AboutValues;
 use std::fmt;
 use swim_member::Phase;
 use swim_node::Status;
+use swim_shell::About;
 use swim_words::{read_number, split_at_byte};
 
 /// The phase that the word is.
@@ -26,7 +28,7 @@ fn read_phase(word: &[u8]) -> Option<Phase>
 }
 
 /// What stands after a word and a space.
-fn after_word<'a>(text: &'a [u8], word: &[u8]) -> Option<&'a [u8]>
+pub(crate) fn after_word<'a>(text: &'a [u8], word: &[u8]) -> Option<&'a [u8]>
     ensures rest { IfSome result (λ rest. text.now ≡ word.now ++ 32 ∷ rest.now) }
     ensures none { IfNone result (Lacks 32 word.now
         → (rest : List ℕ)
@@ -78,11 +80,15 @@ pub fn read_status(answer: &[u8]) -> Option<Status>
     })
 }
 
+/// A status as the values of a JSON object.
+#[derive(Clone, Copy)]
+struct StatusValues(Status);
+
 /// A status as a JSON object: `{"phase":"running","number":3,"alive":4,"suspect":0,"confirmed":0,"length":17}`.
 #[derive(Clone, Copy)]
 pub struct StatusJson(pub Status);
 
-impl fmt::Display for StatusJson {
+impl fmt::Display for StatusValues {
     fn fmt<W: fmt::Write>(&self, f: &mut fmt::Formatter<W>) -> fmt::Result {
         let Status {
             phase,
@@ -95,7 +101,25 @@ impl fmt::Display for StatusJson {
         let phase = phase.name();
         write!(
             f,
-            "{{\"phase\":\"{phase}\",\"number\":{number},\"alive\":{alive},\"suspect\":{suspect},\"confirmed\":{confirmed},\"length\":{length}}}"
+            "\"phase\":\"{phase}\",\"number\":{number},\"alive\":{alive},\"suspect\":{suspect},\"confirmed\":{confirmed},\"length\":{length}"
         )
+    }
+}
+
+impl fmt::Display for StatusJson {
+    fn fmt<W: fmt::Write>(&self, f: &mut fmt::Formatter<W>) -> fmt::Result {
+        let values = StatusValues(self.0);
+        write!(f, "{{{values}}}")
+    }
+}
+
+/// A status and who the member is, as one JSON object: the values of `StatusJson`, and then those of `AboutJson`.
+#[derive(Clone, Copy)]
+pub struct WholeJson(pub Status, pub About);
+
+impl fmt::Display for WholeJson {
+    fn fmt<W: fmt::Write>(&self, f: &mut fmt::Formatter<W>) -> fmt::Result {
+        let (status, about) = (StatusValues(self.0), AboutValues(self.1));
+        write!(f, "{{{status},{about}}}")
     }
 }

@@ -1,11 +1,13 @@
 //! `swim members` and `swim watch`.
 
+use crate::about::ask_about;
+use crate::addresses::Addresses;
 use crate::asking::now;
 use crate::gap::{Gap, GapJson};
 use crate::output::Output;
 use crate::paging::read_rows;
 use crate::paint::{Paint, PaintedChange, PaintedKind};
-use crate::place::{find, find_from, judge};
+use crate::place::{find, find_from};
 use crate::timed::{Timed, TimedJson};
 use arrayvec::ArrayString;
 use std::fmt::{self, Display, Write as _};
@@ -16,7 +18,8 @@ use std::thread::{self, Threads};
 use std::time::Duration;
 use swim_ending::{Ending, Failure};
 use swim_news::{Change, ChangeJson, Changes, RowJson, Rows, compare};
-use swim_wire::Update;
+use swim_shell::Alone;
+use swim_wire::{Endpoint, Update};
 
 /// How long `swim members` waits until it asks a member again whose era was full, in milliseconds, and how often.
 const AGAIN_MILLIS: u64 = 100;
@@ -54,11 +57,23 @@ fn print_objects<P: Print + AllocGlobal>(rt: &P, rows: &Rows) -> Result<(), Fail
 
 /// Prints rows as a table with a head.
 fn print_table<P: Print + AllocGlobal>(rt: &P, rows: &Rows, paint: Paint) -> Result<(), Failure> {
-    print_line(rt, &"MEMBER                KIND    NUMBER")?;
+    print_line(rt, &"MEMBER                STATE   INCARNATION")?;
     for row in rows.as_slice() {
         print_row(rt, row, paint)?;
     }
     Ok(())
+}
+
+/// Prints that a member is alone, where it says so.
+fn print_alone<R: Net<Stream = TcpStream> + Clock + AllocGlobal + Print>(
+    rt: &R,
+    to: Endpoint,
+) -> Result<(), Failure> {
+    let about = ask_about(rt, to).unwrap_or(None);
+    match about {
+        Some(about) if about.is_alone => print_line(rt, &Alone(about.who)),
+        _ => Ok(()),
+    }
 }
 
 /// Prints all rows of a member, whose control socket is a word not yet judged. Where its era is full it is asked again.
@@ -72,11 +87,11 @@ pub fn show_members<T: Threads>(
     let to = find_from(rt, threads, to, &now(rt)?)?;
     for _ in 0..AGAIN_MAX {
         if let Some(rows) = read_rows(rt, to)? {
-            return if as_json {
-                print_objects(rt, &rows)
-            } else {
-                print_table(rt, &rows, paint)
-            };
+            if as_json {
+                return print_objects(rt, &rows);
+            }
+            print_table(rt, &rows, paint)?;
+            return print_alone(rt, to);
         }
         thread::sleep(rt, Duration::from_millis(AGAIN_MILLIS));
     }
@@ -98,8 +113,8 @@ impl Display for NamedChange {
 /// How a member is watched.
 #[derive(Clone, Copy, Debug)]
 pub struct Watched<'a> {
-    /// Its control socket, a word not yet judged.
-    pub to: &'a str,
+    /// The control sockets of members that are asked in turn, until one answers.
+    pub to: Addresses<'a>,
     /// Whether each line is a JSON object.
     pub as_json: bool,
     /// Milliseconds from one comparison to the next.
@@ -156,13 +171,47 @@ impl Watched<'_> {
         Ok(())
     }
 
-    /// Asks the member for its rows: none where its era is full, or where it does not answer, which is told once.
-    fn rows_now<R: Net<Stream = TcpStream> + Clock + AllocGlobal + Print>(
+    /// Asks the members in turn for their rows, beginning with the one that answered last, until one answers.
+    fn read_any<R: Net<Stream = TcpStream> + Clock + AllocGlobal>(
+        &mut self,
+        rt: &R,
+    ) -> Result<Option<Rows>, Failure> {
+        for _ in 1..self.to.count() {
+            match rows_at(rt, self.to.word()) {
+                Err(failure) if is_silence(&failure) => self.to.step(),
+                read => return read,
+            }
+        }
+        rows_at(rt, self.to.word())
+    }
+
+    /// Tells people that another member is asked now.
+    fn tell_asked<R: Print + Clock + AllocGlobal>(
         &self,
+        rt: &R,
+        before: &str,
+    ) -> Result<(), Failure> {
+        if self.as_json || self.to.word() == before {
+            return Ok(());
+        }
+        let (asked, before) = (self.to.word(), before);
+        print_line(
+            rt,
+            &Timed::now(
+                rt,
+                format_args!("asks {asked} from now on: {before} does not answer"),
+            ),
+        )
+    }
+
+    /// Asks for rows: none where the era of the member is full, or where no member answers, which is told once.
+    fn rows_now<R: Net<Stream = TcpStream> + Clock + AllocGlobal + Print>(
+        &mut self,
         rt: &R,
         is_lost: &mut bool,
     ) -> Result<Option<Rows>, Failure> {
-        let read = rows_at(rt, self.to);
+        let before = self.to.word();
+        let read = self.read_any(rt);
         let answers = match &read {
             Ok(_) => true,
             Err(failure) => !is_silence(failure),
@@ -174,18 +223,22 @@ impl Watched<'_> {
             self.tell(rt, gap, GapJson(gap))?;
         }
         *is_lost = !answers;
-        if answers { read } else { Ok(None) }
+        if !answers {
+            return Ok(None);
+        }
+        self.tell_asked(rt, before)?;
+        read
     }
 }
 
-/// Prints what changes of a member's rows until the process is ended, or nobody reads it any more. The first comparison is with no rows. Where its era is full,
-/// or where it does not answer, there is no comparison, and the next one is with the rows that stood before.
+/// Prints what changes of a member's rows until the process is ended, or nobody reads it any more. Where it does not answer, the next
+/// one is asked. The first comparison is with no rows. Where the era is full, or where no member answers, there is no comparison, and
+/// the next one is with the rows that stood before.
 pub fn watch_members<R: Net<Stream = TcpStream> + Clock + AllocGlobal + Print, T: Wait>(
     rt: &R,
     wait: &T,
-    watched: &Watched<'_>,
+    mut watched: Watched<'_>,
 ) -> Result<(), Failure> {
-    judge(rt.alloc(), watched.to)?;
     let mut before = Rows::new();
     let mut is_lost = false;
     let mut output = Output::new(rt);

@@ -6,6 +6,7 @@ use crate::up_words::UpWords;
 use clap::builder::ValueParser;
 use clap::{Arg, ArgAction, ArgMatches, Command, Error};
 use std::alloc::{AllocError, Global};
+use swim_shell::VERSION;
 
 /// The greatest group number and ceiling among the words, 2^63 - 1.
 const NUMBER_LIMIT: u64 = 9_223_372_036_854_775_807;
@@ -43,7 +44,7 @@ pub enum Subcommand<'a> {
     Ctl {
         /// The control socket, if it is named, and the line.
         words: ControlWords<'a>,
-        /// Whether as JSON, which only the lines `status` and `counters` have.
+        /// Whether as JSON, which only the lines `status`, `about` and `counters` have.
         as_json: bool,
         /// Whether to wait for nothing but the answer, which only the line `stop` has.
         at_once: bool,
@@ -83,8 +84,8 @@ pub enum Subcommand<'a> {
     },
     /// What changes of the rows of a member.
     Watch {
-        /// The control socket, if it is named, not yet judged.
-        to: Option<&'a str>,
+        /// The control sockets that are named, not yet judged.
+        to: Vec<String>,
         /// Whether as JSON.
         as_json: bool,
         /// Milliseconds from one comparison to the next.
@@ -94,8 +95,8 @@ pub enum Subcommand<'a> {
     },
     /// A server that shows what a member says.
     Web {
-        /// The control socket, if it is named, not yet judged.
-        of: Option<&'a str>,
+        /// The control sockets that are named, not yet judged.
+        of: Vec<String>,
         /// Where it listens, not yet judged.
         listen: &'a str,
     },
@@ -110,8 +111,10 @@ pub enum Subcommand<'a> {
     Explain {
         /// The member's endpoint, not yet judged.
         member: &'a str,
-        /// The paths of the recordings.
-        files: &'a [String],
+        /// The paths of the recordings, or of folders of them.
+        places: &'a [String],
+        /// Whether all is printed, also what changes nothing.
+        all: bool,
         /// Whether as JSON.
         as_json: bool,
     },
@@ -191,6 +194,10 @@ fn init_command<'a>(alloc: Global) -> Result<Command<'a>, Error> {
 const ADDRESS: &str =
     "The member's control socket, e.g. 127.0.0.1:7001; without it SWIM_CONTROL, or else 127.0.0.1:7001";
 
+/// The same where several may be named.
+const ADDRESSES: &str =
+    "The member's control socket, e.g. 127.0.0.1:7001, and those of others to ask where it does not answer; without any SWIM_CONTROL, or else 127.0.0.1:7001";
+
 /// The control socket of a member.
 fn address<'a>(alloc: Global) -> Arg<'a> {
     word(alloc, "addr", "ADDR", ADDRESS).required(false)
@@ -223,23 +230,28 @@ fn show_command<'a>(alloc: Global) -> Result<Command<'a>, Error> {
     with_arg(command, json(alloc))
 }
 
-/// `swim explain --member A [--json] FILE..`.
+/// `swim explain --member A [--all] [--json] PLACE..`.
 fn explain_command<'a>(alloc: Global) -> Result<Command<'a>, Error> {
     let member = word(alloc, "member", "A", "The member that the story is of").long("member");
-    let files = word(
+    let places = word(
         alloc,
         "files",
-        "FILE",
-        "Recordings of one member, of at most 256 MiB each",
+        "PLACE",
+        "Recordings of at most 256 MiB each, or members' folders of them",
     )
     .num_args(1..)
     .trailing_var_arg(true);
+    let all = Arg::new(alloc, "all")
+        .long("all")
+        .help("Also what changes nothing")
+        .action(ArgAction::SetTrue);
     let command = Command::new(alloc, "explain")
-        .about("Prints when a member was heard of, suspected, confirmed, and why")
+        .about("Prints when a member was suspected, confirmed and refuted, and why")
         .after_help(examples::EXPLAIN);
     let command = with_arg(Ok(command), member);
+    let command = with_arg(command, all);
     let command = with_arg(command, json(alloc));
-    with_arg(command, files)
+    with_arg(command, places)
 }
 
 /// `swim status [ADDR] [--json]`.
@@ -287,7 +299,7 @@ fn members_command<'a>(alloc: Global) -> Result<Command<'a>, Error> {
     with_arg(command, json(alloc))
 }
 
-/// `swim watch [ADDR] [--json] [--every N] [--once]`.
+/// `swim watch [ADDR].. [--json] [--every N] [--once]`.
 fn watch_command<'a>(alloc: Global) -> Result<Command<'a>, Error> {
     let every = number(
         alloc,
@@ -299,21 +311,24 @@ fn watch_command<'a>(alloc: Global) -> Result<Command<'a>, Error> {
     let once = Arg::new(alloc, "once")
         .long("once")
         .action(ArgAction::SetTrue)
-        .help("Ends with status 1 where the member does not answer");
+        .help("Ends with status 1 where no member answers");
     let command = Command::new(alloc, "watch")
         .about(
             "Prints what changes of the members, a line a change, until it is stopped or nobody reads it",
         )
         .after_help(examples::WATCH);
-    let command = with_arg(Ok(command), address(alloc));
+    let addresses = word(alloc, "addr", "ADDR", ADDRESSES)
+        .required(false)
+        .num_args(0..);
+    let command = with_arg(Ok(command), addresses);
     let command = with_arg(command, json(alloc));
     let command = with_arg(command, every);
     with_arg(command, once)
 }
 
-/// `swim web [--of ADDR] [--listen ADDR]`.
+/// `swim web [--of ADDR].. [--listen ADDR]`.
 fn web_command<'a>(alloc: Global) -> Result<Command<'a>, Error> {
-    let of = option(alloc, "of", "ADDR", ADDRESS);
+    let of = option(alloc, "of", "ADDR", ADDRESSES).action(ArgAction::Append);
     let listen = option(
         alloc,
         "listen",
@@ -338,9 +353,11 @@ fn at_once<'a>(alloc: Global) -> Arg<'a> {
 /// `swim ctl [ADDR] LINE.. [--json] [--now]`.
 fn ctl_command<'a>(alloc: Global) -> Result<Command<'a>, Error> {
     let line =
-        "The control socket, if it is another one, and then status, members, members A, counters, join A, leave, record, reload or stop";
+        "The control socket, if it is another one, and then status, about, members, members A, counters, join A, leave, record, reload or stop";
     let line = word(alloc, "line", "LINE", line).num_args(1..);
-    let as_json = json(alloc).help("Prints the answer to status or counters as a JSON object");
+    let as_json = json(alloc).help(
+        "Prints the answer to status, about or counters as a JSON object",
+    );
     let command = Command::new(alloc, "ctl")
         .about("Sends a control line and prints the answer")
         .after_help(examples::CTL);
@@ -449,7 +466,7 @@ fn command<'a>(alloc: Global) -> Result<Command<'a>, Error> {
         )
         .after_help(examples::CHECK);
     let command = Command::new(alloc, "swim")
-        .version("0.1.0")
+        .version(VERSION)
         .about("A member of a SWIM group that survives its own restarts")
         .bin_name("swim")?
         .propagate_version(true)
@@ -497,18 +514,18 @@ fn init<'a>(words: &ArgMatches<'a>) -> Option<Subcommand<'a>> {
     })
 }
 
-/// Whom the words name to join.
-fn joins(alloc: Global, words: &ArgMatches<'_>) -> Result<Vec<String>, AllocError> {
-    let mut joins = Vec::new(alloc);
-    for word in words.get_strs("join").unwrap_or(&[]) {
-        joins.push(String::from_str(alloc, word)?)?;
+/// All words that stand for this.
+fn texts(alloc: Global, words: &ArgMatches<'_>, id: &str) -> Result<Vec<String>, AllocError> {
+    let mut texts = Vec::new(alloc);
+    for word in words.get_strs(id).unwrap_or(&[]) {
+        texts.push(String::from_str(alloc, word)?)?;
     }
-    Ok(joins)
+    Ok(texts)
 }
 
 /// What the words after `up` ask for.
 fn up<'a>(alloc: Global, words: &ArgMatches<'a>) -> Result<Subcommand<'a>, AllocError> {
-    let join = joins(alloc, words)?;
+    let join = texts(alloc, words, "join")?;
     Ok(Subcommand::Up(UpWords {
         me: text(words, "me"),
         join,
@@ -533,22 +550,34 @@ fn ctl<'a>(alloc: Global, words: &ArgMatches<'a>) -> Result<Option<Subcommand<'a
 }
 
 /// What the words after `watch` ask for.
-fn watch<'a>(words: &ArgMatches<'a>) -> Option<Subcommand<'a>> {
-    let every = words.get_one::<u64>("every")?;
-    Some(Subcommand::Watch {
-        to: words.get_str("addr"),
+fn watch<'a>(alloc: Global, words: &ArgMatches<'a>) -> Result<Option<Subcommand<'a>>, AllocError> {
+    let to = texts(alloc, words, "addr")?;
+    let Some(every) = words.get_one::<u64>("every") else {
+        return Ok(None);
+    };
+    Ok(Some(Subcommand::Watch {
+        to,
         as_json: words.get_flag("json"),
         every,
         once: words.get_flag("once"),
+    }))
+}
+
+/// What the words after `web` ask for.
+fn web<'a>(alloc: Global, words: &ArgMatches<'a>) -> Result<Subcommand<'a>, AllocError> {
+    Ok(Subcommand::Web {
+        of: texts(alloc, words, "of")?,
+        listen: text(words, "listen"),
     })
 }
 
 /// What the words after `explain` ask for, which are among all words.
 fn explain<'a>(words: &ArgMatches<'a>, all: &'a [String]) -> Option<Subcommand<'a>> {
-    let files = last_words(all, words)?;
+    let places = last_words(all, words)?;
     Some(Subcommand::Explain {
         member: text(words, "member"),
-        files,
+        places,
+        all: words.get_flag("all"),
         as_json: words.get_flag("json"),
     })
 }
@@ -595,11 +624,6 @@ fn chosen<'a>(matches: &ArgMatches<'a>, all: &'a [String]) -> Option<Subcommand<
             to: words.get_str("addr"),
             as_json: words.get_flag("json"),
         }),
-        "watch" => watch(words),
-        "web" => Some(Subcommand::Web {
-            of: words.get_str("of"),
-            listen: text(words, "listen"),
-        }),
         "show" => Some(Subcommand::Show {
             file: text(words, "file"),
             as_json: words.get_flag("json"),
@@ -621,6 +645,8 @@ fn asked<'a>(
     match matches.subcommand() {
         Some(("up", words)) => Ok(Some(up(alloc, words)?)),
         Some(("ctl", words)) => ctl(alloc, words),
+        Some(("watch", words)) => watch(alloc, words),
+        Some(("web", words)) => Ok(Some(web(alloc, words)?)),
         _ => Ok(chosen(matches, all)),
     }
 }

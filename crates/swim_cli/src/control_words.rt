@@ -11,7 +11,15 @@ fn begins_line(word: &str) -> bool
 {
     matches!(
         word,
-        "status" | "members" | "counters" | "join" | "leave" | "record" | "reload" | "stop"
+        "status"
+            | "about"
+            | "members"
+            | "counters"
+            | "join"
+            | "leave"
+            | "record"
+            | "reload"
+            | "stop"
     )
 }
 

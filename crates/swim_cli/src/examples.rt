@@ -22,7 +22,7 @@ Look:
 
 Explain:
   show      Prints what a state file says, and what `swim run` would do with it; it writes nothing
-  explain   Prints when a member was heard of, suspected, confirmed, and why
+  explain   Prints when a member was suspected, confirmed and refuted, and why
 
 Try:
   simulate  Simulates a group, and prints how soon it noticed who was killed
@@ -92,12 +92,14 @@ pub(crate) const MEMBERS: &str = "Examples:
 /// Examples of `swim watch`.
 pub(crate) const WATCH: &str = "Examples:
   swim watch 127.0.0.1:7001                     each change, until it is stopped
-  swim watch 127.0.0.1:7001 --json --every 500  for scripts, twice a second";
+  swim watch 127.0.0.1:7001 --json --every 500  for scripts, twice a second
+  swim watch 10.0.0.1:7001 10.0.0.2:7001        the second one while the first does not answer";
 
 /// Examples of `swim web`.
 pub(crate) const WEB: &str = "Examples:
   swim web --of 127.0.0.1:7001                          at http://127.0.0.1:7080
-  swim web --of 127.0.0.1:7001 --listen 127.0.0.1:8080  elsewhere";
+  swim web --of 127.0.0.1:7001 --listen 127.0.0.1:8080  elsewhere
+  swim web --of 10.0.0.1:7001 --of 10.0.0.2:7001        of the second one while the first does not answer";
 
 /// Examples of `swim show`.
 pub(crate) const SHOW: &str = "Examples:
@@ -106,7 +108,9 @@ pub(crate) const SHOW: &str = "Examples:
 
 /// Examples of `swim explain`.
 pub(crate) const EXPLAIN: &str = "Examples:
-  swim explain --member 10.0.0.2:7000 /var/lib/swim/recordings/*  why it was suspected";
+  swim explain --member 10.0.0.2:7000 /var/lib/swim/recordings  why it was suspected
+  swim explain --member 10.0.0.2:7000 member1 member3           what two members saw, by time
+  swim explain --member 10.0.0.2:7000 --all --json member1      all, as an object a line";
 
 /// Examples of `swim play`.
 pub(crate) const PLAY: &str = "Examples:

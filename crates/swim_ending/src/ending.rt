@@ -113,7 +113,7 @@ const SETTINGS: &str =
 
 /// What else to say where a file was refused.
 const FILE: &str =
-    "if a state file is lost, see \"A lost state file\" in OPERATIONS.md before any `swim init`";
+    "where another process has it, this member runs already: `swim status` asks it. If a state file is lost, see \"A lost state file\" in OPERATIONS.md before any `swim init`";
 
 /// What else to say where a file system takes no writes.
 const READ_ONLY: &str =

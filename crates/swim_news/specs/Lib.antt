@@ -1,2 +1,3 @@
 pub mod News
+pub mod States
 pub mod Machinery

@@ -3,11 +3,12 @@
 ghost use Rattle.std.specs.Prelude.{◌≡◌, ◌∷◌, [], IfSome, IfNone};
 ghost use Rattle.swim_news.specs.News.{Turns, new_of, old_of, who_of};
 
+use crate::state::state_name;
 use std::fmt;
 use swim_wire::{Endpoint, Update};
 
 /// What became of a member's row from one list of rows to a later one. It prints as
-/// `member 10.0.0.2:7000 alive 3, was suspect 2`, with `unknown` where there is no row.
+/// `member 10.0.0.2:7000 alive 3, was suspect 2`: the state, the number, and `unknown` where there is no row.
 #[derive(Clone, Copy, Debug, PartialEq, Eq)]
 pub enum Change {
     /// The member had no row.
@@ -79,9 +80,9 @@ impl fmt::Display for Said {
     fn fmt<W: fmt::Write>(&self, f: &mut fmt::Formatter<W>) -> fmt::Result {
         match self.0 {
             Some(row) => {
-                let kind = row.kind.name();
+                let state = state_name(row.kind);
                 let number = row.number;
-                write!(f, "{kind} {number}")
+                write!(f, "{state} {number}")
             }
             None => write!(f, "unknown"),
         }

@@ -6,8 +6,10 @@ mod change;
 mod comparing;
 mod json;
 mod rows;
+mod state;
 
 pub use change::Change;
 pub use comparing::{CHANGES_MAX, Changes, compare};
 pub use json::{ChangeJson, RowJson};
 pub use rows::{PAGES_MAX, Rows};
+pub use state::state_name;

@@ -8,7 +8,11 @@ use Rattle.swim_wire.specs.declared.update.UpdateKind.{UpdateKind}
 use Rattle.swim_wire.specs.declared.update.UpdateKind.TheVariants.{Alive, Suspect, Confirm}
 use Rattle.swim_pages.specs.Answers.{answer_for, answer_with, code_head}
 use Rattle.swim_shell.specs.Counters.{counter_at}
-use Rattle.swim_pages.specs.Metrics.{count_kind, counter_metric, told_text, gauge, gauge_head, kind_sample, member_text, note_sample, sample_of, total}
+use Rattle.swim_pages.specs.Gauges.{gauge, gauge_head, sample_of}
+use Rattle.swim_pages.specs.Members.{about_told, since_text, state_sample}
+use Rattle.swim_pages.specs.Metrics.{count_kind, counter_metric, told_text, kind_sample, member_text, note_sample, total}
+use Rattle.swim_pages.specs.declared.seen.Seen.{Seen}
+use Rattle.swim_wire.specs.Text.{endpoint_text}
 use Rattle.swim_pages.specs.Requests.{IsMethod, IsPath, path_in}
 use Rattle.swim_pages.specs.declared.answer.Code.TheVariants as code
 use Rattle.swim_pages.specs.declared.answer.Content.TheVariants as content
@@ -87,9 +91,9 @@ unfolding kind_sample sample_of
 suspects = refl
 
 -- of a member that does not answer nothing is told but that
-silent : member_text None rows None ≡ codes "# HELP swim_up Whether the member answers.\n# TYPE swim_up gauge\nswim_up " ++ (decimal 0 ++ codes "\n")
+silent : (seen : Seen) → member_text None seen ≡ codes "# HELP swim_up Whether the member answers.\n# TYPE swim_up gauge\nswim_up " ++ (decimal 0 ++ codes "\n")
 unfolding gauge gauge_head
-silent = refl
+silent seen = refl
 
 -- a counter under its name, and one of notes
 entries : counter_metric (counter_at 4) 9 ≡ codes "# HELP swim_entries_total Answered calls of the member, each one entry.\n# TYPE swim_entries_total counter\nswim_entries_total " ++ (decimal 9 ++ codes "\n")
@@ -103,3 +107,12 @@ leaps = refl
 -- a member that knows no such line has no counters
 untold : told_text None ≡ []
 untold = refl
+
+-- nor does it say who it is, or since when it runs
+unsaid : about_told None ++ since_text None ≡ []
+unsaid = refl
+
+-- the state of one member
+of_one : state_sample (row Suspect) ≡ codes "swim_member_state{member=\"" ++ (endpoint_text 0x0A0000021B58 ++ codes "\",state=\"suspect\"} 1\n")
+unfolding state_sample
+of_one = refl

@@ -1,4 +1,5 @@
 mod Examples
 pub mod Paths
+pub mod Samples
 pub mod Texts
 pub mod Slashes

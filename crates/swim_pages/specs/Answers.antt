@@ -19,6 +19,7 @@ use Rattle.swim_pages.specs.declared.request.Reading.{Reading}
 use Rattle.swim_pages.specs.declared.request.Reading.TheVariants.{More, Asked, Bad, TooLong}
 use Rattle.swim_pages.specs.declared.request.Request.{Request}
 use Rattle.swim_pages.specs.declared.seen.Seen.{Seen}
+use Rattle.swim_shell.specs.declared.about.About.{About}
 use Rattle.swim_pages.specs.Metrics.{metrics_text}
 
 -- the phase of a member that answers
@@ -67,10 +68,22 @@ answer_for TooLong _ = answer_with code.TooLong content.Code
 answer_for Bad _ = answer_with code.Bad content.Code
 answer_for More _ = answer_with code.Bad content.Code
 
--- what a body says in words: the phase, or that the member does not answer
-abbrev pub phase_line : Option Phase → List ℕ
-phase_line None = codes "not answering\n"
-phase_line (Some phase) = phase_word phase ++ codes "\n"
+-- a member that answers tells that it is alone
+abbrev pub is_alone_in : Option Status → Option About → Bool
+is_alone_in (Some s) (Some about) = about.is_alone
+is_alone_in _ _ = false
+
+abbrev pub alone_words : Bool → List ℕ
+alone_words true = codes ", alone"
+alone_words false = []
+
+-- what a body says in words: the phase and whether the member is alone, or that it does not answer
+abbrev pub phase_line : Option Phase → Bool → List ℕ
+phase_line None alone = codes "not answering\n"
+phase_line (Some phase) alone = phase_word phase ++ (alone_words alone ++ codes "\n")
+
+abbrev pub health_line : Seen → List ℕ
+health_line seen = phase_line (phase_in seen.status) (is_alone_in seen.status seen.about)
 
 -- the type of a body
 abbrev pub content_type : Content → List ℕ
@@ -112,10 +125,9 @@ http_head a size = code_head a.code ++ type_text a.content ++ size_text size ++ 
 -- what the body of an answer says: of a page and of the rows nothing is said here
 abbrev pub IsContent : Content → Code → Seen → List ℕ → Type 0
 IsContent content.Page _ seen body = Unit {0}
-IsContent content.Metrics _ seen body =
-    body ≡ metrics_text seen.status seen.rows seen.counters seen.quiet
+IsContent content.Metrics _ seen body = body ≡ metrics_text seen
 IsContent content.Members _ seen body = Unit {0}
-IsContent content.Phase _ seen body = body ≡ phase_line (phase_in seen.status)
+IsContent content.Phase _ seen body = body ≡ health_line seen
 IsContent content.Code code seen body = body ≡ code_line code ++ codes "\n"
 
 abbrev pub IsBody : Answer → Seen → List ℕ → Type 0

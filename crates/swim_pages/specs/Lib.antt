@@ -1,3 +1,5 @@
 pub mod Answers
+pub mod Gauges
+pub mod Members
 pub mod Metrics
 pub mod Requests

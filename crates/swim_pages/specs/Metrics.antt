@@ -17,6 +17,9 @@ use Rattle.swim_wire.specs.Text.{kind_word}
 use Rattle.swim_wire.specs.declared.update.Update.{Update}
 use Rattle.swim_wire.specs.declared.update.UpdateKind.{UpdateKind}
 use Rattle.swim_wire.specs.declared.update.UpdateKind.TheVariants.{Alive, Suspect, Confirm}
+use Rattle.swim_pages.specs.declared.seen.Seen.{Seen}
+use Rattle.swim_pages.specs.Gauges.{gauge, gauge_head, sample_of}
+use Rattle.swim_pages.specs.Members.{about_told, since_text, states_text}
 
 -- both are the same kind
 abbrev pub is_same : UpdateKind → UpdateKind → Bool
@@ -39,26 +42,6 @@ phase_flag Running Running = 1
 phase_flag Left Left = 1
 phase_flag Expelled Expelled = 1
 phase_flag _ _ = 0
-
--- what stands before the numbers of a metric: its name, and what it is
-unfoldable pub gauge_head : List ℕ → List ℕ → List ℕ
-gauge_head name help =
-    codes "# HELP " ++ (name ++ (codes " " ++ (help ++ (codes "\n# TYPE " ++ (name
-    ++ codes " gauge\n")))))
-
--- a number of it
-abbrev pub sample : List ℕ → ℕ → List ℕ
-sample name n = name ++ (codes " " ++ (decimal n ++ codes "\n"))
-
--- a number of it that is of one of several things
-unfoldable pub sample_of : List ℕ → List ℕ → List ℕ → ℕ → List ℕ
-sample_of name label word n =
-    name ++ (codes "{" ++ (label ++ (codes "=\"" ++ (word ++ (codes "\"} " ++ (decimal n
-    ++ codes "\n"))))))
-
--- a metric with one number
-unfoldable pub gauge : List ℕ → List ℕ → ℕ → List ℕ
-gauge name help n = gauge_head name help ++ sample name n
 
 -- whether the member answers
 abbrev pub up_text : ℕ → List ℕ
@@ -160,11 +143,18 @@ answering_text s rows =
     up_text 1 ++ (kinds_text rows ++ (phases_text s.phase ++ (number_text s.number
     ++ entries_text s.length)))
 
+-- what is said of a member that answered beside its status: the state of each member, what it has
+-- done, who it is, and since when it runs
+abbrev pub beside_text : Seen → List ℕ
+beside_text seen =
+    states_text seen.rows ++ (told_text seen.counters ++ (about_told seen.about
+    ++ since_text seen.since))
+
 -- what is said of a member, whether it answered or not
-abbrev pub member_text : Option Status → List Update → Option Counters → List ℕ
-member_text None rows counters = up_text 0
-member_text (Some s) rows counters = answering_text s rows ++ told_text counters
+abbrev pub member_text : Option Status → Seen → List ℕ
+member_text None seen = up_text 0
+member_text (Some s) seen = answering_text s seen.rows ++ beside_text seen
 
 -- all its numbers
-abbrev pub metrics_text : Option Status → List Update → Option Counters → ℕ → List ℕ
-metrics_text status rows counters quiet = member_text status rows counters ++ quiet_text quiet
+abbrev pub metrics_text : Seen → List ℕ
+metrics_text seen = member_text seen.status seen ++ quiet_text seen.quiet

@@ -4,7 +4,7 @@ ghost use Rattle.std.specs.Prelude.{◌≡◌, ◌++◌, OnOk};
 ghost use Rattle.swim_shell.specs.Counters.{lines_from};
 ghost use Rattle.swim_pages.specs.Metrics.{counter_help, counter_metric, told_text, done_text, note_sample, notes_head, total};
 
-use crate::metrics::write_of;
+use crate::gauges::write_of;
 use std::alloc::AllocError;
 use std::fmt::Write;
 use swim_shell::{Counter, Counters, NOTES_FROM};

@@ -4,11 +4,13 @@
 
 mod answer;
 mod counted;
+mod gauges;
 mod members;
 mod metrics;
 mod page;
 mod picture;
 mod request;
+mod rows;
 mod seen;
 mod writing;
 

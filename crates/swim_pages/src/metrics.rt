@@ -1,17 +1,16 @@
 //! The numbers of a member, as Prometheus reads them.
 
 ghost use Rattle.std.specs.Prelude.{◌≡◌, ◌++◌, OnOk};
-ghost use Rattle.swim_pages.specs.Metrics.{told_text};
-ghost use Rattle.swim_pages.specs.Metrics.{count_kind, entries_text, gauge, gauge_head, has_kind, kind_sample, kinds_text, member_text, metrics_text, number_text, phase_flag, phase_sample, phases_text, quiet_text, sample_of, answering_text, up_text};
+ghost use Rattle.swim_pages.specs.Metrics.{answering_text, beside_text, count_kind, entries_text, has_kind, kind_sample, kinds_text, member_text, metrics_text, number_text, phase_flag, phase_sample, phases_text, quiet_text, up_text};
 
 use crate::counted::write_counters;
+use crate::gauges::{write_gauge, write_head, write_of};
+use crate::members::{write_about, write_since, write_states};
 use crate::seen::Seen;
 use std::alloc::AllocError;
-use std::fmt::Write;
 use swim_member::Phase;
 use swim_news::Rows;
 use swim_node::Status;
-use swim_shell::Counters;
 use swim_wire::{Update, UpdateKind};
 
 /// The metrics of members by state, and of the phase.
@@ -38,40 +37,6 @@ fn phase_flag(is: Phase, phase: Phase) -> u64
     ensures { result ≡ phase_flag is phase }
 {
     u64::from(is == phase)
-}
-
-/// Adds what stands before the numbers of a metric.
-#[tactic(auto, unfolding(crate::specs::Metrics::gauge_head))]
-fn write_head(text: &mut String, name: &str, help: &str) -> Result<(), AllocError>
-    ensures { OnOk result (text.new.bytes.items
-        ≡ text.old.bytes.items ++ gauge_head name.now help.now) }
-{
-    write!(text, "# HELP {name} {help}\n# TYPE {name} gauge\n")
-}
-
-/// Adds a number of a metric that is of one of several things.
-#[tactic(auto, unfolding(crate::specs::Metrics::sample_of))]
-pub(crate) fn write_of(
-    text: &mut String,
-    name: &str,
-    label: &str,
-    word: &str,
-    number: u64,
-) -> Result<(), AllocError>
-    ensures { OnOk result (text.new.bytes.items
-        ≡ text.old.bytes.items ++ sample_of name.now label.now word.now number) }
-{
-    write!(text, "{name}{{{label}=\"{word}\"}} {number}\n")
-}
-
-/// Adds a metric with one number.
-#[tactic(auto, unfolding(crate::specs::Metrics::gauge))]
-fn write_gauge(text: &mut String, name: &str, help: &str, number: u64) -> Result<(), AllocError>
-    ensures { OnOk result (text.new.bytes.items
-        ≡ text.old.bytes.items ++ gauge name.now help.now number) }
-{
-    write_head(text, name, help)?;
-    write!(text, "{name} {number}\n")
 }
 
 /// Adds whether the member answers.
@@ -158,42 +123,44 @@ fn write_status(text: &mut String, status: &Status, rows: &Rows) -> Result<(), A
     write_entries(text, status.length as u64)
 }
 
-/// Adds what is said of a member that answered, and that may have told what it did.
-fn write_answering(
-    text: &mut String,
-    status: &Status,
-    rows: &Rows,
-    counters: &Option<Counters>,
-) -> Result<(), AllocError>
-    ensures { OnOk result (text.new.bytes.items ≡ text.old.bytes.items
-        ++ (answering_text status.now rows.now ++ told_text counters.now)) }
+/// Adds what is said of a member that answered beside its status.
+fn write_beside(text: &mut String, seen: &Seen) -> Result<(), AllocError>
+    ensures { OnOk result (text.new.bytes.items
+        ≡ text.old.bytes.items ++ beside_text seen.now) }
 {
-    write_status(text, status, rows)?;
-    write_counters(text, counters)
+    write_states(text, seen.rows.as_slice())?;
+    write_counters(text, &seen.counters)?;
+    write_about(text, &seen.about)?;
+    write_since(text, seen.since)
+}
+
+/// Adds what is said of a member that answered so.
+fn write_answering(text: &mut String, status: &Status, seen: &Seen) -> Result<(), AllocError>
+    ensures { OnOk result (text.new.bytes.items ≡ text.old.bytes.items
+        ++ (answering_text status.now seen.now.rows ++ beside_text seen.now)) }
+{
+    write_status(text, status, &seen.rows)?;
+    write_beside(text, seen)
 }
 
 /// Adds what is said of a member, whether it answered or not.
-fn write_member(
-    text: &mut String,
-    status: &Option<Status>,
-    rows: &Rows,
-    counters: &Option<Counters>,
-) -> Result<(), AllocError>
+fn write_member(text: &mut String, seen: &Seen) -> Result<(), AllocError>
     ensures { OnOk result (text.new.bytes.items
-        ≡ text.old.bytes.items ++ member_text status.now rows.now counters.now) }
+        ≡ text.old.bytes.items ++ member_text seen.now.status seen.now) }
 {
-    match status {
-        Some(status) => write_answering(text, status, rows, counters),
+    match &seen.status {
+        Some(status) => write_answering(text, status, seen),
         None => write_up(text, 0),
     }
 }
 
 /// Adds the numbers of a member, as Prometheus reads them: whether it answers, and for how long nothing changed; and where it
-/// answers, its rows by state, its phase, its own number, how long its era is, and what it has done, if it tells that.
+/// answers, its rows by state and each by its member, its phase, its own number, how long its era is, what it has done, who it is,
+/// whether it is alone, and since when it runs, as far as it tells that.
 pub fn write_metrics(text: &mut String, seen: &Seen) -> Result<(), AllocError>
-    ensures { OnOk result (text.new.bytes.items ≡ text.old.bytes.items
-        ++ metrics_text seen.now.status seen.now.rows seen.now.counters seen.now.quiet) }
+    ensures { OnOk result (text.new.bytes.items
+        ≡ text.old.bytes.items ++ metrics_text seen.now) }
 {
-    write_member(text, &seen.status, &seen.rows, &seen.counters)?;
+    write_member(text, seen)?;
     write_quiet(text, seen.quiet)
 }

@@ -1,22 +1,28 @@
 //! The group as a page, whole without scripts. With them it follows what changes.
 
+use crate::metrics::count_kind;
 use crate::picture::write_picture;
 use crate::seen::Seen;
 use std::alloc::AllocError;
 use std::fmt::Write;
-use swim_wire::Update;
+use swim_news::state_name;
+use swim_shell::{About, Alone};
+use swim_wire::{Update, UpdateKind};
 
-/// What stands before the body. Without scripts a browser loads the page anew each five seconds.
+/// What stands before the title.
 const HEAD: &str = r#"<!DOCTYPE html>
 <html lang="en">
 <head>
 <meta charset="utf-8">
 <meta name="viewport" content="width=device-width, initial-scale=1">
-<title>SWIM group</title>
+<title>"#;
+
+/// What stands between the title and the body. Without scripts a browser loads the page anew each five seconds.
+const STYLE: &str = r#"</title>
 <noscript><meta http-equiv="refresh" content="5"></noscript>
 <style>
-:root { color-scheme: light dark; --text: #1f2328; --ground: #ffffff; --line: #d1d9e0; --alive: #1a7f37; --suspect: #8a5a00; --confirm: #b3202b; }
-@media (prefers-color-scheme: dark) { :root { --text: #e6edf3; --ground: #0d1117; --line: #3d444d; --alive: #4ac26b; --suspect: #e3a72f; --confirm: #ff8078; } }
+:root { color-scheme: light dark; --text: #1f2328; --ground: #ffffff; --line: #d1d9e0; --alive: #1a7f37; --suspect: #8a5a00; --failed: #b3202b; }
+@media (prefers-color-scheme: dark) { :root { --text: #e6edf3; --ground: #0d1117; --line: #3d444d; --alive: #4ac26b; --suspect: #e3a72f; --failed: #ff8078; } }
 body { margin: 0 auto; max-width: 62rem; padding: 1rem; font: 1rem/1.5 system-ui, sans-serif; color: var(--text); background: var(--ground); }
 h1 { margin: 0; font-size: 1.5rem; }
 p { margin: .25rem 0 1rem; }
@@ -29,23 +35,23 @@ svg .letter { font-size: 14px; font-weight: 700; text-anchor: middle; fill: var(
 .ring { fill: none; stroke: var(--line); stroke-width: 2; }
 circle.alive { fill: var(--alive); }
 circle.suspect { fill: var(--suspect); }
-circle.confirm { fill: var(--confirm); }
+circle.failed { fill: var(--failed); }
 figcaption { text-align: center; }
 table { flex: 1 1 18rem; border-collapse: collapse; }
 caption { text-align: left; font-weight: 700; }
 th, td { padding: .25rem .5rem; border-bottom: 1px solid var(--line); text-align: left; }
 td { font-variant-numeric: tabular-nums; }
 .number { text-align: right; }
-.lost, #lost { font-weight: 700; color: var(--confirm); }
+.lost, #lost { font-weight: 700; color: var(--failed); }
+.old { filter: grayscale(1); opacity: .6; }
 span.alive, td.alive { color: var(--alive); font-weight: 600; }
 span.suspect, td.suspect { color: var(--suspect); font-weight: 600; }
-span.confirm, td.confirm { color: var(--confirm); font-weight: 600; }
+span.failed, td.failed { color: var(--failed); font-weight: 600; }
 </style>
 </head>
 <body>
 <main>
-<h1>SWIM group</h1>
-"#;
+<h1>"#;
 
 /// What stands behind what is seen. Each two seconds the script asks for the rows, and where they are others, and else each ten
 /// seconds, it takes what is seen from the page anew.
@@ -68,12 +74,14 @@ async function follow() {
     if (now !== last || turn % 5 === 0) {
       const page = new DOMParser().parseFromString((await read("/")).slice(3), "text/html");
       document.querySelector("main").replaceWith(page.querySelector("main"));
+      document.title = page.title;
       last = now;
     }
     lost.textContent = "";
   } catch (error) {
     last = null;
     lost.textContent = "This page's server does not answer. What stands here is old.";
+    document.querySelector(".views").classList.add("old");
   }
   setTimeout(follow, 2000);
 }
@@ -82,6 +90,42 @@ follow();
 </body>
 </html>
 "#;
+
+/// Adds what the page is about: the member, if it told who it is, and how many are alive of those that it knows.
+fn write_title(text: &mut String, seen: &Seen) -> Result<(), AllocError> {
+    match &seen.about {
+        Some(about) => {
+            let me = about.who.me;
+            write!(text, "{me}: ")?;
+        }
+        None => text.push_str("SWIM: ")?,
+    }
+    if seen.status.is_none() {
+        return text.push_str("no answer");
+    }
+    let rows = seen.rows.as_slice();
+    let (alive, all) = (count_kind(UpdateKind::Alive, rows), rows.len());
+    write!(text, "{alive} of {all} alive")
+}
+
+/// Adds that the member is alone, where it is.
+fn write_alone(text: &mut String, about: &About) -> Result<(), AllocError> {
+    if !about.is_alone {
+        return Ok(());
+    }
+    let alone = Alone(about.who);
+    write!(text, "<p class=\"lost\">{alone}</p>\n")
+}
+
+/// Adds who the member is, where it told that, and that it is alone, where it is.
+fn write_about(text: &mut String, about: &Option<About>) -> Result<(), AllocError> {
+    let Some(about) = about else {
+        return Ok(());
+    };
+    let who = about.who;
+    write!(text, "<p>{who}.</p>\n")?;
+    write_alone(text, about)
+}
 
 /// Adds what the member says of itself, or that it does not answer.
 fn write_state(text: &mut String, seen: &Seen) -> Result<(), AllocError> {
@@ -92,41 +136,65 @@ fn write_state(text: &mut String, seen: &Seen) -> Result<(), AllocError> {
             "<p class=\"lost\">The member does not answer, since {quiet} s. What stands here is what it said last.</p>\n"
         );
     };
-    let phase = status.phase.name();
-    let (number, length) = (status.number, status.length);
+    let (phase, number) = (status.phase.name(), status.number);
     write!(
         text,
-        "<p>The member that is asked is <strong>{phase}</strong>, with number {number}. Its era has {length} entries. Last change: {quiet} s ago.</p>\n"
-    )
+        "<p>It is <strong>{phase}</strong>, with incarnation {number}. Last change: {quiet} s ago.</p>\n"
+    )?;
+    write_about(text, &seen.about)
 }
 
 /// Adds the row of a member.
 fn write_row(text: &mut String, row: &Update) -> Result<(), AllocError> {
-    let (who, kind, number) = (row.who, row.kind.name(), row.number);
+    let (who, state, number) = (row.who, state_name(row.kind), row.number);
     write!(
         text,
-        "<tr><td>{who}</td><td class=\"{kind}\">{kind}</td><td class=\"number\">{number}</td></tr>\n"
+        "<tr><td>{who}</td><td class=\"{state}\">{state}</td><td class=\"number\">{number}</td></tr>\n"
     )
 }
 
-/// Adds the table of all members.
+/// Adds the rows of this kind.
+fn write_rows(text: &mut String, kind: UpdateKind, rows: &[Update]) -> Result<(), AllocError> {
+    for row in rows {
+        if row.kind == kind {
+            write_row(text, row)?;
+        }
+    }
+    Ok(())
+}
+
+/// Adds the table of all members, those that failed first, and then those that are suspected.
 fn write_table(text: &mut String, rows: &[Update]) -> Result<(), AllocError> {
     text.push_str(
-        "<table>\n<caption>Members</caption>\n<thead><tr><th scope=\"col\">Member</th><th scope=\"col\">State</th><th scope=\"col\" class=\"number\">Number</th></tr></thead>\n<tbody>\n",
+        "<table>\n<caption>Members</caption>\n<thead><tr><th scope=\"col\">Member</th><th scope=\"col\">State</th><th scope=\"col\" class=\"number\">Incarnation</th></tr></thead>\n<tbody>\n",
     )?;
-    for row in rows {
-        write_row(text, row)?;
-    }
+    write_rows(text, UpdateKind::Confirm, rows)?;
+    write_rows(text, UpdateKind::Suspect, rows)?;
+    write_rows(text, UpdateKind::Alive, rows)?;
     text.push_str("</tbody>\n</table>\n")
+}
+
+/// Adds the picture and the table, grey where the member does not answer.
+fn write_views(text: &mut String, seen: &Seen) -> Result<(), AllocError> {
+    let class = if seen.status.is_some() {
+        "views"
+    } else {
+        "views old"
+    };
+    write!(text, "<div class=\"{class}\">\n")?;
+    let rows = seen.rows.as_slice();
+    write_picture(text, rows)?;
+    write_table(text, rows)
 }
 
 /// Adds the whole page.
 pub(crate) fn write_page(text: &mut String, seen: &Seen) -> Result<(), AllocError> {
     text.push_str(HEAD)?;
+    write_title(text, seen)?;
+    text.push_str(STYLE)?;
+    write_title(text, seen)?;
+    text.push_str("</h1>\n")?;
     write_state(text, seen)?;
-    text.push_str("<div class=\"views\">\n")?;
-    let rows = seen.rows.as_slice();
-    write_picture(text, rows)?;
-    write_table(text, rows)?;
+    write_views(text, seen)?;
     text.push_str(TAIL)
 }

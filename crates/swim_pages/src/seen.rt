@@ -1,12 +1,12 @@
 //! What was read of a member.
 
 ghost use Rattle.std.specs.Prelude.{◌≡◌};
-ghost use Rattle.swim_pages.specs.Answers.{phase_in};
+ghost use Rattle.swim_pages.specs.Answers.{is_alone_in, phase_in};
 
 use swim_member::Phase;
 use swim_news::Rows;
 use swim_node::Status;
-use swim_shell::Counters;
+use swim_shell::{About, Counters};
 
 /// What was read of a member over its control socket.
 #[derive(Drop)]
@@ -17,6 +17,10 @@ pub struct Seen {
     pub rows: Rows,
     /// What it has done since it began; none where it does not tell.
     pub counters: Option<Counters>,
+    /// Who it is; none where it does not tell. It stays where the member does not answer any more.
+    pub about: Option<About>,
+    /// Since when it runs, in seconds since 1970; none where it does not tell, or where the clock fails.
+    pub since: Option<u64>,
     /// For how many whole seconds nothing of it changed.
     pub quiet: u64,
 }
@@ -29,6 +33,16 @@ impl Seen {
         match self.status {
             Some(status) => Some(status.phase),
             None => None,
+        }
+    }
+
+    /// Whether it answers, and tells that it is alone.
+    pub(crate) fn is_alone(&self) -> bool
+        ensures { result ≡ is_alone_in self.now.status self.now.about }
+    {
+        match (&self.status, &self.about) {
+            (Some(_), Some(about)) => about.is_alone,
+            _ => false,
         }
     }
 }

@@ -1,13 +1,13 @@
 //! An answer as it is sent.
 
 ghost use Rattle.std.specs.Prelude.{◌≡◌, ◌++◌, ◌∷◌, [], OnOk, IfOk};
-ghost use Rattle.swim_pages.specs.Answers.{IsBody, IsResponse, allow_text, code_line, content_type, http_head, code_head, phase_in, phase_line, safety_text, size_text, type_text, wants_head};
+ghost use Rattle.swim_pages.specs.Answers.{IsBody, IsResponse, allow_text, alone_words, health_line, code_line, content_type, http_head, code_head, phase_in, safety_text, size_text, type_text, wants_head};
 
 use crate::answer::{Answer, Code, Content, answer_for};
-use crate::members::write_members;
 use crate::metrics::write_metrics;
 use crate::page::write_page;
 use crate::request::{Method, Reading, Request};
+use crate::rows::write_members;
 use crate::seen::Seen;
 use std::alloc::{AllocError, Global};
 use std::fmt::Write;
@@ -84,15 +84,22 @@ fn write_head(text: &mut String, answer: Answer, size: usize) -> Result<(), Allo
     write_safety(text)
 }
 
-/// Adds the phase, or that the member does not answer.
+/// What stands behind the phase.
+fn alone_words(is_alone: bool) -> &'static str
+    ensures { result.now ≡ alone_words is_alone }
+{
+    if is_alone { ", alone" } else { "" }
+}
+
+/// Adds the phase and whether the member is alone, or that it does not answer.
 fn write_phase(text: &mut String, seen: &Seen) -> Result<(), AllocError>
     ensures { OnOk result (text.new.bytes.items
-        ≡ text.old.bytes.items ++ phase_line (phase_in seen.now.status)) }
+        ≡ text.old.bytes.items ++ health_line seen.now) }
 {
     match seen.phase() {
         Some(phase) => {
-            let phase = phase.name();
-            writeln!(text, "{phase}")
+            let (phase, alone) = (phase.name(), alone_words(seen.is_alone()));
+            writeln!(text, "{phase}{alone}")
         }
         None => text.push_str("not answering\n"),
     }

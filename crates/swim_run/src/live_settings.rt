@@ -104,7 +104,13 @@ impl<'a, T: Threads + Wait + Log + Clock + Copy> LiveSettings<'a, T> {
     ) -> LiveSettings<'a, T>
         requires { AreInRange told }
     {
-        let scribe = Scribe::new(around.logged, around.rt, told.folder(), told.record_eras);
+        let scribe = Scribe::new(
+            around.logged,
+            around.rt,
+            told.folder(),
+            told.record_eras,
+            told.tick_ms,
+        );
         LiveSettings {
             around,
             told,

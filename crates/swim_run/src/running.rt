@@ -11,10 +11,10 @@ use crate::live_settings::{LiveSettings, log_from};
 use crate::member_chores::MemberChores;
 use crate::reading::settings_at;
 use crate::settings_reading::SettingsReading;
-use crate::sockets::{Sockets, waits};
+use crate::sockets::{bind, waits};
 use crate::state_file::{StateFile, open_node};
 use crate::surroundings::{HandedOver, Surroundings};
-use log::{LevelFilter, Log, info};
+use log::{LevelFilter, Log, info, warn};
 use std::alloc::Global;
 use std::fs::File;
 use std::io;
@@ -25,6 +25,7 @@ use std::time::{Clock, Duration};
 use swim_ending::{Ending, Failure};
 use swim_log::LogLevel;
 use swim_member::Settings;
+use swim_net::Sockets;
 use swim_serve::{DoorsAndChores, Outside, Setup, run_kept};
 use swim_settings::{RunSettings, show_settings};
 use swim_start::key_of;
@@ -89,6 +90,13 @@ fn tell_up<T: Log>(logged: &T, level: &LogLevel, told: &RunSettings, number: u64
     log_from(level, told.log);
 }
 
+/// Says that the settings file does not say by which rules its group lives, if it does not.
+fn tell_rules<T: Log>(logged: &T, config: &str, told: &RunSettings) {
+    if !told.has_rules {
+        warn!(logged; "{config} has no `rules`, so this member has rules 1: a new group takes `rules = 2` in the file of each member, and one that runs changes all at once; `rules = 1` ends this line (SETTINGS.md, \"From rules 1 to rules 2\")");
+    }
+}
+
 /// What a start has taken hold of: the key of its generators, its state file, and its sockets.
 #[derive(Drop)]
 struct Start<'a, T: Clock> {
@@ -120,6 +128,7 @@ fn live<'a, T: Threads + Wait + Log + Clock + Send + Sync + Copy + Drop>(
     };
     let number = node.first();
     tell_up(logged, around.level, &told, number);
+    tell_rules(logged, config, &told);
     let tick = Duration::from_millis(told.tick_ms);
     let expelled_ends = expelled_wait(&told);
     let mut host = LiveSettings::new(around, told, handed);
@@ -164,7 +173,7 @@ pub fn run<T: Threads + Wait + Log + Clock + Send + Sync + Copy + Drop>(
     let key = drawn.map_err(|error: io::Error| undrawn(alloc, &error))?;
     let (waits, connections) = waits(rt, rt.alloc())?;
     // The control socket stays open until all else is closed: who finds it closed may start the next life at once.
-    let (sockets, _control) = Sockets::bind(rt, logged, &waits, connections, &told)?;
+    let (sockets, _control) = bind(rt, logged, &waits, connections, &told)?;
     let handed = HandedOver {
         listing: Mutex::new(Listing::new(told.join.as_slice())),
         reread: Mutex::new(None),

@@ -1,7 +1,9 @@
+pub mod Companies
 pub mod Desks
 pub mod EraCounts
 pub mod Eras
 pub mod Faults
+pub mod Identities
 pub mod Members
 pub mod Notes
 pub mod Numbers

@@ -1,9 +1,16 @@
 //! What the workers of an era show of what they count, for the one that answers control lines.
 
+ghost use Rattle.std.specs.Prelude.{◌≡◌};
+ghost use Rattle.swim_serve.specs.Identities.{Tells};
+
 use crate::crew::Crew;
+use crate::identity::Identity;
 use crate::logs::Logs;
 use std::sync::atomic::{AtomicU64, Ordering};
-use swim_shell::{CALL_COUNTS, COUNTERS, Counters, Counts, ERA_COUNTS, NOTE_KINDS, NOTES_FROM};
+use std::time::Clock;
+use swim_shell::{
+    CALL_COUNTS, COUNTERS, Counters, Counts, ERA_COUNTS, NOTE_KINDS, NOTES_FROM, Who,
+};
 
 /// What one worker shows. It alone writes here, and nobody waits for another.
 #[derive(Drop)]
@@ -58,14 +65,22 @@ impl Row {
 pub struct Board {
     /// What became of the eras before.
     eras: [u64; ERA_COUNTS],
+    /// Who the member is.
+    identity: Identity,
+    /// How many others it has to join.
+    listed: usize,
     pub(crate) rows: Crew<Row, Row, Row, Row>,
 }
 
 impl Board {
-    /// Of an era that begins, after those in which this was counted.
-    pub fn new(logs: &Logs) -> Board {
+    /// Of an era of this member that begins, after those in which this was counted; the member has so many others to join.
+    pub fn new(logs: &Logs, identity: Identity, listed: usize) -> Board
+        ensures { (result.identity ≡ identity) × (result.listed ≡ listed) }
+    {
         Board {
             eras: logs.eras.counts(),
+            identity,
+            listed,
             rows: Crew {
                 receiver: Row::new(logs.calls.receiver.counts()),
                 ticker: Row::new(logs.calls.ticker.counts()),
@@ -73,6 +88,13 @@ impl Board {
                 control: Row::new(logs.calls.control.counts()),
             },
         }
+    }
+
+    /// What the member tells of itself.
+    pub(crate) fn tell<R: Clock>(&self, rt: &R) -> Who
+        ensures { Tells self.now.identity self.now.listed result }
+    {
+        self.identity.tell(rt, self.listed)
     }
 
     /// What the member has done since it began.

@@ -1,31 +1,36 @@
-//! What becomes of an answered call beside its reply: its notes are logged, and it is counted.
+//! What becomes of an answered call beside its reply: its notes are logged, and by whom the member was joined, and it is counted.
 
-ghost use Rattle.std.specs.Prelude.{◌≡◌, replicate};
+ghost use Rattle.std.specs.Prelude.{◌≡◌, replicate, true};
+ghost use Rattle.swim_serve.specs.Companies.{holds_nobody};
 ghost use Rattle.swim_shell.specs.Counts.{call_counts, counts_after};
 
+use crate::company::Company;
 use crate::note_log::NoteLog;
 use log::Log;
 use std::time::Clock;
 use swim_node::Reply;
 use swim_shell::{CALL_COUNTS, Counts, EventKind, NOTE_KINDS};
-use swim_wire::Endpoint;
+use swim_wire::{Endpoint, Rules};
 
 /// What a worker has logged and counted of its calls, from one era to the next.
 #[derive(Clone, Copy, Debug, PartialEq, Eq)]
 pub struct CallLog {
     notes: NoteLog,
+    company: Company,
     counts: Counts,
 }
 
 impl CallLog {
-    /// Nothing was logged or counted yet of a member whose own number is this one.
-    pub fn new(number: u64) -> CallLog
+    /// Nothing was logged or counted yet of a member that lives by these rules, and whose own number is this one.
+    pub fn new(rules: Rules, number: u64) -> CallLog
+        ensures alone { result.company.is_alone ≡ true }
         ensures number { result.counts.number ≡ number }
         ensures none { call_counts result.counts ≡ replicate CALL_COUNTS 0 }
         ensures notes { result.counts.notes ≡ replicate NOTE_KINDS 0 }
     {
         CallLog {
-            notes: NoteLog::new(),
+            notes: NoteLog::new(rules),
+            company: Company::new(),
             counts: Counts::new(number),
         }
     }
@@ -37,7 +42,8 @@ impl CallLog {
         &self.counts
     }
 
-    /// Logs the notes of an answered call, with whence the datagram came that it is about, and counts it.
+    /// Logs the notes of an answered call, with whence the datagram came that it is about, and whether the member was joined by it, and
+    /// counts it.
     pub(crate) fn take<W: Log + Clock>(
         &mut self,
         rt: &W,
@@ -45,9 +51,11 @@ impl CallLog {
         from: &Option<Endpoint>,
         reply: &Reply,
     )
-        ensures { self.new.counts ≡ counts_after kind reply.now self.old.counts }
+        ensures counts { self.new.counts ≡ counts_after kind reply.now self.old.counts }
+        ensures company { self.new.company.is_alone ≡ holds_nobody reply.now.status }
     {
         self.notes.log(rt, reply, from);
+        self.company.log(rt, from, &reply.status);
         self.counts.count(kind, reply);
     }
 }

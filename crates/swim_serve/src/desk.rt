@@ -12,6 +12,7 @@ ghost use Rattle.swim_serve.specs.Desks.{HasAnswer, OfConnection, OfMember, Open
 
 use crate::aside::{Aside, OPEN_MAX};
 use crate::chores::Chores;
+use crate::identity::Identity;
 use arrayvec::ArrayVec;
 use log::Log;
 use std::alloc::{AllocError, Global};
@@ -29,6 +30,8 @@ use swim_wire::Endpoint;
 #[derive(Drop)]
 pub struct Desk<W: Log + Clock + Drop, O: Doors + Chores + Drop> {
     rt: W,
+    /// Who the member is.
+    identity: Identity,
     joiner: Joiner,
     doors: O,
     /// The connection that has the turns.
@@ -82,8 +85,14 @@ fn silent_after(silent: usize, is_silent: bool) -> usize
 }
 
 impl<W: Log + Clock + Drop, O: Doors + Chores + Drop> Desk<W, O> {
-    /// A desk at these doors, with no connection open.
-    pub fn new(alloc: Global, rt: W, joiner: Joiner, doors: O) -> Result<Desk<W, O>, AllocError>
+    /// A desk of this member at these doors, with no connection open.
+    pub fn new(
+        alloc: Global,
+        rt: W,
+        identity: Identity,
+        joiner: Joiner,
+        doors: O,
+    ) -> Result<Desk<W, O>, AllocError>
         ensures joiner { IfOk result (λ desk. desk.joiner ≡ joiner) }
         ensures nobody { IfOk result (λ desk. desk.conversation ≡ None) }
         ensures none { IfOk result (λ desk. desk.others ≡ []) }
@@ -91,6 +100,7 @@ impl<W: Log + Clock + Drop, O: Doors + Chores + Drop> Desk<W, O> {
         let others = Aside::new(alloc)?;
         Ok(Desk {
             rt,
+            identity,
             joiner,
             doors,
             conversation: None,
@@ -98,6 +108,18 @@ impl<W: Log + Clock + Drop, O: Doors + Chores + Drop> Desk<W, O> {
             silent: 0,
             is_preparing: false,
         })
+    }
+
+    /// Who the member is.
+    pub(crate) fn identity(&self) -> Identity {
+        self.identity
+    }
+
+    /// How many others the member has to join.
+    pub(crate) fn listed(&self) -> usize
+        ensures { result ≡ length self.now.joiner.peers.list }
+    {
+        self.joiner.listed()
     }
 
     /// Has the joiner join these peers from now on, by these paces.

@@ -534,7 +534,11 @@ pub fn run_era<
     };
     let pace = Pace::new();
     let ending = Ending::new(&pace, alarms);
-    let board = Board::new(&outside.logs);
+    let board = Board::new(
+        &outside.logs,
+        outside.desk.identity(),
+        outside.desk.listed(),
+    );
     let back = match work(rt, &shared, held, outside, &board, &ending) {
         Ok(back) => back,
         Err(why) => return Err(cut_short(alloc, shared, why)),

@@ -3,6 +3,7 @@
 ghost use Rattle.std.specs.Prelude.{◌≡◌, [], false};
 ghost use Rattle.swim_node.specs.History.{IsLegal};
 ghost use Rattle.swim_shared.specs.Passes.{IsPass};
+ghost use Rattle.swim_serve.specs.Identities.{Tells};
 ghost use Rattle.swim_serve.specs.Numbers.{origin_of};
 ghost use Rattle.swim_serve.specs.Views.{HasCalledBy, view_of};
 
@@ -16,7 +17,7 @@ use swim_disk::Disk;
 use swim_member::Event;
 use swim_node::{Link, Reply, Status};
 use swim_shared::{CallFault, Name, Pass, Shared, Watch};
-use swim_shell::{Caller, Counters, EventKind, Observer, Refusal};
+use swim_shell::{Caller, Counters, EventKind, Observer, Refusal, Who};
 use swim_trace::Trace;
 use swim_wire::Endpoint;
 
@@ -216,6 +217,13 @@ impl<'a, N: Name, D: Disk, L: Link, R: Wait + Drop, W: Wait + Log + Clock> Obser
     for Observing<'a, N, D, L, R, W> {
     fn status(&mut self) -> Option<Status> {
         self.watch.read()
+    }
+
+    fn who(&mut self) -> Who
+        ensures known { self.new.handle.known ≡ self.old.handle.known }
+        ensures who { Tells self.old.board.now.identity self.old.board.now.listed result }
+    {
+        self.board.tell(self.handle.rt)
     }
 
     fn counters(&mut self) -> Counters {

@@ -8,7 +8,7 @@ use crate::crew::Crew;
 use crate::era_saves::{EraSaves, PeersSave};
 use crate::number_log::NumberLog;
 use swim_shell::ERA_COUNTS;
-use swim_wire::Endpoint;
+use swim_wire::{Endpoint, Rules};
 
 /// What became of the eras of a member. A count stays at the greatest number.
 #[derive(Clone, Copy, Debug, PartialEq, Eq)]
@@ -76,9 +76,9 @@ pub struct Logs {
 }
 
 impl Logs {
-    /// Nothing was logged or counted yet of this member, whose life begins with this number.
-    pub fn new(me: Endpoint, number: u64) -> Logs {
-        let none = CallLog::new(number);
+    /// Nothing was logged or counted yet of this member, which lives by these rules, and whose life begins with this number.
+    pub fn new(me: Endpoint, rules: Rules, number: u64) -> Logs {
+        let none = CallLog::new(rules, number);
         Logs {
             numbers: NumberLog::new(me, number),
             calls: Crew {

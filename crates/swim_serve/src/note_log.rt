@@ -3,11 +3,12 @@
 ghost use Rattle.std.specs.Prelude.{◌≡◌, ◌<◌, ◌+◌, ◌↔◌, min, IsTrue, false};
 ghost use Rattle.swim_serve.specs.Notes.{has_note};
 
-use log::{Log, warn};
+use crate::note_words::{NoteLine, note_level};
+use log::{Log, log};
 use std::time::Clock;
 use swim_member::Note;
 use swim_node::Reply;
-use swim_wire::Endpoint;
+use swim_wire::{Endpoint, Rules};
 
 /// The most notes of one kind that a worker logs in one second.
 pub const LOGGED_MAX: u8 = 5;
@@ -55,6 +56,8 @@ const NOTHING: Kind = Kind {
 /// each tick and each datagram, which is logged once.
 #[derive(Clone, Copy, Debug, PartialEq, Eq)]
 pub struct NoteLog {
+    /// By which rules the member lives.
+    rules: Rules,
     second: u64,
     has_left_out: bool,
     has_stopped: bool,
@@ -74,18 +77,11 @@ pub(crate) fn has_note(notes: &[Note], wanted: Note) -> bool
     false
 }
 
-/// Writes one note, with whence the datagram came that it is about.
-fn write<W: Log>(rt: &W, note: Note, from: &Option<Endpoint>) {
-    match from {
-        Some(from) => warn!(rt; "note {note} from {from}"),
-        None => warn!(rt; "note {note}"),
-    }
-}
-
 impl NoteLog {
-    /// Nothing was logged yet.
-    pub fn new() -> NoteLog {
+    /// Nothing was logged yet of a member that lives by these rules.
+    pub fn new(rules: Rules) -> NoteLog {
         NoteLog {
+            rules,
             second: 0,
             has_left_out: false,
             has_stopped: false,
@@ -99,7 +95,7 @@ impl NoteLog {
             if kind.left_out > 0 {
                 let note = kind.note;
                 let count = kind.left_out;
-                warn!(rt; "note {note}, and {count} of its kind in the same second");
+                log!(rt; note_level(note), "{count} more of this kind in the same second (note {note})");
             }
         }
         self.kinds = [NOTHING; KINDS];
@@ -108,12 +104,18 @@ impl NoteLog {
     }
 
     #[tactic(auto, using(crate::proofs::Notes::number_range))]
-    /// Writes a note, or counts it where too many of its kind were written in this second.
+    /// Writes a note, with whence the datagram came that it is about, or counts it where too many of its kind were written in this
+    /// second.
     fn add<W: Log>(&mut self, rt: &W, note: Note, from: &Option<Endpoint>) {
         let place = usize::from(note.number()) - 1;
         let mut kind = self.kinds[place];
         if kind.takes(note) {
-            write(rt, note, from);
+            let line = NoteLine {
+                note,
+                from: *from,
+                rules: self.rules,
+            };
+            log!(rt; note_level(note), "{line}");
         } else {
             self.has_left_out = true;
         }

@@ -11,6 +11,7 @@ use crate::chores::Chores;
 use crate::desk::Desk;
 use crate::era_saves::EraSaves;
 use crate::host::Joins;
+use crate::identity::Identity;
 use crate::logs::Logs;
 use log::Log;
 use rand_chacha::ChaCha20Rng;
@@ -144,18 +145,19 @@ impl<I: Inbound + Drop, M: Link + Drop, R: Log + Clock + Drop, O: Doors + Chores
             expelled_ends,
         } = setup;
         let me = settings.me;
+        let identity = Identity::new(&rt, &settings);
         let mut draws = ChaCha20Rng::from_seed(key);
         draws.set_stream(DRAWS);
         let rules = settings.rules_of();
         let joiner = Joiner::new(me, rules, joins.peers, joins.paces, draws);
-        let desk = Desk::new(alloc, rt, joiner, doors)?;
+        let desk = Desk::new(alloc, rt, identity, joiner, doors)?;
         let first_end = settings.period.saturating_mul(FIRST_ERA_PERIODS);
         Ok(Outside {
             receiver: Receiver::new(inbound),
             ticker: Ticker::new(ChaCha20Rng::from_seed(key)),
             desk,
             link,
-            logs: Logs::new(me, number),
+            logs: Logs::new(me, rules, number),
             owed: 0,
             beat: Beat::new(tick, first_end),
             expelled_ends,

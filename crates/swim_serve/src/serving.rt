@@ -30,8 +30,8 @@ use std::thread::{self, Threads};
 use std::time::{Clock, Duration};
 use swim_disk::Disk;
 use swim_member::Phase;
-use swim_node::{Beginning, Link, Node};
-use swim_recorder::{Keeper, Unkept, begin, hand_over};
+use swim_node::{Link, Node};
+use swim_recorder::{BegunEra, Keeper, Unkept, begin, hand_over};
 use swim_shared::{Outbox, Parts, Sender as Ring};
 use swim_shell::{Alarmed, ControlEnd, Doors, Inbound, Refusal, WorkerEnd};
 
@@ -169,7 +169,7 @@ fn keep_peers<D: Disk, T: Log>(rt: &T, node: &mut Node<D>) -> PeersSave
 fn end_era<D: Disk, T: Log, K: Keeper>(
     rt: &T,
     node: &mut Node<D>,
-    beginning: Option<Beginning>,
+    beginning: Option<BegunEra>,
     keeper: &mut K,
 ) -> EraSaves
     requires { IfSome beginning (λ beginning. beginning ≡ begun_at node.old.base) }
@@ -245,7 +245,7 @@ fn one_era<
             return Err(CutEra { node, why });
         }
     };
-    let beginning = begin(&node, keeper);
+    let beginning = begin(rt, &node, keeper);
     let parts = Parts::new(node, outbox, CALLERS, WATCHES);
     let ended = run_era::<Brand, _, _, _, _, _>(rt, alloc, parts, ring, outside, alarms);
     let mut end = match ended {

@@ -2,7 +2,7 @@
 use Rattle.std.specs.Prelude.{◌≡◌, ◌≢◌, ◌⊎◌, ◌≤◌, ◌-◌, ℕ, ℤ, pos, negsuc, List, [], ◌∷◌}
 use Rattle.std.specs.Prelude.{length, All}
 use Rattle.std.specs.Prelude.{IsUtf8, Option, Some, None, option_and_then, option_map, Ok, Bool}
-use Rattle.std.specs.Prelude.{true, false, codes, string_bytes}
+use Rattle.std.specs.Prelude.{true, false, codes, is_some, string_bytes}
 use Rattle.std.specs.Fmt.{decimal}
 use Rattle.std.specs.List.{AllByRecursion}
 use Rattle.hex.specs.Hex.{decode_of}
@@ -144,6 +144,7 @@ pub record Says (table : Members) (run : RunSettings) : Type 0 where
   pub limit : IsNumber Limit 4096 table run.limit
   pub block : IsNumber Block 1 table run.settings.block
   pub rules : IsNumber Rules 1 table run.settings.rules
+  pub has_rules : run.has_rules ≡ is_some (value_at Rules table)
   pub random_key : AreBytes RandomKey table run.random_key
   pub join : ArePlaces JOIN_MAX Join table run.join.items
   pub rejoin : IsNumber Rejoin (times_of run.preset).rejoin table run.rejoin

@@ -18,8 +18,8 @@ use crate::preset::{Preset, Times};
 use crate::refusal::Refusal;
 use crate::table::{read_table, refuse_unknown};
 use crate::value::{
-    read_bytes, read_choice, read_endpoint_at, read_folder, read_number, read_places, read_text,
-    read_within, read_word,
+    has_key, read_bytes, read_choice, read_endpoint_at, read_folder, read_number, read_places,
+    read_text, read_within, read_word,
 };
 use arrayvec::ArrayVec;
 use std::alloc::Global;
@@ -37,6 +37,8 @@ pub struct RunSettings {
     pub file: String,
     /// `group`, `me`, `lambda` to `helpers`, `block` and `rules`: what the member is told.
     pub settings: Settings,
+    /// `rules`: whether the file has it. The settings of a member without it have rules 1.
+    pub has_rules: bool,
     /// `control`: the endpoint of the control socket.
     pub control: Endpoint,
     /// `preset`: whose times stand for those that the file has not, if it names one.
@@ -157,6 +159,7 @@ fn read_keys(alloc: Global, table: &Table) -> Result<RunSettings, Refusal>
     Ok(RunSettings {
         file: String::from_str(alloc, file)?,
         settings,
+        has_rules: has_key(table, Key::Rules),
         control,
         preset,
         tick_ms,

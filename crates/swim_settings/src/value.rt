@@ -1,7 +1,7 @@
 //! The values of a table, key by key.
 
 ghost use Rattle.std.specs.Prelude.{◌≡◌, ◌≢◌, ◌^◌, ◌<◌, ◌≤◌, List, ℕ, IfSome, IfNone, IfOk, IfErr};
-ghost use Rattle.std.specs.Prelude.{All, Contains, Ok, Some, None, length, option_and_then, option_map};
+ghost use Rattle.std.specs.Prelude.{All, Contains, Ok, Some, None, is_some, length, option_and_then, option_map};
 ghost use Rattle.hex.specs.Hex.{decode_of};
 ghost use Rattle.toml.specs.Data.{as_str};
 ghost use Rattle.toml.specs.View.{view, items_view, table_view};
@@ -68,6 +68,13 @@ fn find(table: &Table, key: Key) -> Option<&Value>
     ensures { option_map (λ value. view value.now) result ≡ value_at key (table_view table.now) }
 {
     table.get(key.text())
+}
+
+/// Whether something stands at a key.
+pub(crate) fn has_key(table: &Table, key: Key) -> bool
+    ensures { result ≡ is_some (value_at key (table_view table.now)) }
+{
+    find(table, key).is_some()
 }
 
 /// The text at a key that has to be there.

@@ -22,6 +22,8 @@ use Rattle.swim_shell.specs.declared.conversation.LineEnd.TheVariants as line_en
 use Rattle.swim_shell.specs.declared.counters.TheConstants.{COUNTERS}
 use Rattle.swim_shell.specs.Calls.{CallerView, NewCall, Refuses}
 use Rattle.swim_shell.specs.Counters.{counters_text}
+use Rattle.swim_shell.specs.declared.about.Who.{Who}
+use Rattle.swim_shell.specs.About.{about_of, about_text}
 
 -- what is written where a call was refused
 abbrev pub refusal_text : Refusal → List ℕ
@@ -122,6 +124,14 @@ ShowsCounters p q refused answer =
     (counts : List ℕ) × (q ≡ p) × (refused ≡ None) × (length counts ≡ COUNTERS)
     × (answer ≡ counters_text counts)
 
+-- no event was to be entered; who the member is and whether it is alone is written, or that there
+-- is no reading of its status
+abbrev pub ShowsAbout : CallerView → CallerView → Option Refusal → List ℕ → Type 0
+ShowsAbout p q None answer =
+    (who : Who) × (status : Status) × (q ≡ p) × (answer ≡ about_text (about_of who status))
+ShowsAbout p q (Some why) answer =
+    (q ≡ p) × (why ≡ refusal.Unread) × (answer ≡ refusal_text why)
+
 -- what a request makes of the caller, why that was refused, if it was, and what is written
 abbrev pub Answers : ℕ → Request → CallerView → CallerView → Option Refusal → List ℕ → Type 0
 Answers limit asked.Status p q refused answer = ShowsStatus p q refused answer
@@ -136,6 +146,7 @@ Answers limit asked.Record p q refused answer =
     Plain p q refused answer (codes "ok era ends\n")
 Answers limit asked.Counters p q refused answer = ShowsCounters p q refused answer
 Answers limit asked.Reload p q refused answer = Plain p q refused answer []
+Answers limit asked.About p q refused answer = ShowsAbout p q refused answer
 Answers limit asked.Unknown p q refused answer =
     Plain p q refused answer (codes "error 1 unknown\n")
 Answers limit asked.Address p q refused answer =

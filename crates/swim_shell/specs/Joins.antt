@@ -24,7 +24,9 @@ use Rattle.rand_chacha.specs.ChaCha.{ChaCha}
 use Rattle.std.specs.declared.time.Instant.{Instant}
 use Rattle.swim_shell.specs.declared.paces.Paces.{Paces}
 use Rattle.swim_shell.specs.declared.paces.TheConstants.{ALONE_PERIODS, EARLY_JOINS}
+use Rattle.swim_shell.specs.declared.silence.Silence.{Silence}
 use Rattle.swim_shell.specs.Moments.{NewsView, has_passed}
+use Rattle.swim_shell.specs.Silences.{asked_anew}
 use Rattle.swim_shell.specs.Calls.{CallerView, events_of, Gains, NewCall, Refuses}
 
 -- what a contract sees of peers: the list, the place of the one that comes next, and whether each
@@ -55,7 +57,8 @@ IsNext p x = slice_get p.list p.next ≡ Some x
 -- what a contract sees of a joiner: whose it is, by which rules that one lives, and its paces; its
 -- peers, and what draws others; how many peers were joined, how many of them since somebody was
 -- known last, and when the last join was; the rows of a look that was cut off, and the drawn member
--- whose join is still due; of which peer it said that it is not known; and its news
+-- whose join is still due; of which peer it said that it is not known; how often the list was asked
+-- in vain; and its news
 pub record JoinerView : Type 0 where
   pub me : ℕ
   pub rules : Rules
@@ -68,17 +71,23 @@ pub record JoinerView : Type 0 where
   pub looked : List Update
   pub drawn : Option ℕ
   pub missing : List ℕ
+  pub silence : Silence
   pub news : NewsView
 
--- these peers are joined from now on, by these paces: the list begins anew, no join of a drawn
--- member is due, and all else is the same
+-- these peers are joined from now on, by these paces: the list begins anew, of which nobody was
+-- asked in vain yet, no join of a drawn member is due, and all else is the same
 pub record IsRelisted (peers : List ℕ) (paces : Paces) (j k : JoinerView) : Type 0 where
   pub list : k.peers.list ≡ peers
   pub first : k.peers.next ≡ 0
   pub all : (k.peers.were_all ≡ true) ↔ (peers ≡ [])
   pub shown : k.peers.shown ≡ j.peers.shown
   pub gone : k.peers.gone ≡ j.peers.gone
-  pub rest : k ≡ record j { peers = k.peers; paces = paces; drawn = None }
+  pub rest : k ≡ record j {
+    peers = k.peers;
+    paces = paces;
+    drawn = None;
+    silence = asked_anew j.silence;
+  }
 
 -- how long after so many joins the next peer is joined, if it is, by whether all were and whether
 -- the member is alone

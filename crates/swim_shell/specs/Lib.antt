@@ -4,6 +4,7 @@ pub mod Work
 pub mod Tries
 pub mod Lines
 pub mod Requests
+pub mod About
 pub mod Answers
 pub mod Counters
 pub mod Counts
@@ -14,5 +15,6 @@ pub mod Inbounds
 pub mod Ticks
 pub mod Losses
 pub mod Moments
+pub mod Silences
 pub mod Joins
 pub mod Turns

@@ -15,6 +15,7 @@ pub record IsUnknown (text : List ℕ) : Type 0 where
   pub renew : text ≢ codes "record"
   pub counters : text ≢ codes "counters"
   pub reload : text ≢ codes "reload"
+  pub about : text ≢ codes "about"
   pub members_after : (word : List ℕ) → text ≢ spaced (codes "members") word
   pub join : (word : List ℕ) → text ≢ spaced (codes "join") word
 
@@ -37,6 +38,7 @@ NamesShort text asked.Stop = text ≡ codes "stop"
 NamesShort text asked.Record = text ≡ codes "record"
 NamesShort text asked.Counters = text ≡ codes "counters"
 NamesShort text asked.Reload = text ≡ codes "reload"
+NamesShort text asked.About = text ≡ codes "about"
 NamesShort text asked.Address = IsNoAddress text
 NamesShort text asked.Unknown = IsUnknown text
 NamesShort text asked.TooLong = ⊥

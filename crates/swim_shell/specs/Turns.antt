@@ -20,6 +20,7 @@ use Rattle.swim_shell.specs.declared.paces.Moment.{Moment}
 use Rattle.swim_shell.specs.Calls.{CallerView, NewCall, Refuses}
 use Rattle.swim_shell.specs.Moments.{NewsView, TellsNews, has_passed}
 use Rattle.swim_shell.specs.Joins.{JoinerView, stepped, begun_again, watched, may_ask}
+use Rattle.swim_shell.specs.Silences.{heard_nobody, with_ask}
 use Rattle.swim_shell.specs.Joins.{rest_after, has_row, due_by, LooksAll, LooksInVain}
 
 -- ---- what is due
@@ -123,21 +124,24 @@ joined_drawn now j = joined_drawn_by j.drawn now j
 
 -- ---- what is done
 
--- after a peer of the list was joined
+-- after a peer of the list was joined: it was asked in vain until somebody is known
 abbrev pub joined_listed : Option Instant → JoinerView → JoinerView
 joined_listed now j = record j {
   joined = now;
   peers = stepped j.peers;
   joins = min (j.joins + 1) (2 ^ 32 - 1);
   unanswered = min (j.unanswered + 1) (2 ^ 32 - 1);
+  silence = with_ask j.peers.list now j.silence;
 }
 
 -- if somebody is known again after more than one peer was joined, an earlier one than the last may
--- have answered late, whose pages the later join ended: so the list begins again
+-- have answered late, whose pages the later join ended: so the list begins again; nobody of it was
+-- asked in vain then
 abbrev pub with_answer : Moment → JoinerView → JoinerView
 with_answer at j =
     if at.is_alone then j else record j {
       unanswered = 0;
+      silence = heard_nobody;
       peers = if nat_lt 1 j.unanswered then begun_again j.peers else j.peers;
     }
 

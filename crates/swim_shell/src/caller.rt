@@ -3,6 +3,7 @@
 ghost use Rattle.std.specs.Prelude.{◌≡◌, IfOk, IfErr};
 ghost use Rattle.swim_shell.specs.Calls.{NewCall, Refuses};
 
+use crate::about::Who;
 use crate::counters::Counters;
 use swim_member::Event;
 use swim_node::{Reply, Status};
@@ -46,6 +47,10 @@ pub trait Observer: Caller {
     /// The status, without a call and without waiting for one: that after its last answered call, or a later one. None if
     /// there is no reading just now.
     fn status(&mut self) -> Option<Status>
+        ensures { Self.known self.new ≡ Self.known self.old };
+
+    /// Who the member is, without a call.
+    fn who(&mut self) -> Who
         ensures { Self.known self.new ≡ Self.known self.old };
 
     /// What the member has done since it began, in all its eras, without a call and without waiting for one. No contract can

@@ -1,9 +1,10 @@
 //! A control connection.
 
 ghost use Rattle.std.specs.Prelude.{◌≡◌, ◌≤◌, [], None, length};
-ghost use Rattle.swim_shell.specs.Answers.{Answers, ShowsCounters, ShowsStatus, end_of};
+ghost use Rattle.swim_shell.specs.Answers.{Answers, ShowsAbout, ShowsCounters, ShowsStatus, end_of};
 ghost use Rattle.swim_shell.specs.Control.{carried};
 
+use crate::about::add_about;
 use crate::answer_writer::{AnswerWriter, Sent};
 use crate::answers::{add_refusal, add_reply, add_status};
 use crate::caller::{Observer, Refusal};
@@ -109,6 +110,23 @@ fn show_status<C: Observer>(caller: &mut C, answer: &mut Answer) -> Option<Refus
     }
 }
 
+/// Writes who the member is, and whether it is alone. Says why it could not, if there is no reading of its status.
+fn show_about<C: Observer>(caller: &mut C, answer: &mut Answer) -> Option<Refusal>
+    requires { answer.old.bytes ≡ [] }
+    ensures { ShowsAbout (C.known caller.old) (C.known caller.new) result answer.new.bytes }
+{
+    match caller.status() {
+        Some(status) => {
+            add_about(answer, &caller.who().with(&status));
+            None
+        }
+        None => {
+            add_refusal(answer, Refusal::Unread);
+            Some(Refusal::Unread)
+        }
+    }
+}
+
 /// Writes what the member has done, for which no call is made, and so none is refused.
 fn show_counters<C: Observer>(caller: &mut C, answer: &mut Answer) -> Option<Refusal>
     requires { answer.old.bytes ≡ [] }
@@ -143,6 +161,7 @@ fn respond<C: Observer>(caller: &mut C, answer: &mut Answer, asked: Request) -> 
         Request::Record => return say(answer, "ok era ends\n"),
         Request::Counters => return show_counters(caller, answer),
         Request::Reload => return say(answer, ""),
+        Request::About => return show_about(caller, answer),
         Request::Unknown => return say(answer, "error 1 unknown\n"),
         Request::Address => return say(answer, "error 2 address\n"),
         Request::TooLong => return say(answer, "error 3 too long\n"),

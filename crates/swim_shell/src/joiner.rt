@@ -1,10 +1,11 @@
 //! The worker that joins, and logs the news of members.
 
 ghost use Rattle.std.specs.Prelude.{◌≡◌, ◌⊎◌, ◌↔◌, [], Some, None, true, false};
-ghost use Rattle.std.specs.Prelude.{IsTrue, IfSome, IfOk, IfErr, OnOk, OnErr};
+ghost use Rattle.std.specs.Prelude.{IsTrue, IfSome, IfOk, IfErr, OnOk, OnErr, length};
 ghost use Rattle.swim_member.specs.declared.event.Event.TheVariants.{Join};
 ghost use Rattle.swim_shell.specs.Calls.{Refuses};
 ghost use Rattle.swim_shell.specs.Joins.{Asks, AsksInVain, IsDrawnFrom, IsNext, IsRelisted, LooksAll, LooksInVain, chosen, may_ask};
+ghost use Rattle.swim_shell.specs.Silences.{heard_nobody};
 ghost use Rattle.swim_shell.specs.Turns.{DoesRest, DoesTurn, DoesTurnInVain, JoinsPeer, LooksRound, LooksRoundInVain, RestInVain, TellsDue, Turned, TurnedInVain, after_draw, after_look, are_news_due, drawn_for, due_peer, is_alone, is_draw_due, is_look_due, joined_drawn, joined_listed, list_turn, next_draw, told_missing, with_answer, with_draw, with_start};
 
 use crate::caller::{Caller, Observer, Refusal};
@@ -13,6 +14,7 @@ use crate::look::look;
 use crate::news_log::{News, are_shown};
 use crate::paces::{Moment, Paces, has_passed};
 use crate::peers::{LIST_MAX, Peers, has_row};
+use crate::silence::Silence;
 use arrayvec::ArrayVec;
 use log::{Log, error};
 use rand_chacha::ChaCha20Rng;
@@ -53,6 +55,7 @@ pub struct Joiner {
     has_told: bool,
     /// Of which member it was, for proofs.
     missing: Trace<Endpoint>,
+    silence: Silence,
     ghost once: { missing ≡ [] → has_told ≡ false },
     ghost told: { has_told ≡ false → missing ≡ [] },
 }
@@ -74,12 +77,13 @@ impl Model for Joiner {
       looked = j.looked;
       drawn = j.drawn;
       missing = j.missing;
+      silence = j.silence;
       news = j.news;
     } };
 }
 
 /// Whether the member takes part, and holds nobody for alive or suspected. One whose status is not shown does not say so.
-fn is_alone(status: Option<Status>) -> bool
+pub(crate) fn is_alone(status: Option<Status>) -> bool
     ensures { result ≡ is_alone status }
 {
     match status {
@@ -133,7 +137,7 @@ impl Joiner {
         ensures me { result.me ≡ me }
         ensures by { (result.rules ≡ rules) × (result.paces ≡ paces) × (result.rng ≡ rng) }
         ensures first { (result.joins ≡ 0) × (result.joined ≡ None) × (result.missing ≡ [])
-            × (result.unanswered ≡ 0) }
+            × (result.unanswered ≡ 0) × (result.silence ≡ heard_nobody) }
         ensures nothing { (result.looked ≡ []) × (result.drawn ≡ None) }
         ensures shown { (result.peers.shown ≡ []) × (result.peers.gone ≡ None) }
         ensures news { (result.news.rows ≡ []) × (result.news.compared ≡ None) }
@@ -154,7 +158,15 @@ impl Joiner {
             news: News::new(),
             has_told: false,
             missing: Trace::new(),
+            silence: Silence::new(),
         }
+    }
+
+    /// How many peers are on its list.
+    pub fn listed(&self) -> usize
+        ensures { result ≡ length self.now.peers.list }
+    {
+        self.peers.listed()
     }
 
     /// Joins these peers from now on, by these paces. The list begins anew, and all else goes on.
@@ -164,6 +176,7 @@ impl Joiner {
         self.peers.relist(peers);
         self.paces = paces;
         self.drawn = None;
+        self.silence.begin_again();
     }
 
     /// Somebody is known again. If more than one peer was joined since somebody was, an earlier one than the last may have
@@ -182,6 +195,7 @@ impl Joiner {
             self.peers.begin_again();
         }
         self.unanswered = 0;
+        self.silence = Silence::new();
     }
 
     /// The peer of the list to join now: one that was not joined yet, or the next one while the member is alone.
@@ -301,10 +315,11 @@ impl Joiner {
         }
     }
 
-    /// Joins the next peer of the list.
+    /// Joins the next peer of the list, and says now and then that none of it answers.
     #[tactic(auto, using(crate::proofs::Asking::asks_next, crate::proofs::Asking::asks_next_in_vain))]
-    fn join_listed<C: Caller>(
+    fn join_listed<C: Caller, W: Log>(
         &mut self,
+        rt: &W,
         caller: &mut C,
         now: Option<Instant>,
         peer: Endpoint,
@@ -323,6 +338,7 @@ impl Joiner {
     {
         caller.call(Event::Join { peer })?;
         self.joined = now;
+        self.silence.ask(rt, now, self.peers.list(), self.rules);
         self.peers.step();
         self.joins = self.joins.saturating_add(1);
         self.unanswered = self.unanswered.saturating_add(1);
@@ -462,7 +478,7 @@ impl Joiner {
     {
         self.hear(at);
         if let Some(peer) = self.due_peer(at) {
-            return self.join_listed(caller, at.now, peer);
+            return self.join_listed(rt, caller, at.now, peer);
         }
         self.begin(at.now);
         self.do_rest(rt, caller, at)

@@ -2,6 +2,7 @@
 //! which lines were read can be read off the calls. No worker knows how a call is made.
 #![tactic(auto)]
 
+mod about;
 mod alarm;
 mod answer_writer;
 mod answers;
@@ -24,9 +25,11 @@ mod printer;
 mod receiver;
 mod request;
 mod sender;
+mod silence;
 mod ticker;
 mod worker;
 
+pub use about::{About, Alone, ProgramVersion, VERSION, VERSION_MAX, Who, about_answer};
 pub use alarm::{Alarm, Alarmed};
 pub use answers::{SETTINGS_REFUSED, answer_of};
 pub use arrival::Arrival;

@@ -124,11 +124,26 @@ impl Peers {
         self.gone
     }
 
+    /// All of them, in their order.
+    pub(crate) fn list(&self) -> &[Endpoint]
+        ensures list { result.now ≡ self.now.list }
+        ensures most { length result.now ≤ LIST_MAX }
+    {
+        self.list.as_slice()
+    }
+
     /// Whether each was joined once.
     pub(crate) fn were_all(&self) -> bool
         ensures { result ≡ self.now.were_all }
     {
         self.was_all
+    }
+
+    /// How many there are.
+    pub(crate) fn listed(&self) -> usize
+        ensures { result ≡ length self.now.list }
+    {
+        self.list.len()
     }
 
     /// The peer that comes next; none if the list is empty.

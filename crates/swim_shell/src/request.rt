@@ -27,6 +27,8 @@ pub enum Request {
     Counters,
     /// To read the settings again.
     Reload,
+    /// Who the member is.
+    About,
     /// It is none of the lines.
     Unknown,
     /// The word that is to be an endpoint is none.
@@ -45,6 +47,7 @@ fn with_word(text: &[u8]) -> Request
     requires renew { text.now ≢ codes "record" }
     requires counters { text.now ≢ codes "counters" }
     requires reload { text.now ≢ codes "reload" }
+    requires about { text.now ≢ codes "about" }
     ensures { NamesShort text.now result }
 {
     match split_at_byte(text, b' ') {
@@ -91,6 +94,9 @@ fn short(text: &[u8]) -> Request
     }
     if text == b"reload".as_slice() {
         return Request::Reload;
+    }
+    if text == b"about".as_slice() {
+        return Request::About;
     }
     with_word(text)
 }

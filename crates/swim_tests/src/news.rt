@@ -39,7 +39,7 @@ fn gone_new_and_changed(rt: HostRuntime) {
     let want = [
         "member 10.0.0.2:7000 alive 3, was suspect 2",
         "member 10.0.0.3:7000 alive 1, was unknown",
-        "member 10.0.0.4:7000 unknown, was confirm 4",
+        "member 10.0.0.4:7000 unknown, was failed 4",
         "member 10.0.0.6:7000 alive 2, was alive 1",
         "member 10.0.0.7:7000 suspect 9, was unknown",
     ];

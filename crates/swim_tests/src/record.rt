@@ -3,7 +3,7 @@
 use crate::same::{holds, same};
 use swim_member::Event;
 use swim_node::{MemoryLink, Tag};
-use swim_record::recording;
+use swim_record::{EraTime, recording};
 use swim_replay::{era_is_recorded, play_era};
 use swim_scenes::{endpoint, opened_by_plan, ping, suspicion, update};
 use swim_wire::UpdateKind;
@@ -28,6 +28,15 @@ caller 3
 lost 1
 leave
 ";
+
+/// When the era was, and how its recording begins then.
+const TIME: EraTime = EraTime {
+    begun: 1_795_910_399_050,
+    ended: 1_795_910_401_050,
+    tick: 100,
+};
+
+const TIMED: &str = "recording 2\nclock 1795910399050 1795910401050 100\n";
 
 #[test]
 fn an_era_is_written(rt: HostRuntime) {
@@ -57,13 +66,23 @@ fn an_era_is_written(rt: HostRuntime) {
             node.apply(&mut link, Tag { caller, turn }, event).is_ok(),
         );
     }
-    let text = recording(rt.alloc(), &beginning, node.journal())
+    let text = recording(rt.alloc(), None, &beginning, node.journal())
         .ok()
         .expect(&rt, "memory");
     same(&rt, text.as_str(), WANT);
-    era_is_recorded(&node, &beginning);
-    let played = play_era(rt.alloc(), &node, &beginning)
+    let text = recording(rt.alloc(), Some(TIME), &beginning, node.journal())
         .ok()
-        .expect(&rt, "an era");
-    same(&rt, played.journal().len(), node.len());
+        .expect(&rt, "memory");
+    same(
+        &rt,
+        text.as_str().strip_prefix(TIMED),
+        WANT.strip_prefix("recording 1\n"),
+    );
+    era_is_recorded(&node, &beginning);
+    for time in [None, Some(TIME)] {
+        let played = play_era(rt.alloc(), time, &node, &beginning)
+            .ok()
+            .expect(&rt, "an era");
+        same(&rt, played.journal().len(), node.len());
+    }
 }

@@ -50,15 +50,25 @@ fn a_recording_is_played(rt: HostRuntime) {
 }
 
 #[test]
-fn a_text_without_the_first_line_is_no_recording(rt: HostRuntime) {
-    for text in [
-        "",
-        "recording 1",
-        "recording 2\nmember 7 10.0.0.1:7000 3 1\n",
+fn a_text_without_the_first_lines_is_no_recording(rt: HostRuntime) {
+    for (text, line, reason) in [
+        ("", 1, RecordingReason::NoRecording),
+        ("recording 1", 1, RecordingReason::NoRecording),
+        ("recording 3\n", 1, RecordingReason::NoRecording),
+        (
+            "recording 2\nmember 7 10.0.0.1:7000 3 1\n",
+            2,
+            RecordingReason::NoTime,
+        ),
+        (
+            "recording 2\nclock 1 2 100\nmember 7 10.0.0.1:7000 3 1\n",
+            4,
+            RecordingReason::NoSettings,
+        ),
     ] {
         let is_refused = match play_recording(rt.alloc(), text.as_bytes()) {
             Ok(_) => false,
-            Err(fault) => fault.line == 1 && fault.reason == RecordingReason::NoRecording,
+            Err(fault) => fault.line == line && fault.reason == reason,
         };
         holds_at(&rt, &text, is_refused);
     }

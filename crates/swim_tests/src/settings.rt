@@ -174,6 +174,7 @@ fn defaults(rt: HostRuntime) -> Result<(), Fail> {
     let RunSettings {
         file,
         settings,
+        has_rules,
         control,
         preset,
         tick_ms,
@@ -201,6 +202,7 @@ fn defaults(rt: HostRuntime) -> Result<(), Fail> {
     same(&rt, limit, 4096);
     same(&rt, settings.block, 1);
     same(&rt, settings.rules, 1);
+    holds(&rt, !has_rules);
     holds(&rt, random_key.is_none());
     same(&rt, join.len(), 0);
     same(&rt, rejoin, 300);

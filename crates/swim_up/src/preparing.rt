@@ -168,6 +168,15 @@ fn keep(rt: &HostRuntime, paths: &Paths, words: &UpWords<'_>, usual: &str) -> Re
     }
 }
 
+/// Says what was made, and whether the state file was there.
+fn tell_made(rt: &HostRuntime, settings: &str, state: &str, has_state: bool) {
+    if has_state {
+        let _ = eprintln!(rt; "made {settings}; the state file {state} was there, and goes on");
+    } else {
+        let _ = eprintln!(rt; "made {settings} and {state}");
+    }
+}
+
 /// Makes the settings of a member, and its folder and its state file where there are none. Refused words leave nothing.
 fn make_all(
     rt: &HostRuntime,
@@ -183,13 +192,14 @@ fn make_all(
     let wanted = wanted_by(alloc, text.as_str(), words)?;
     let lacking = lacking_of(false, is_there(rt, "state file", state.as_str())?);
     make_folder(rt, folder).map_err(unknown)?;
-    if lacking == Lacking::All {
+    let has_state = lacking != Lacking::All;
+    if !has_state {
         make(rt, state.as_str(), wanted.settings.group, words.me, 0)?;
     }
     make_file(rt, paths.aside.as_str(), settings, text.as_str()).map_err(|error| Failure::of_file(
         alloc, "settings", settings, &error,
     ))?;
-    let _ = eprintln!(rt; "made {settings} and {state}");
+    tell_made(rt, settings, state.as_str(), has_state);
     Ok(())
 }
 

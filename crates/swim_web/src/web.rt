@@ -8,7 +8,7 @@ use std::net::{Net, TcpListener, TcpStream};
 use std::rt::Clock;
 use std::sync::{Mutex, Wait};
 use std::thread::{self, Threads};
-use swim_ask::judge;
+use swim_ask::Addresses;
 use swim_ending::{Ending, Failure};
 use swim_net::address_of;
 use swim_wire::Endpoint;
@@ -17,8 +17,8 @@ use swim_words::read_endpoint;
 /// What `swim web` shows, and where. Both are words not yet judged.
 #[derive(Clone, Copy, Debug)]
 pub struct Web<'a> {
-    /// The control socket of the member.
-    pub of: &'a str,
+    /// The control sockets of members of one group, of which the next one is shown where one does not answer.
+    pub of: &'a [String],
     /// Where it listens.
     pub listen: &'a str,
 }
@@ -39,10 +39,14 @@ fn announce<R: Print + AllocGlobal>(
     web: &Web<'_>,
     listen: Endpoint,
 ) -> Result<(), Failure> {
-    let Web { of, .. } = *web;
     let alloc = rt.alloc();
     let unprinted = |error: Error| Failure::of_output(alloc, &error);
-    println!(rt; "http://{listen}/ shows what {of} says").map_err(unprinted)?;
+    print!(rt; "http://{listen}/ shows what ").map_err(unprinted)?;
+    for (place, of) in web.of.iter().enumerate() {
+        let before = if place == 0 { "" } else { ", or else " };
+        print!(rt; "{before}{of}").map_err(unprinted)?;
+    }
+    println!(rt; " says").map_err(unprinted)?;
     if !address_of(listen).ip().is_loopback() {
         println!(rt;
             "everyone who reaches {listen} can read the group: there is no password"
@@ -51,14 +55,14 @@ fn announce<R: Print + AllocGlobal>(
     Ok(())
 }
 
-/// Serves what a member says over HTTP until the process is ended, whether the member answers or not. An error is a word that is no
+/// Serves what a member says over HTTP until the process is ended, whether it answers or not; where it does not, the next one is asked. An error is a word that is no
 /// endpoint, or the system's: the address is taken or not this machine's.
 pub fn serve_web<
     R: Net<Listener = TcpListener, Stream = TcpStream> + Clock + AllocGlobal + Print + Sync,
     T: Threads + Wait + Sync,
 >(rt: &R, threads: &T, web: &Web<'_>) -> Result<(), Failure> {
     let alloc = rt.alloc();
-    judge(alloc, web.of)?;
+    let of = Addresses::judged(alloc, web.of)?;
     let Some(listen) = read_endpoint(web.listen.as_bytes()) else {
         return Err(Failure::of_address(alloc, "--listen", web.listen));
     };
@@ -69,7 +73,7 @@ pub fn serve_web<
     let known = Mutex::new(Known::new());
     thread::join(
         threads,
-        || follow(rt, threads, web.of, &known),
+        || follow(rt, threads, of, &known),
         || server.serve(rt, threads, &known),
     );
     Ok(())

@@ -2,6 +2,7 @@
 
 ghost use Rattle.std.specs.Prelude.{◌≡◌, [], IfOk};
 
+use super::fakes::who;
 use std::alloc::Global;
 use std::marker::Model;
 use std::test::Fail;
@@ -9,7 +10,7 @@ use swim_disk::MemDisk;
 use swim_member::Event;
 use swim_node::{ApplyFault, MemoryLink, Node, Reply, Status, Tag};
 use swim_scenes::{new_disk, opened};
-use swim_shell::{COUNTERS, Caller, Counters, Observer, Refusal};
+use swim_shell::{COUNTERS, Caller, Counters, Observer, Refusal, Who};
 use swim_trace::Trace;
 
 /// A member with eras of so many entries, which one caller calls, and the link that its datagrams go to.
@@ -93,6 +94,10 @@ impl<const LIMIT: u32> Caller for Direct<LIMIT> {
 impl<const LIMIT: u32> Observer for Direct<LIMIT> {
     fn status(&mut self) -> Option<Status> {
         Some(self.node.status())
+    }
+
+    fn who(&mut self) -> Who {
+        who(0)
     }
 
     fn counters(&mut self) -> Counters {

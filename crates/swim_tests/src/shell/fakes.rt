@@ -2,14 +2,14 @@
 
 ghost use Rattle.std.specs.Prelude.{◌≡◌, ◌≤◌, length};
 
-use arrayvec::ArrayVec;
+use arrayvec::{ArrayString, ArrayVec};
 use std::io::{self, ErrorKind, Read, Write};
 use swim_member::{Event, Note, Phase};
 use swim_node::{Entry, Reply, Save, Status, Tag};
 use swim_scenes::endpoint;
-use swim_shell::{COUNTERS, Caller, Counters, Gate, Observer, Refusal, Turn};
+use swim_shell::{COUNTERS, Caller, Counters, Gate, Observer, Refusal, Turn, VERSION, Who};
 use swim_trace::Trace;
-use swim_wire::{Update, UpdateKind};
+use swim_wire::{Endpoint, Rules, Update, UpdateKind};
 
 /// A gate that answers Go so many times, and then Stop.
 #[derive(Drop)]
@@ -52,6 +52,27 @@ pub(super) enum Said {
     Unread,
 }
 
+/// What the status of a scripted member is, but for its calls, and how many others it has to join.
+#[derive(Clone, Copy, Debug, PartialEq, Eq)]
+pub(super) struct Shown {
+    pub(super) phase: Phase,
+    pub(super) alive: usize,
+    pub(super) suspect: usize,
+    pub(super) listed: usize,
+}
+
+/// 10.0.0.1:7000 of group 7, which lives by rules 2, with so many others to join.
+pub(super) fn who(listed: usize) -> Who {
+    Who {
+        me: Endpoint::new(0x0a00_0001, 7000).unwrap(),
+        group: 7,
+        rules: Rules::Two,
+        version: ArrayString::from(VERSION).unwrap_or(ArrayString::new()),
+        uptime: 3661,
+        listed,
+    }
+}
+
 /// A caller of an era of `LIMIT` calls, which tells what its script says, and then nothing of note.
 #[derive(Drop)]
 pub(super) struct Scripted<const LIMIT: usize> {
@@ -61,6 +82,7 @@ pub(super) struct Scripted<const LIMIT: usize> {
     /// How many calls were answered.
     count: usize,
     is_spent: bool,
+    shows: Shown,
     ghost counted: { length seen ≡ count },
     ghost fits: { count ≤ LIMIT },
 }
@@ -97,7 +119,20 @@ impl<const LIMIT: usize> Scripted<LIMIT> {
             asked: Trace::new(),
             count: 0,
             is_spent: false,
+            shows: Shown {
+                phase: Phase::Running,
+                alive: 3,
+                suspect: 1,
+                listed: 2,
+            },
         }
+    }
+
+    /// Such a caller of a member that shows this.
+    pub(super) fn showing(shows: Shown) -> Self {
+        let mut caller = Scripted::new(&[]);
+        caller.shows = shows;
+        caller
     }
 
     /// How many calls were answered.
@@ -108,10 +143,10 @@ impl<const LIMIT: usize> Scripted<LIMIT> {
     /// The status after the last call.
     fn shown(&self) -> Status {
         Status {
-            phase: Phase::Running,
+            phase: self.shows.phase,
             number: 1,
-            alive: 3,
-            suspect: 1,
+            alive: self.shows.alive,
+            suspect: self.shows.suspect,
             confirmed: 2,
             length: self.count,
         }
@@ -184,6 +219,10 @@ impl<const LIMIT: usize> Observer for Scripted<LIMIT> {
             return None;
         }
         Some(self.shown())
+    }
+
+    fn who(&mut self) -> Who {
+        who(self.shows.listed)
     }
 
     fn counters(&mut self) -> Counters {

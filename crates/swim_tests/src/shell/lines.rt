@@ -1,10 +1,11 @@
 //! Control lines by their bytes.
 
-use super::fakes::{Goes, MOST, Pieces, Said, Scripted, Slow};
+use super::fakes::{Goes, MOST, Pieces, Said, Scripted, Shown, Slow};
 use crate::same::same;
 use arrayvec::ArrayString;
 use std::io::ErrorKind;
 use std::test::Fail;
+use swim_member::Phase;
 use swim_shell::{ControlEnd, Conversation, Refusal, run};
 
 /// A conversation: its input, what the calls tell, what it must answer, and how it must end.
@@ -52,7 +53,7 @@ ok running number 1 alive 3 suspect 1 confirmed 2 length 0
 ";
 
 /// In an era of three calls.
-const TALKS: [Talk; 11] = [
+const TALKS: [Talk; 13] = [
     Talk {
         input: b"status\nsta",
         script: &[],
@@ -108,6 +109,18 @@ const TALKS: [Talk; 11] = [
         end: ControlEnd::Closed,
     },
     Talk {
+        input: b"about\nabouts\n",
+        script: &[],
+        output: b"ok member 10.0.0.1:7000 group 7 rules 2 version 0.1.0 uptime 3661 listed 2 alone no\nerror 1 unknown\n",
+        end: ControlEnd::Closed,
+    },
+    Talk {
+        input: b"leave\nabout\nleave\nabout\n",
+        script: &[Said::Done, Said::Unread],
+        output: b"ok left\nok member 10.0.0.1:7000 group 7 rules 2 version 0.1.0 uptime 3661 listed 2 alone no\nerror 6 unread\n",
+        end: ControlEnd::Refused(Refusal::Unread),
+    },
+    Talk {
         input: b"reload\nstatus\n",
         script: &[],
         output: b"",
@@ -147,6 +160,40 @@ fn control_lines(rt: HostRuntime) -> Result<(), Fail> {
             same(&rt, end, Some(talk.end));
             same(&rt, writer.out(), talk.output);
         }
+    }
+    Ok(())
+}
+
+/// Of a member in a phase, with so many that it holds for alive and for suspected, and so many to join: whether it is alone.
+const ALONE: [(Phase, usize, usize, usize, bool); 7] = [
+    (Phase::Running, 0, 0, 1, true),
+    (Phase::Running, 0, 0, 16, true),
+    (Phase::Running, 0, 0, 0, false),
+    (Phase::Running, 1, 0, 1, false),
+    (Phase::Running, 0, 1, 1, false),
+    (Phase::Left, 0, 0, 1, false),
+    (Phase::Expelled, 0, 0, 1, false),
+];
+
+/// A member is alone that takes part, has others to join, and knows nobody.
+#[test]
+fn alone(rt: HostRuntime) -> Result<(), Fail> {
+    for (phase, alive, suspect, listed, is_alone) in ALONE {
+        let mut writer = Slow::new(MOST, MOST, &[]);
+        let mut caller = Scripted::<1>::showing(Shown {
+            phase,
+            alive,
+            suspect,
+            listed,
+        });
+        let mut conversation = Conversation::new(b"about\n".as_slice(), &mut writer);
+        run(&rt, &mut conversation, &mut caller, &mut Goes { left: 9 });
+        let end = if is_alone {
+            b" alone yes\n".as_slice()
+        } else {
+            b" alone no\n".as_slice()
+        };
+        same(&rt, writer.out().ends_with(end), true);
     }
     Ok(())
 }

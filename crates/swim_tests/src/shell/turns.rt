@@ -12,6 +12,7 @@ use log::span::Spans;
 use log::{Log, Metadata, Record};
 use rand_chacha::ChaCha20Rng;
 use rand_core::SeedableRng;
+use std::alloc::Global;
 use std::fmt::Display;
 use std::io::{self, ErrorKind};
 use std::test::Fail;
@@ -159,6 +160,52 @@ fn turns_by_the_clock(rt: HostRuntime) -> Result<(), Fail> {
     same(&rt, lines.len(), LINES.len());
     for (line, want) in lines.as_slice().iter().zip(LINES) {
         holds(&rt, line.as_str().ends_with(want));
+    }
+    Ok(())
+}
+
+/// After how many seconds a lone member with that list has said how often that nobody answers. It joins each second, and each third one
+/// after ten joins. The fifth join is the first of the third round; the first one after ten minutes more is made at second 606.
+const SILENT: [(u64, usize); 4] = [(3, 0), (4, 1), (605, 1), (606, 2)];
+
+/// How often a joiner of 10.0.0.2:7000 and 10.0.0.5:7000 says within so many seconds that nobody answers.
+fn silences(alloc: Global, seconds: u64) -> Result<usize, Fail> {
+    let mut peers = ArrayVec::new();
+    for last in [2, 5] {
+        let _ = peers.try_push(endpoint(last).ok_or("an endpoint")?);
+    }
+    let mut joiner = joiner_of(peers)?;
+    let mut caller = Direct::<64>::new(alloc)?;
+    let mut desk = Desk {
+        millis: None,
+        is_shown: true,
+        lines: Memory::new(alloc),
+    };
+    for second in 0..seconds.saturating_add(1) {
+        desk.millis = Some(second.saturating_mul(1000));
+        caller.begin_era();
+        let _ = turn(&desk, &mut joiner, &mut caller)?;
+    }
+    let first =
+        "alone: none of 10.0.0.2:7000, 10.0.0.5:7000 has answered 5 joins: are they up, reachable over UDP, of the same group, and with rules 1? They are asked on";
+    let lines = desk.lines.into_lines();
+    let mut told = 0usize;
+    for line in lines.as_slice() {
+        if line.as_str().contains("alone: ") {
+            if told == 0 && !line.as_str().ends_with(first) {
+                return Err("another line".into());
+            }
+            told = told.saturating_add(1);
+        }
+    }
+    Ok(told)
+}
+
+/// That nobody answers is said once two rounds of joins are over, and again after ten minutes.
+#[test]
+fn silence_by_the_clock(rt: HostRuntime) -> Result<(), Fail> {
+    for (seconds, told) in SILENT {
+        same(&rt, silences(rt.alloc(), seconds)?, told);
     }
     Ok(())
 }

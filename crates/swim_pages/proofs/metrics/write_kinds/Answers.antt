@@ -2,7 +2,8 @@ use Rattle.std.proofs.Common.{◌++◌}
 use Rattle.std.specs.Prelude.{codes}
 use Rattle.std.proofs.lemmas.Result.{on_ok_weaker}
 use Rattle.swim_wire.specs.declared.update.UpdateKind.TheVariants.{Alive, Suspect, Confirm}
-use Rattle.swim_pages.specs.Metrics.{gauge_head, kind_sample}
+use Rattle.swim_pages.specs.Gauges.{gauge_head}
+use Rattle.swim_pages.specs.Metrics.{kind_sample}
 use Rattle.swim_pages.proofs.Texts.{and_then}
 use Rattle.swim_pages.proofs.metrics.write_kinds.Goals as goal
 

@@ -86,6 +86,7 @@ returns-clause-said c =
       limit = c.in_ok-limit.ensures.number;
       block = c.in_ok-settings.ensures.block;
       rules = c.in_ok-settings.ensures.rules;
+      has_rules = c.has_key.ensures;
       random_key = c.in_ok-random_key.ensures.bytes;
       join = c.in_ok-join.ensures.places;
       rejoin = rw (← c.of-times.ensures) c.in_ok-rejoin.ensures.number;

@@ -14,4 +14,4 @@ returns-in-None-read_endpoint-2 c =
     no_address c.args.text.now c.in-Some.first.now c.in-Some.word.now c.in-Some.ensures.parts (inl same) c.in-None-read_endpoint-2.ensures.none
 
 pub returns-else-eq-2 : goal.returns-else-eq-2
-returns-else-eq-2 c = unknown_split c.args.text.now c.in-Some.first.now c.in-Some.word.now c.requires.status c.requires.members c.requires.leave c.requires.stop c.requires.renew c.requires.counters c.requires.reload c.in-Some.ensures.parts c.in-Some.ensures.first (search rules) (search rules)
+returns-else-eq-2 c = unknown_split c.args.text.now c.in-Some.first.now c.in-Some.word.now c.requires.status c.requires.members c.requires.leave c.requires.stop c.requires.renew c.requires.counters c.requires.reload c.requires.about c.in-Some.ensures.parts c.in-Some.ensures.first (search rules) (search rules)
