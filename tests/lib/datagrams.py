@@ -47,9 +47,9 @@ def endpoint_in(data):
     return Endpoint(socket.inet_ntoa(data[:4]), struct.unpack(">H", data[4:6])[0])
 
 
-def encode(datagram):
+def encode(datagram, rules=1):
     count = len(datagram.updates)
-    head = struct.pack(">4sBBBBQI", b"SWIM", 1, datagram.kind, count, 0, datagram.group, datagram.sequence)
+    head = struct.pack(">4sBBBBQI", b"SWIM", rules, datagram.kind, count, 0, datagram.group, datagram.sequence)
     updates = (struct.pack(">BB6sQ", kind, 0, six_bytes(who), number) for kind, who, number in datagram.updates)
     return head + six_bytes(datagram.sender) + six_bytes(datagram.subject) + b"".join(updates)
 

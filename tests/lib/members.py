@@ -52,7 +52,7 @@ class Member:
         self.file = PLACE.folder / f"{name}.state"
         self.config = PLACE.folder / f"{name}.toml"
         self.log = PLACE.folder / f"{name}.log"
-        self.keys = {"file": self.file, "group": GROUP, "me": self.me, "control": self.control, "tick_ms": 20, **keys}
+        self.keys = {"file": self.file, "group": GROUP, "me": self.me, "control": self.control, "tick_ms": 20, "rules": 1, **keys}
         self.process = None
 
     def init(self):

@@ -107,7 +107,7 @@ HINTS = (
     (r"settings refused .+", "SETTINGS.md says what each key takes; `swim run --show-settings FILE` tries a file and starts nothing"),
     (
         r"file refused",
-        'if a state file is lost, see "A lost state file" in OPERATIONS.md before any `swim init`',
+        'where another process has it, this member runs already: `swim status` asks it. If a state file is lost, see "A lost state file" in OPERATIONS.md before any `swim init`',
     ),
     (
         r"socket refused",

@@ -9,6 +9,7 @@ from lib.trials import expect, expect_true
 
 NAME = re.compile(r"life-(\d{7,})-era-(\d{6,})\.recording")
 PART = re.compile(r"\.life-(\d{7,})-era-(\d{6,})\.recording\.part")
+CLOCK = re.compile(r"clock (0|[1-9]\d*) (0|[1-9]\d*) (0|[1-9]\d*)")
 PHASES = ("running", "left", "expelled")
 EVENTS = ("deal", "recv", "recvfail", "sendfail", "join", "leave", "members")
 
@@ -19,10 +20,12 @@ def endpoint(text):
 
 
 class Recording(NamedTuple):
-    """One era: its life, its place in it, the lines of where it began, and its calls, each the lines before its event and that."""
+    """One era: its life, its place in it, when it began and ended in milliseconds since 1970, its tick's length, the lines of where it
+    began, and its calls, each the lines before its event and that."""
 
     life: int
     era: int
+    clock: tuple
     begun: list
     calls: list
 
@@ -43,8 +46,10 @@ def read_recording(path):
     expect_true(name, f"{path.name} is no name of a recording")
     text = path.read_bytes().decode("ascii")
     expect_true(text.endswith("\n"), f"{path.name} ends in the midst of a line")
-    head, *lines = text[:-1].split("\n")
-    expect_true(head == "recording 1", f"{path.name} begins with {head!r}")
+    head, second, *lines = text[:-1].split("\n")
+    expect_true(head == "recording 2", f"{path.name} begins with {head!r}")
+    clock = CLOCK.fullmatch(second)
+    expect_true(clock, f"the second line of {path.name} is {second!r}")
     start = next((at for at, line in enumerate(lines) if line.split()[0] in PHASES), None)
     expect_true(start is not None, f"{path.name} does not say where the era began")
     calls, call = [], []
@@ -54,7 +59,7 @@ def read_recording(path):
             calls.append(call)
             call = []
     expect_true(not call, f"{path.name} ends in the midst of a call")
-    return Recording(int(name[1]), int(name[2]), lines[: start + 1], calls)
+    return Recording(int(name[1]), int(name[2]), tuple(map(int, clock.groups())), lines[: start + 1], calls)
 
 
 def paths_in(folder):

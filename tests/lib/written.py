@@ -20,9 +20,25 @@ class Times(NamedTuple):
     limit: int = 65536
 
 
-def beginning(me, rows, times=Times(), rules=1, number=1, time=0, seq=1):
-    """The lines of a running member that knows these rows, as (endpoint, kind, number, since), and waits for nothing."""
-    yield "recording 1"
+class EraTime(NamedTuple):
+    """When an era began and ended, in milliseconds since 1970, and how long a tick is to be."""
+
+    begun: int
+    ended: int
+    tick: int = 100
+
+    def moment(self, ticks):
+        """When so many ticks had counted, as far as the recording says."""
+        counted = self.begun + ticks * self.tick
+        return min(counted, self.ended) if self.begun < self.ended else counted
+
+
+def beginning(me, rows, times=Times(), rules=1, number=1, time=0, seq=1, era=None):
+    """The lines of a running member that knows these rows, as (endpoint, kind, number, since), and waits for nothing. `era` says when
+    that was."""
+    yield "recording 2" if era else "recording 1"
+    if era:
+        yield f"clock {' '.join(map(str, era))}"
     yield f"member {GROUP} {me} 3 {rules}"
     yield f"times {' '.join(map(str, times))}"
     for who, kind, its_number, since in rows:

@@ -7,14 +7,24 @@
  *     calls fail                each write and sync of a life is failed once: no life says a number of an earlier one, and none
  *                               allocates after its opening
  *     calls order               each turn probes each other member once, in an order that the random words give
+ *     calls make                a making that is killed at any moment leaves its path whole or not there
+ *     calls fork                a handle that was open is refused in the child of a fork, which may close it
+ *     calls threads             calls of four threads on one handle: whoever meets another is told, and nothing breaks
  *     calls random SEED COUNT   random calls with random bytes
  */
 #include "swim.h"
 
 #include <errno.h>
+#include <fcntl.h>
+#include <glob.h>
+#include <pthread.h>
+#include <sched.h>
+#include <signal.h>
 #include <stdio.h>
 #include <stdlib.h>
 #include <string.h>
+#include <sys/wait.h>
+#include <time.h>
 #include <unistd.h>
 
 static int wrong, made;
@@ -77,6 +87,7 @@ int __wrap_fsync(int fd) {
 /* What is sent to a member. */
 
 #define ME_PORT 7801
+#define MAKES 300
 #define LOOPBACK 0x7f000001u
 
 static const struct swim_endpoint peer = {LOOPBACK, 7802};
@@ -196,6 +207,22 @@ static void misuse(void) {
     SETTING(helpers, 4294967295u, SWIM_BAD_HELPERS);
     SETTING(block, 0, SWIM_BAD_BLOCK);
     SETTING(rules, 3, SWIM_BAD_RULES);
+    SETTING(address, 0, SWIM_BAD_ADDRESS);
+    SETTING(address, 0xffffffffu, SWIM_BAD_ADDRESS);
+    SETTING(address, 0xe0000000u, SWIM_BAD_ADDRESS);
+    SETTING(address, 0xefffffffu, SWIM_BAD_ADDRESS);
+    SETTING(reserved[0], 1, SWIM_BAD_RESERVED);
+    SETTING(reserved[29], 255, SWIM_BAD_RESERVED);
+    for (uint32_t *address = (uint32_t[]){1, 0xdfffffffu, 0xf0000000u, 0xfffffffeu, 0}; *address != 0; address++) {
+        struct swim_settings s = sound();
+        s.address = *address;
+        want("an address", swim_open_memory(&m, &s, 1), SWIM_OK);
+        want("close", swim_close(&m), SWIM_OK);
+    }
+    settings.address = 0;
+    want("make without an address", swim_make(path, &settings), SWIM_BAD_ADDRESS);
+    settings.address = LOOPBACK;
+    holds(access(path, F_OK) != 0, "and nothing is left");
     want("limit 0", swim_open_memory(&m, &settings, 0), SWIM_OPEN_LIMIT);
     want("limit great", swim_open_memory(&m, &settings, SWIM_LIMIT_MAX + 1), SWIM_OPEN_LIMIT);
     want("bad descriptor", swim_open_descriptor(&m, -1, &settings, 1), SWIM_FILE);
@@ -203,7 +230,15 @@ static void misuse(void) {
     want("no file", swim_open(&m, path, &settings, 1), SWIM_FILE);
     holds(errno == ENOENT, "errno says that there is no file");
     want("no folder", swim_make("no/folder/misuse.state", &settings), SWIM_FILE);
+    errno = 77;
     want("make", swim_make(path, &settings), SWIM_OK);
+    holds(errno == 77, "what is done leaves errno as it was");
+    for (int *flags = (int[]){O_RDONLY, O_WRONLY, O_RDWR | O_APPEND, -1}; *flags != -1; flags++) {
+        int fd = open(path, *flags);
+        want("open a descriptor that would not do", swim_open_descriptor(&m, fd, &settings, 1), SWIM_BAD_DESCRIPTOR);
+        want("make on it", swim_make_state(fd, &settings), SWIM_BAD_DESCRIPTOR);
+        close(fd);
+    }
     want("make again", swim_make(path, &settings), SWIM_FILE);
     holds(errno == EEXIST, "errno says that something is there");
     settings.group = 8;
@@ -218,13 +253,16 @@ static void misuse(void) {
     want("next of none", swim_next_datagram(&m, &to, bytes, sizeof bytes, &n), SWIM_NOTHING);
     holds(n == 77 && to.port == 2, "NOTHING writes nothing");
     want("join no endpoint", swim_join(&m, none), SWIM_NO_ENDPOINT);
-    want("receive no endpoint", swim_receive(&m, none, bytes, 1), SWIM_NO_ENDPOINT);
+    want("receive from port 0", swim_receive(&m, none, noise, 600), SWIM_OK);
+    want("it is no event", swim_notes(&m, notes, &n), SWIM_OK);
+    holds(n == 0, "and notes nothing");
     want("receive null bytes", swim_receive(&m, peer, NULL, 1), SWIM_NULL);
     want("receive nothing", swim_receive(&m, peer, NULL, 0), SWIM_OK);
     want("receive noise", swim_receive(&m, peer, noise, sizeof noise), SWIM_OK);
     want("notes", swim_notes(&m, notes, &n), SWIM_OK);
     holds(n == 1 && notes[0] == 1, "one note, BadDatagram");
     want("join", swim_join(&m, peer), SWIM_OK);
+    want("receive from port 0 while waiting", swim_receive(&m, none, noise, 3), SWIM_OK);
     want("tick while waiting", swim_tick(&m, 1), SWIM_WAITING);
     want("join while waiting", swim_join(&m, peer), SWIM_WAITING);
     want("leave while waiting", swim_leave(&m), SWIM_WAITING);
@@ -271,7 +309,10 @@ static void misuse(void) {
     want("close it", swim_close(&m), SWIM_OK);
     holds(live == 0, "all memory is given back");
     for (int code = -1; code < 64; code++)
-        holds(strlen(swim_name(code)) > 0 && strlen(swim_text(code)) > 0, "each code has a name and a text");
+        holds(strlen(swim_name(code)) > 0 && strlen(swim_text(code)) > 0 && strlen(swim_note_name(code)) > 0,
+              "each code has a name and a text, and each note a name");
+    holds(strcmp(swim_note_name(SWIM_NOTE_OTHER_VERSION), "OtherVersion") == 0, "the last note's name");
+    holds(strcmp(swim_note_name(SWIM_NOTE_STOPPED), "Stopped") == 0, "a note's name in the middle");
     unlink(path);
 }
 
@@ -405,7 +446,7 @@ static int one_call(struct swim_member *m) {
     uint8_t bytes[700], notes[SWIM_NOTES_MAX];
     struct swim_endpoint to, peers[SWIM_PEERS_MAX];
     struct swim_row rows[SWIM_MEMBERS_MAX];
-    struct swim_status status = {0, 0, 0, 0, 0, 0};
+    struct swim_status status = {0};
     struct swim_settings settings = sound();
     size_t n = 0;
     int code;
@@ -499,6 +540,129 @@ static void order(void) {
     holds(memcmp(first, first + OTHERS, OTHERS * sizeof *first) != 0, "the next turn has another order");
 }
 
+/* A making that is killed at any moment, and then the opening of what it left. */
+static void make(void) {
+    const struct swim_settings settings = sound();
+    const char *path = "killed.state";
+    int whole = 0;
+    uint64_t longest = 1;
+    struct timespec began, ended;
+    state = 1;
+    unlink(path);
+    clock_gettime(CLOCK_MONOTONIC, &began);
+    want("a making", swim_make(path, &settings), SWIM_OK);
+    clock_gettime(CLOCK_MONOTONIC, &ended);
+    longest += (uint64_t)((ended.tv_sec - began.tv_sec) * 1000000 + (ended.tv_nsec - began.tv_nsec) / 1000) * 3;
+    for (int i = 0; i < MAKES; i++) {
+        struct swim_member m = SWIM_CLOSED_MEMBER;
+        glob_t left;
+        unlink(path);
+        pid_t child = fork();
+        if (child == 0)
+            _exit(swim_make(path, &settings));
+        usleep((useconds_t)below(longest));
+        kill(child, SIGKILL);
+        waitpid(child, NULL, 0);
+        if (access(path, F_OK) == 0) {
+            whole++;
+            want("what is there opens", swim_open(&m, path, &settings, 1), SWIM_OK);
+            want("close", swim_close(&m), SWIM_OK);
+        } else {
+            want("what is not there is made", swim_make(path, &settings), SWIM_OK);
+        }
+        if (glob("killed.state.*", 0, NULL, &left) == 0)
+            for (size_t n = 0; n < left.gl_pathc; n++)
+                unlink(left.gl_pathv[n]);
+        globfree(&left);
+    }
+    unlink(path);
+    printf("%d of %d makings that were killed had been whole\n", whole, MAKES);
+}
+
+/* The child says by its status which calls did not answer SWIM_FORKED. It closes once it is told. */
+static int be_child(struct swim_member *m, int told) {
+    struct swim_endpoint to, peers[SWIM_PEERS_MAX];
+    struct swim_status status;
+    uint8_t bytes[SWIM_DATAGRAM_MAX];
+    size_t n;
+    char byte;
+    int codes[] = {
+        swim_tick(m, 1), swim_receive(m, peer, bytes, 0), swim_receive_failed(m), swim_send_failed(m, 1), swim_join(m, peer),
+        swim_leave(m), swim_next_datagram(m, &to, bytes, sizeof bytes, &n), swim_members(m, NULL, 0, &n),
+        swim_get_status(m, &status), swim_notes(m, bytes, &n), swim_stored_peers(m, peers, &n), swim_keep_peers(m),
+    };
+    for (size_t i = 0; i < sizeof codes / sizeof *codes; i++)
+        if (codes[i] != SWIM_FORKED)
+            return 10 + (int)i;
+    if (read(told, &byte, 1) != 1)
+        return 2;
+    return swim_close(m) != SWIM_OK || swim_tick(m, 1) != SWIM_CLOSED || swim_open_memory(m, &(struct swim_settings){0}, 1) == 0;
+}
+
+static void fork_once(void) {
+    struct swim_settings settings = sound();
+    struct swim_member m = SWIM_CLOSED_MEMBER, again = SWIM_CLOSED_MEMBER;
+    const char *path = "fork.state";
+    int tell[2], status = -1;
+    unlink(path);
+    want("make", swim_make(path, &settings), SWIM_OK);
+    want("open", swim_open(&m, path, &settings, 1), SWIM_OK);
+    holds(pipe(tell) == 0, "a pipe");
+    pid_t child = fork();
+    if (child == 0)
+        _exit(be_child(&m, tell[0]));
+    want("the parent goes on", swim_tick(&m, 1), SWIM_OK);
+    want("the parent ends", swim_close(&m), SWIM_OK);
+    want("the child still has the file", swim_open(&again, path, &settings, 1), SWIM_LOCKED);
+    holds(write(tell[1], "", 1) == 1, "the child is told to close");
+    waitpid(child, &status, 0);
+    want("what the child was answered", WEXITSTATUS(status), 0);
+    want("then it opens", swim_open(&again, path, &settings, 1), SWIM_OK);
+    want("close", swim_close(&again), SWIM_OK);
+    unlink(path);
+}
+
+static void *use(void *given) {
+    struct swim_member *m = given;
+    struct swim_row rows[SWIM_MEMBERS_MAX];
+    struct swim_endpoint to;
+    uint8_t bytes[SWIM_DATAGRAM_MAX];
+    size_t n;
+    static long by_code[64];
+    for (int i = 0; i < 20000; i++) {
+        int code = i % 4 == 0   ? swim_tick(m, (uint64_t)i)
+                   : i % 4 == 1 ? swim_join(m, peer)
+                   : i % 4 == 2 ? swim_next_datagram(m, &to, bytes, sizeof bytes, &n)
+                                : swim_members(m, rows, SWIM_MEMBERS_MAX, &n);
+        __atomic_fetch_add(&by_code[code & 63], 1, __ATOMIC_RELAXED);
+        if (code == SWIM_BUSY)
+            sched_yield();
+    }
+    return by_code;
+}
+
+static void threads(void) {
+    struct swim_settings settings = sound();
+    struct swim_member m = SWIM_CLOSED_MEMBER;
+    pthread_t all[4];
+    void *found = NULL;
+    long known = 0;
+    want("open", swim_open_memory(&m, &settings, 1), SWIM_OK);
+    for (int i = 0; i < 4; i++)
+        holds(pthread_create(&all[i], NULL, use, &m) == 0, "a thread");
+    for (int i = 0; i < 4; i++)
+        pthread_join(all[i], &found);
+    long *by_code = found;
+    for (int *code = (int[]){SWIM_BUSY, SWIM_WAITING, SWIM_NOTHING, SWIM_OK, -1}; *code != -1; code++) {
+        known += by_code[*code];
+        printf("%s %ld\n", swim_name(*code), by_code[*code]);
+    }
+    holds(known == 80000 && by_code[SWIM_OK] > 0, "each call was made, or told why not");
+    holds(m.busy == 0, "the handle is free");
+    want("close", swim_close(&m), SWIM_OK);
+    holds(live == 0, "all memory is given back");
+}
+
 static void random_calls(uint64_t seed, long count) {
     struct swim_member m = SWIM_CLOSED_MEMBER;
     long by_code[64] = {0};
@@ -524,6 +688,12 @@ int main(int argc, char **argv) {
         fail();
     else if (argc >= 2 && strcmp(argv[1], "order") == 0)
         order();
+    else if (argc >= 2 && strcmp(argv[1], "make") == 0)
+        make();
+    else if (argc >= 2 && strcmp(argv[1], "fork") == 0)
+        fork_once();
+    else if (argc >= 2 && strcmp(argv[1], "threads") == 0)
+        threads();
     else if (argc == 4 && strcmp(argv[1], "random") == 0)
         random_calls(strtoull(argv[2], NULL, 10), atol(argv[3]));
     else
