@@ -70,7 +70,7 @@ def command_section(help):
 def page_of(program, date, command):
     """The page of one command."""
     help = help_of(program, command)
-    name, version = said(program, "--version").split()
+    name, version = said(program, "--version").split()[:2]
     lines = [f'.TH {name.upper()}-{command.upper()} 1 {date} "{name} {version}"', ".SH NAME"]
     lines += [rf"{name}\-{command} \- {spelled(help.about)}", ".SH SYNOPSIS", f".B {spelled(help.usage)}"]
     for heading, pairs in help.lists.items():
@@ -90,7 +90,7 @@ def pages_of_commands(program, date):
 def manual(program, date, documents):
     """The page of the whole. `documents` are the paths and the titles of what is installed beside it."""
     whole = help_of(program)
-    name, version = said(program, "--version").split()
+    name, version = said(program, "--version").split()[:2]
     lines = [f'.TH {name.upper()} 1 {date} "{name} {version}"']
     lines += [".SH NAME", rf"{name} \- {spelled(whole.about)}", ".SH SYNOPSIS", f".B {spelled(whole.usage)}", ".SH COMMANDS"]
     for command, about in commands_in(whole):

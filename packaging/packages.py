@@ -79,6 +79,23 @@ def packed(tree, into):
     return shutil.copy(made, into / made.name)
 
 
+def is_proved(program, crate):
+    """Whether it is the program that `rt run` or `rt ci` has left in the crate once all was proved, and none of its sources is newer."""
+    left = crate / "out" / crate.name
+    sources = (path for folder in ("src", "specs") for path in crate.parent.glob(f"*/{folder}/**/*") if path.is_file())
+    if not left.is_file() or program.read_bytes() != left.read_bytes():
+        return False
+    return max(path.stat().st_mtime for path in sources) <= left.stat().st_mtime
+
+
+def build_note(program, crate):
+    """The file `share/swim/build`: of which commit the program is, by which kit, and whether it is proved. `swim --version` prints it."""
+    commit = output("git", "log", "-1", "--format=%H")[:12]
+    changed = " with changes" if output("git", "status", "--porcelain", "--untracked-files=no", "--", "crates", "crates.txt") else ""
+    proved = "proved" if is_proved(program, crate) else "NOT PROVED"
+    return f"commit {commit}{changed}, {output('rt', 'version')}, {proved}\n"
+
+
 def commit_time():
     """The time of the commit, which files in a package have."""
     return os.environ.setdefault("SOURCE_DATE_EPOCH", output("git", "log", "-1", "--format=%ct"))
