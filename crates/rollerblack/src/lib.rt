@@ -92,8 +92,7 @@
 //! # Over UDP
 //!
 //! `run_over_udp` gives a member workers on threads of their own: one takes datagrams, one ticks, one sends, and one answers control
-//! lines and joins other members. It ends by the control line `stop`, by a fault, or where its settings are refused. The state file
-//! is one that `swim init` or `init` has made; `open_locked` keeps other processes from it.
+//! lines and joins other members. It ends by the control line `stop` or by a fault. The state file is one that `swim init` or `init` has made; `open_locked` keeps other processes from it.
 //!
 //! ```text
 //! /// Runs a member of group 7 on its state file. An error is what was refused.

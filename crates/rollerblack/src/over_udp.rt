@@ -17,7 +17,7 @@ use std::thread::Threads;
 use std::time::{Clock, Duration};
 use swim_disk::Disk;
 use swim_member::{Settings, SettingsFault};
-use swim_net::{SocketAlarm, Sockets, Waits, address_of, bind_datagrams};
+use swim_net::{SocketAlarm, Sockets, Waits, address_of, bind_datagrams, wait_of};
 use swim_node::{Node, OpenFault};
 use swim_serve::{DoorsAndChores, EndedMember, Joins, NoChores, Outside, Setup, run_member};
 use swim_shell::{LIST_MAX, Paces};
@@ -29,11 +29,11 @@ const USUAL_LIMIT: u32 = 256;
 /// How long a tick lasts in milliseconds, if nothing else is said.
 const USUAL_TICK_MILLIS: u64 = 100;
 
+/// To how many others a member introduces itself, if nothing else is said.
+const USUAL_INTRODUCE: u32 = 16;
+
 /// After how many ticks a member joins one that it draws, if nothing else is said.
 const USUAL_REJOIN: u64 = 300;
-
-/// No socket waits longer, in milliseconds.
-const WAIT_MAX_MILLIS: u64 = 1000;
 
 /// What a member over UDP begins with.
 #[derive(Drop)]
@@ -48,6 +48,8 @@ pub struct OverUdp {
     pub join: ArrayVec<Endpoint, LIST_MAX>,
     /// After how many ticks it joins a member that it draws: 1,000,000 at most; 0 for never.
     pub rejoin: u64,
+    /// To how many others it introduces itself at most, once somebody has answered it.
+    pub introduce: u32,
 }
 
 impl OverUdp {
@@ -57,6 +59,7 @@ impl OverUdp {
         ensures settings { result.settings ≡ settings }
         ensures tick { result.tick_ms ≡ USUAL_TICK_MILLIS }
         ensures rejoin { result.rejoin ≡ USUAL_REJOIN }
+        ensures introduce { result.introduce ≡ USUAL_INTRODUCE }
         ensures limit { result.limit ≡ USUAL_LIMIT }
         ensures join { result.join.items ≡ [] }
     {
@@ -66,6 +69,7 @@ impl OverUdp {
             tick_ms: USUAL_TICK_MILLIS,
             join: ArrayVec::new(),
             rejoin: USUAL_REJOIN,
+            introduce: USUAL_INTRODUCE,
         }
     }
 }
@@ -101,7 +105,7 @@ where
     T: Clock,
     ensures { IfErr result IsOfSystem }
 {
-    let wait = Duration::from_millis(member.tick_ms.min(WAIT_MAX_MILLIS));
+    let wait = wait_of(member.tick_ms);
     let at = address_of(member.settings.me);
     let datagrams = match bind_datagrams(rt, logged, rt.alloc(), at, wait) {
         Ok(datagrams) => datagrams,
@@ -148,6 +152,7 @@ where
         tick_ms,
         join,
         rejoin,
+        introduce,
         ..
     } = member;
     let setup = Setup {
@@ -156,7 +161,7 @@ where
         tick: Duration::from_millis(tick_ms),
         joins: Joins {
             peers: join,
-            paces: Paces::of(&settings, rejoin, tick_ms),
+            paces: Paces::of(&settings, introduce, rejoin, tick_ms),
         },
         key,
         expelled_ends: None,
@@ -174,8 +179,8 @@ where
     }
 }
 
-/// Runs a member over UDP on its state file, in threads of its own, until a control connection at this listener says `stop`, a fault
-/// ends it, or its settings are refused. It begins with a number above all that it may have sent before. What it answers at the control
+/// Runs a member over UDP on its state file, in threads of its own, until a control connection at this listener says `stop` or a fault
+/// ends it. It begins with a number above all that it may have sent before. What it answers at the control
 /// socket, and what it logs, is what `swim run` does. An error is why it did not start; a start without sockets spends no number.
 /// The disk is left in any case: in the node, or beside the error.
 pub fn run_over_udp<D, R, T>(

@@ -31,5 +31,6 @@ taken_range key.Limit = Some (record { least = 1; most = LIMIT_MAX })
 taken_range key.Block = Some (record { least = 1; most = BLOCK_MAX })
 taken_range key.Rules = Some (record { least = 1; most = 2 })
 taken_range key.Rejoin = Some (record { least = 0; most = 1000000 })
+taken_range key.Introduce = Some (record { least = 0; most = 256 })
 taken_range key.RecordEras = Some (record { least = 1; most = 1000 })
 taken_range _ = None

@@ -50,6 +50,7 @@ impl Takes {
             Key::RandomKey => Takes::Text("64 hex digits"),
             Key::Join => Takes::List("endpoints, or host names with a port, at most 8"),
             Key::Rejoin => Takes::Ticks(0, 1_000_000),
+            Key::Introduce => Takes::Number(0, 256),
             Key::Expelled => Takes::Text("\"stay\" or \"end\""),
             Key::Record => Takes::Text("the path of a folder"),
             Key::RecordEras => Takes::Number(1, 1000),

@@ -80,7 +80,7 @@ impl<'a, C: Clock> Doors for TcpDoors<'a, C> {
     }
 
     /// One that the system refused to give is asked for again after the wait.
-    fn wait(&mut self) {
-        self.waits.wait(self.clock, self.wait);
+    fn wait(&mut self, most: Duration) {
+        self.waits.wait(self.clock, self.wait.min(most));
     }
 }

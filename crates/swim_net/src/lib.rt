@@ -16,6 +16,6 @@ pub use connection::{ConnectionReader, ConnectionWriter};
 pub use control_socket::OutgoingStream;
 pub use doors::TcpDoors;
 pub use hosts::first_address;
-pub use sockets::{BoundDatagrams, Sockets};
+pub use sockets::{BoundDatagrams, Sockets, wait_of};
 pub use udp::{UdpInbound, UdpLink, address_of, bind_datagrams, endpoint_of, take};
 pub use waits::{SocketAlarm, Waits};

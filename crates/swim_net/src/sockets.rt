@@ -10,6 +10,16 @@ use std::io;
 use std::net::TcpListener;
 use std::time::{Clock, Duration};
 
+/// No socket waits longer, in milliseconds.
+const WAIT_MAX_MILLIS: u64 = 1000;
+
+/// How long a member's sockets wait at most, whose tick is so long: one tick, or a second if that is less.
+pub fn wait_of(tick_millis: u64) -> Duration
+    ensures { as_nanos result ≡ min tick_millis WAIT_MAX_MILLIS * 1000000 }
+{
+    Duration::from_millis(tick_millis.min(WAIT_MAX_MILLIS))
+}
+
 /// The control socket waits no longer, in milliseconds, so that a connection whose second is over ends soon.
 const DOORS_WAIT_MAX_MILLIS: u64 = 250;
 

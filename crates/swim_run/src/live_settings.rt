@@ -127,6 +127,7 @@ impl<'a, T: Threads + Wait + Log + Clock + Copy> LiveSettings<'a, T> {
             as_nanos result.paces.answer ≡ lasting told.settings.direct told.tick_ms }
         ensures period { let told = self.now.told in
             as_nanos result.paces.period ≡ lasting told.settings.period told.tick_ms }
+        ensures introduce { result.paces.introduce ≡ self.now.told.introduce }
         ensures rejoin { let told = self.now.told in option_map as_nanos result.paces.rejoin
             ≡ cond (told.rejoin == 0) None (Some (lasting told.rejoin told.tick_ms)) }
     {
@@ -135,7 +136,7 @@ impl<'a, T: Threads + Wait + Log + Clock + Copy> LiveSettings<'a, T> {
         let listed = self.handed.listing.lock(self.around.logged).endpoints();
         Joins {
             peers: peers_of(settings.me, listed.as_slice(), stored.as_slice()),
-            paces: Paces::of(settings, told.rejoin, told.tick_ms),
+            paces: Paces::of(settings, told.introduce, told.rejoin, told.tick_ms),
         }
     }
 

@@ -1,26 +1,13 @@
 //! What a running member holds of the network.
 
-ghost use Rattle.std.specs.Prelude.{◌≡◌, ◌*◌, min};
-ghost use Rattle.std.specs.Duration.{as_nanos};
-
 use std::alloc::Global;
 use std::io;
 use std::net::{Net, SocketAddr, TcpListener, TcpStream};
-use std::time::{Clock, Duration};
+use std::time::Clock;
 use swim_ending::{Ending, Failure};
-use swim_net::{SocketAlarm, Sockets, Waits, address_of, bind_datagrams};
+use swim_net::{SocketAlarm, Sockets, Waits, address_of, bind_datagrams, wait_of};
 use swim_settings::RunSettings;
 use swim_wire::Endpoint;
-
-/// No socket waits longer, in milliseconds.
-const WAIT_MAX_MILLIS: u64 = 1000;
-
-/// How long a socket waits at most: one tick, or a second if that is less.
-fn wait_of(tick_millis: u64) -> Duration
-    ensures { as_nanos result ≡ min tick_millis WAIT_MAX_MILLIS * 1000000 }
-{
-    Duration::from_millis(tick_millis.min(WAIT_MAX_MILLIS))
-}
 
 /// The address that the others reach this member by. A machine binds the unspecified one and those of multicast too, but a
 /// datagram that is sent there does not come back to this member alone.

@@ -1,5 +1,6 @@
 //! What the desk's thread does beside its connections.
 
+use std::time::Duration;
 use swim_shell::Doors;
 
 /// What a member has to see to beside its calls. Nothing of it waits for long, since the desk's connections wait meanwhile.
@@ -50,8 +51,8 @@ impl<O: Doors, H> Doors for DoorsAndChores<O, H> {
         self.doors.next()
     }
 
-    fn wait(&mut self) {
-        self.doors.wait();
+    fn wait(&mut self, most: Duration) {
+        self.doors.wait(most);
     }
 }
 

@@ -169,7 +169,7 @@ impl<W: Log + Clock + Drop, O: Doors + Chores + Drop> Desk<W, O> {
             × (self.new.joiner ≡ self.old.joiner) }
     {
         if self.silent >= self.others.len() {
-            self.doors.wait();
+            self.doors.wait(self.joiner.idle_rest());
             self.silent = 0;
             return None;
         }

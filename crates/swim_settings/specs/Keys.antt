@@ -5,8 +5,8 @@ use Rattle.swim_settings.specs.declared.key.Key.TheVariants.{File, Group, Me, Co
 use Rattle.swim_settings.specs.declared.key.Key.TheVariants.{Preset, TickMs}
 use Rattle.swim_settings.specs.declared.key.Key.TheVariants.{Lambda, Period, Direct, Suspect}
 use Rattle.swim_settings.specs.declared.key.Key.TheVariants.{Forget, Helpers, Limit, Block, Rules}
-use Rattle.swim_settings.specs.declared.key.Key.TheVariants.{RandomKey, Join, Rejoin, Expelled}
-use Rattle.swim_settings.specs.declared.key.Key.TheVariants.{Record, RecordEras, Log}
+use Rattle.swim_settings.specs.declared.key.Key.TheVariants.{RandomKey, Join, Rejoin, Introduce}
+use Rattle.swim_settings.specs.declared.key.Key.TheVariants.{Expelled, Record, RecordEras, Log}
 
 -- the key as a file has it
 abbrev pub key_text : Key → List ℕ
@@ -28,6 +28,7 @@ key_text Rules = codes "rules"
 key_text RandomKey = codes "random_key"
 key_text Join = codes "join"
 key_text Rejoin = codes "rejoin"
+key_text Introduce = codes "introduce"
 key_text Expelled = codes "expelled"
 key_text Record = codes "record"
 key_text RecordEras = codes "record_eras"
@@ -36,8 +37,8 @@ key_text Log = codes "log"
 -- all keys, in the order in which a refused one is looked for
 abbrev pub keys : List Key
 keys = File ∷ Group ∷ Me ∷ Control ∷ Preset ∷ TickMs ∷ Lambda ∷ Period ∷ Direct ∷ Suspect ∷ Forget
-    ∷ Helpers ∷ Limit ∷ Block ∷ Rules ∷ RandomKey ∷ Join ∷ Rejoin ∷ Expelled ∷ Record ∷ RecordEras
-    ∷ Log ∷ []
+    ∷ Helpers ∷ Limit ∷ Block ∷ Rules ∷ RandomKey ∷ Join ∷ Rejoin ∷ Introduce ∷ Expelled ∷ Record
+    ∷ RecordEras ∷ Log ∷ []
 
 -- how many keys come before it
 abbrev pub key_place : Key → ℕ
@@ -59,10 +60,11 @@ key_place Rules = 14
 key_place RandomKey = 15
 key_place Join = 16
 key_place Rejoin = 17
-key_place Expelled = 18
-key_place Record = 19
-key_place RecordEras = 20
-key_place Log = 21
+key_place Introduce = 18
+key_place Expelled = 19
+key_place Record = 20
+key_place RecordEras = 21
+key_place Log = 22
 
 -- the keys before it
 abbrev pub keys_before : Key → List Key

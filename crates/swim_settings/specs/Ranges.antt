@@ -12,5 +12,6 @@ pub record AreInRange (run : RunSettings) : Type 0 where
   pub limit_low : 1 ≤ run.limit
   pub limit_high : run.limit ≤ 65536
   pub rejoin_high : run.rejoin ≤ 1000000
+  pub introduce_high : run.introduce ≤ 256
   pub record_eras_low : 1 ≤ run.record_eras
   pub record_eras_high : run.record_eras ≤ 1000

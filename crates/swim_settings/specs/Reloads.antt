@@ -12,6 +12,7 @@ use Rattle.swim_settings.specs.Shown.{shown_number, shown_text}
 abbrev pub is_taken_anew : Key → Bool
 is_taken_anew key.Join = true
 is_taken_anew key.Rejoin = true
+is_taken_anew key.Introduce = true
 is_taken_anew key.Record = true
 is_taken_anew key.RecordEras = true
 is_taken_anew key.Log = true
@@ -23,6 +24,7 @@ abbrev pub taken_anew : RunSettings → RunSettings → RunSettings
 taken_anew now then = record now {
   join = then.join;
   rejoin = then.rejoin;
+  introduce = then.introduce;
   record_folder = then.record_folder;
   record_eras = then.record_eras;
   log = then.log;

@@ -17,8 +17,8 @@ use Rattle.swim_settings.specs.declared.key.Key.TheVariants.{File, Group, Me, Co
 use Rattle.swim_settings.specs.declared.key.Key.TheVariants as key
 use Rattle.swim_settings.specs.declared.key.Key.TheVariants.{Lambda, Period, Direct, Suspect}
 use Rattle.swim_settings.specs.declared.key.Key.TheVariants.{Forget, Helpers, Limit, Block, Rules}
-use Rattle.swim_settings.specs.declared.key.Key.TheVariants.{RandomKey, Join, Rejoin, Expelled}
-use Rattle.swim_settings.specs.declared.key.Key.TheVariants.{Record, RecordEras}
+use Rattle.swim_settings.specs.declared.key.Key.TheVariants.{RandomKey, Join, Rejoin, Introduce}
+use Rattle.swim_settings.specs.declared.key.Key.TheVariants.{Expelled, Record, RecordEras}
 use Rattle.swim_member.specs.declared.settings.TheConstants.{HELPERS_MAX, BLOCK_MAX}
 use Rattle.swim_member.specs.declared.settings.Settings.{Settings}
 use Rattle.swim_settings.specs.declared.level.Level.{Level}
@@ -148,6 +148,7 @@ pub record Says (table : Members) (run : RunSettings) : Type 0 where
   pub random_key : AreBytes RandomKey table run.random_key
   pub join : ArePlaces JOIN_MAX Join table run.join.items
   pub rejoin : IsNumber Rejoin (times_of run.preset).rejoin table run.rejoin
+  pub introduce : IsNumber Introduce 16 table run.introduce
   pub expelled : EndsExpelled table run.ends_expelled
   pub record_folder : IsFolder Record table (option_map string_bytes run.record_folder)
   pub record_eras : IsNumber RecordEras 8 table run.record_eras
@@ -194,6 +195,7 @@ IsRefused Rules table = No (IsWithin Rules 1 1 2 table)
 IsRefused RandomKey table = No (AreBytes RandomKey table)
 IsRefused Join table = No (ArePlaces JOIN_MAX Join table)
 IsRefused Rejoin table = IsNoTime Rejoin (λ times. times.rejoin) 0 1000000 table
+IsRefused Introduce table = No (IsWithin Introduce 16 0 256 table)
 IsRefused Expelled table = No (EndsExpelled table)
 IsRefused Record table = No (IsFolder Record table)
 IsRefused RecordEras table = No (IsWithin RecordEras 8 1 1000 table)
@@ -228,6 +230,7 @@ IsTaken Rules table = (n : ℕ) × IsWithin Rules 1 1 2 table n
 IsTaken RandomKey table = (bytes : Option (List ℕ)) × AreBytes RandomKey table bytes
 IsTaken Join table = (ps : List Place) × ArePlaces JOIN_MAX Join table ps
 IsTaken Rejoin table = IsTime Rejoin (λ times. times.rejoin) 0 1000000 table
+IsTaken Introduce table = (n : ℕ) × IsWithin Introduce 16 0 256 table n
 IsTaken Expelled table = (is_end : Bool) × EndsExpelled table is_end
 IsTaken Record table = (folder : Option (List ℕ)) × IsFolder Record table folder
 IsTaken RecordEras table = (n : ℕ) × IsWithin RecordEras 8 1 1000 table n

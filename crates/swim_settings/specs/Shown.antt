@@ -24,6 +24,7 @@ shown_number key.Limit run = Some run.limit
 shown_number key.Block run = Some run.settings.block
 shown_number key.Rules run = Some run.settings.rules
 shown_number key.Rejoin run = Some run.rejoin
+shown_number key.Introduce run = Some run.introduce
 shown_number key.RecordEras run = Some run.record_eras
 shown_number _ run = None
 

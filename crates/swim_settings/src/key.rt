@@ -6,7 +6,7 @@ use std::fmt;
 use swim_words::Word;
 
 /// How many keys there are.
-pub const KEYS: usize = 22;
+pub const KEYS: usize = 23;
 
 /// A key of a settings file.
 #[derive(Clone, Copy, Debug, PartialEq, Eq)]
@@ -47,6 +47,8 @@ pub enum Key {
     Join,
     /// Ticks from one join of a drawn member to the next.
     Rejoin,
+    /// To how many others a member introduces itself once somebody has answered it.
+    Introduce,
     /// What a member does that is expelled.
     Expelled,
     /// The folder of the recordings of the eras that ended.
@@ -78,6 +80,7 @@ impl Key {
         Key::RandomKey,
         Key::Join,
         Key::Rejoin,
+        Key::Introduce,
         Key::Expelled,
         Key::Record,
         Key::RecordEras,
@@ -109,6 +112,7 @@ impl Word for Key {
             Key::RandomKey => "random_key",
             Key::Join => "join",
             Key::Rejoin => "rejoin",
+            Key::Introduce => "introduce",
             Key::Expelled => "expelled",
             Key::Record => "record",
             Key::RecordEras => "record_eras",

@@ -16,7 +16,7 @@ fn is_taken_anew(key: Key) -> bool
 {
     matches!(
         key,
-        Key::Join | Key::Rejoin | Key::Record | Key::RecordEras | Key::Log
+        Key::Join | Key::Rejoin | Key::Introduce | Key::Record | Key::RecordEras | Key::Log
     )
 }
 
@@ -128,6 +128,7 @@ impl RunSettings {
     {
         self.join = then.join;
         self.rejoin = then.rejoin;
+        self.introduce = then.introduce;
         self.record_folder = then.record_folder;
         self.record_eras = then.record_eras;
         self.log = then.log;

@@ -53,6 +53,8 @@ pub struct RunSettings {
     pub join: ArrayVec<Place, JOIN_MAX>,
     /// `rejoin`: ticks from one join of a drawn member to the next, at most 1,000,000; 0 for never.
     pub rejoin: u64,
+    /// `introduce`: to how many others it introduces itself at most once somebody has answered it, 0 to 256.
+    pub introduce: u32,
     /// `expelled`: whether the member ends once it is expelled.
     pub ends_expelled: bool,
     /// `record`: the folder into which eras that ended are recorded, if the file has one.
@@ -153,6 +155,7 @@ fn read_keys(alloc: Global, table: &Table) -> Result<RunSettings, Refusal>
     let random_key = read_bytes(table, Key::RandomKey)?;
     let join = read_places(table, Key::Join)?;
     let rejoin = read_within(table, Key::Rejoin, times.rejoin, 0, 1_000_000)?;
+    let introduce = read_within(table, Key::Introduce, 16, 0, 256)?;
     let ends_expelled = read_choice(table, Key::Expelled, "stay", "end")?;
     let (record_folder, record_eras) = read_recording(alloc, table)?;
     let log = read_word(table, Key::Log, &Level::ALL)?;
@@ -167,6 +170,7 @@ fn read_keys(alloc: Global, table: &Table) -> Result<RunSettings, Refusal>
         random_key,
         join,
         rejoin,
+        introduce: introduce as u32,
         ends_expelled,
         record_folder,
         record_eras,

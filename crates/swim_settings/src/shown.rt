@@ -38,6 +38,7 @@ pub(crate) fn number_of(key: Key, run: &RunSettings) -> Option<u64>
         Key::Block => Some(run.settings.block),
         Key::Rules => Some(u64::from(run.settings.rules)),
         Key::Rejoin => Some(run.rejoin),
+        Key::Introduce => Some(u64::from(run.introduce)),
         Key::RecordEras => Some(run.record_eras),
         _ => None,
     }

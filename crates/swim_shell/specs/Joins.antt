@@ -1,6 +1,6 @@
 -- What a joiner asks.
-use Rattle.std.specs.Prelude.{◌≡◌, ◌≢◌, ◌⊎◌, ℕ, ◌<◌, ◌≤◌, ◌+◌, ◌-◌, ◌*◌, ◌%◌, ◌==◌, nat_lt, min}
-use Rattle.std.specs.Prelude.{◌↔◌, if◌then◌else◌, unwrap_or}
+use Rattle.std.specs.Prelude.{◌≡◌, ◌≢◌, ◌⊎◌, ℕ, ◌<◌, ◌≤◌, ◌+◌, ◌-◌, ◌*◌, ◌/◌, ◌%◌, ◌==◌, min}
+use Rattle.std.specs.Prelude.{◌↔◌, if◌then◌else◌, nat_le, nat_lt, unwrap_or}
 use Rattle.std.specs.Prelude.{Bool, true, false, not, Option, Some, None}
 use Rattle.std.specs.Prelude.{List, [], ◌∷◌, ◌++◌, length, slice_get}
 use Rattle.std.specs.Option.{option_map}
@@ -20,10 +20,12 @@ use Rattle.swim_node.specs.declared.entry.Entry.{Entry}
 use Rattle.swim_node.specs.declared.entry.Reply.{Reply}
 use Rattle.swim_shell.specs.declared.caller.Refusal.{Refusal}
 use Rattle.std.specs.Duration.{as_nanos, max_nanos}
-use Rattle.rand_chacha.specs.ChaCha.{ChaCha}
+use Rattle.rand_chacha.specs.ChaCha.{ChaCha, next_word}
 use Rattle.std.specs.declared.time.Instant.{Instant}
 use Rattle.swim_shell.specs.declared.paces.Paces.{Paces}
-use Rattle.swim_shell.specs.declared.paces.TheConstants.{ALONE_PERIODS, EARLY_JOINS}
+use Rattle.swim_shell.specs.declared.paces.TheConstants.{ALONE_PERIODS, EARLY_JOINS, QUICK_JOINS}
+use Rattle.swim_shell.specs.declared.paces.TheConstants.{INTRODUCTIONS_AN_ANSWER}
+use Rattle.swim_shell.specs.declared.introductions.Introductions.{Introductions}
 use Rattle.swim_shell.specs.declared.silence.Silence.{Silence}
 use Rattle.swim_shell.specs.Moments.{NewsView, has_passed}
 use Rattle.swim_shell.specs.Silences.{asked_anew}
@@ -57,8 +59,8 @@ IsNext p x = slice_get p.list p.next ≡ Some x
 -- what a contract sees of a joiner: whose it is, by which rules that one lives, and its paces; its
 -- peers, and what draws others; how many peers were joined, how many of them since somebody was
 -- known last, and when the last join was; the rows of a look that was cut off, and the drawn member
--- whose join is still due; of which peer it said that it is not known; how often the list was asked
--- in vain; and its news
+-- whose join is still due; of which peer it said that it is not known; its introductions; how often
+-- the list was asked in vain; and its news
 pub record JoinerView : Type 0 where
   pub me : ℕ
   pub rules : Rules
@@ -71,6 +73,7 @@ pub record JoinerView : Type 0 where
   pub looked : List Update
   pub drawn : Option ℕ
   pub missing : List ℕ
+  pub introductions : Introductions
   pub silence : Silence
   pub news : NewsView
 
@@ -89,15 +92,29 @@ pub record IsRelisted (peers : List ℕ) (paces : Paces) (j k : JoinerView) : Ty
     silence = asked_anew j.silence;
   }
 
+-- how long nobody has to answer one of the first joins: 100, 200 and then 400 milliseconds
+abbrev pub quick_rest : ℕ → ℕ
+quick_rest joins =
+    (if nat_lt joins 2 then 100 else (if nat_lt joins 3 then 200 else 400)) * 1000000
+
 -- how long after so many joins the next peer is joined, if it is, by whether all were and whether
 -- the member is alone
 abbrev pub rest_after : Paces → ℕ → Bool → Bool → Option ℕ
 rest_after paces joins false true = Some (as_nanos paces.answer)
 rest_after paces joins false false = Some (as_nanos paces.period)
 rest_after paces joins true true =
-    if nat_lt joins EARLY_JOINS then Some (as_nanos paces.period) else
-    Some (min (as_nanos paces.period * ALONE_PERIODS) max_nanos)
+    if nat_le joins QUICK_JOINS then Some (min (quick_rest joins) (as_nanos paces.period)) else
+    (if nat_lt joins EARLY_JOINS then Some (as_nanos paces.period) else
+    Some (min (as_nanos paces.period * ALONE_PERIODS) max_nanos))
 rest_after paces joins true false = None
+
+-- how long after its last join a member introduces itself to the next
+abbrev pub introduction_rest : Paces → ℕ
+introduction_rest paces = as_nanos paces.answer / INTRODUCTIONS_AN_ANSWER
+
+-- the next word of a generator, and the generator after it
+unfoldable pub next_draw : ChaCha → ℕ × ChaCha
+next_draw = next_word 10
 
 -- the drawn one, if there is one and it may be, and else the peer of the list
 abbrev pub chosen : Option ℕ → ℕ → Bool → ℕ

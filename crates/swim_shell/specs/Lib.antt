@@ -17,4 +17,5 @@ pub mod Losses
 pub mod Moments
 pub mod Silences
 pub mod Joins
+pub mod Introductions
 pub mod Turns

@@ -3,6 +3,7 @@ use Rattle.std.specs.Prelude.{ℕ, ◌+◌, ◌-◌, ◌*◌, ◌^◌, min, nat_
 use Rattle.std.specs.Prelude.{List, length, Option, Some, None}
 use Rattle.std.specs.declared.time.Instant.{Instant}
 use Rattle.swim_shell.specs.declared.silence.Silence.{Silence}
+use Rattle.swim_shell.specs.declared.paces.TheConstants.{QUICK_JOINS}
 use Rattle.swim_shell.specs.declared.silence.TheConstants.{ROUNDS, SAID_SECONDS}
 use Rattle.swim_shell.specs.Moments.{has_passed}
 
@@ -14,12 +15,12 @@ heard_nobody = record { joins = 0; said = None }
 abbrev pub asked_anew : Silence → Silence
 asked_anew s = record s { joins = 0 }
 
--- two rounds of joins of so many peers are over, and a join of the third was made; it was not said
--- in the last ten minutes; a clock that was not read says no
+-- two rounds of joins of so many peers are over, beside those that come quickly, and a join of the
+-- third was made; it was not said in the last ten minutes; a clock that was not read says no
 abbrev pub is_due : Silence → (listed : ℕ) → Option Instant → Bool
 is_due s listed None = false
 is_due s listed (Some now) =
-    if nat_lt (ROUNDS * listed) s.joins
+    if nat_lt (ROUNDS * listed + QUICK_JOINS) s.joins
     then has_passed (Some now) s.said (SAID_SECONDS * 1000000000) else false
 
 -- it was said now, if it is due

@@ -2,11 +2,10 @@
 use Rattle.std.specs.Prelude.{◌≡◌, ◌⊎◌, ℕ, ◌+◌, ◌-◌, ◌^◌, ◌%◌, ◌==◌, ◌||◌, min, nat_lt}
 use Rattle.std.specs.Prelude.{Bool, true, false, not, length}
 use Rattle.std.specs.Prelude.{if◌then◌else◌, List, [], ◌∷◌, slice_get, Option, Some, None}
-use Rattle.std.specs.Option.{option_or}
-use Rattle.std.specs.Duration.{as_nanos}
-use Rattle.std.specs.declared.time.Duration.{Duration}
+use Rattle.std.specs.Option.{option_map, option_or}
+use Rattle.std.specs.Duration.{as_nanos, max_nanos}
 use Rattle.std.specs.declared.time.Instant.{Instant}
-use Rattle.rand_chacha.specs.ChaCha.{ChaCha, next_word}
+use Rattle.rand_chacha.specs.ChaCha.{ChaCha}
 use Rattle.swim_wire.specs.declared.rules.Rules.{Rules}
 use Rattle.swim_wire.specs.declared.rules.Rules.TheVariants.{One, Two}
 use Rattle.swim_wire.specs.declared.update.Update.{Update}
@@ -21,7 +20,10 @@ use Rattle.swim_shell.specs.Calls.{CallerView, NewCall, Refuses}
 use Rattle.swim_shell.specs.Moments.{NewsView, TellsNews, has_passed}
 use Rattle.swim_shell.specs.Joins.{JoinerView, stepped, begun_again, watched, may_ask}
 use Rattle.swim_shell.specs.Silences.{heard_nobody, with_ask}
-use Rattle.swim_shell.specs.Joins.{rest_after, has_row, due_by, LooksAll, LooksInVain}
+use Rattle.swim_shell.specs.Joins.{next_draw, rest_after, introduction_rest, has_row, due_by}
+use Rattle.swim_shell.specs.Joins.{LooksAll, LooksInVain}
+use Rattle.swim_shell.specs.Introductions.{introductions_of, go_on, first_word}
+use Rattle.swim_shell.specs.Introductions.{next_among, with_next}
 
 -- ---- what is due
 
@@ -46,11 +48,27 @@ due_after (Some rest) j now =
 abbrev pub due_peer : JoinerView → Moment → Option ℕ
 due_peer j at = due_after (rest_after j.paces j.joins j.peers.were_all at.is_alone) j at.now
 
--- a member is to be drawn: it is so long since the last join or the first turn
-abbrev pub is_draw_due : Option Duration → Option Instant → Option Instant → Bool
+-- introductions are left, and somebody is known to whom they can be made
+abbrev pub is_introducing : JoinerView → Moment → Bool
+is_introducing j at = if at.is_alone then false else nat_lt 0 j.introductions.left
+
+-- how long after the last join a member is to be drawn: soon, while it introduces itself, and else
+-- now and then
+abbrev pub draw_rest : JoinerView → Moment → Option ℕ
+draw_rest j at =
+    if is_introducing j at then Some (introduction_rest j.paces)
+    else option_map as_nanos j.paces.rejoin
+
+-- how long its thread may wait for something else at most: until the next introduction, while the
+-- member makes them
+abbrev pub idle_rest : JoinerView → ℕ
+idle_rest j = if go_on j.introductions then introduction_rest j.paces else max_nanos
+
+-- it is so long since the last join or the first turn
+abbrev pub is_draw_due : Option ℕ → Option Instant → Option Instant → Bool
 is_draw_due None joined now = false
 is_draw_due (Some time) None now = false
-is_draw_due (Some time) (Some since) now = has_passed now (Some since) (as_nanos time)
+is_draw_due (Some time) (Some since) now = has_passed now (Some since) time
 
 -- the rows are to be compared: a period has passed, and the log shows it
 abbrev pub are_news_due : JoinerView → Moment → Bool
@@ -58,10 +76,6 @@ are_news_due j at =
     if at.is_shown then has_passed at.now j.news.compared (as_nanos j.paces.period) else false
 
 -- ---- draws
-
--- the next word of a generator, and the generator after it
-unfoldable pub next_draw : ChaCha → ℕ × ChaCha
-next_draw = next_word 10
 
 -- whether it is the list's turn, which the next word says by rules 2, and the generator then
 abbrev pub list_turn : Rules → ChaCha → Bool × ChaCha
@@ -98,16 +112,36 @@ abbrev pub with_draw : JoinerView → List Update → Option Instant → JoinerV
 with_draw j rows now =
     with_turn (record j { rng = (drawing j).1 }) rows now (slice_get j.peers.list j.peers.next)
 
+-- the word that draws those to whom the member introduces itself, and the generator then
+abbrev pub introducing : JoinerView → ℕ × ChaCha
+introducing j = first_word j.introductions j.rng
+
+-- the member to whom it introduces itself next
+abbrev pub introduced : JoinerView → List Update → Option ℕ
+introduced j rows = next_among j.me rows j.introductions.made (introducing j).0
+
+-- after that introduction
+abbrev pub with_introduction : JoinerView → List Update → JoinerView
+with_introduction j rows = record j {
+  rng = (introducing j).1;
+  introductions = with_next (introduced j rows) (introducing j).0 j.introductions;
+}
+
 -- the join of the member that was drawn is due; if nobody was, the time runs to the next draw
 abbrev pub with_drawn : Option ℕ → Option Instant → JoinerView → JoinerView
 with_drawn None now j = record j { drawn = None; joined = now }
 with_drawn (Some x) now j = record j { drawn = Some x }
 
--- a member was drawn, if that was due
+-- a member was drawn: one to whom the member introduces itself, or one that it joins now and then
+abbrev pub after_one : Bool → JoinerView → Moment → List Update → JoinerView
+after_one true j at rows = with_drawn (introduced j rows) at.now (with_introduction j rows)
+after_one false j at rows = with_drawn (drawn_for j rows at.now) at.now (with_draw j rows at.now)
+
+-- the same, if that was due
 abbrev pub after_draw : JoinerView → Moment → List Update → JoinerView
 after_draw j at rows =
-    if is_draw_due j.paces.rejoin j.joined at.now
-    then with_drawn (drawn_for j rows at.now) at.now (with_draw j rows at.now) else j
+    if is_draw_due (draw_rest j at) j.joined at.now
+    then after_one (is_introducing j at) j at rows else j
 
 -- the look that read these rows is over
 abbrev pub after_look : JoinerView → Moment → List Update → JoinerView
@@ -136,10 +170,11 @@ joined_listed now j = record j {
 
 -- if somebody is known again after more than one peer was joined, an earlier one than the last may
 -- have answered late, whose pages the later join ended: so the list begins again; nobody of it was
--- asked in vain then
+-- asked in vain then; a lone member introduces itself anew once somebody is known
 abbrev pub with_answer : Moment → JoinerView → JoinerView
 with_answer at j =
-    if at.is_alone then j else record j {
+    if at.is_alone then record j { introductions = introductions_of j.paces.introduce }
+    else record j {
       unanswered = 0;
       silence = heard_nobody;
       peers = if nat_lt 1 j.unanswered then begun_again j.peers else j.peers;
@@ -217,7 +252,8 @@ DoesRest None false j at p k q = (q ≡ p) × (k ≡ j)
 -- a draw or news are due, or a look was cut off
 abbrev pub is_look_due : JoinerView → Moment → Bool
 is_look_due j at =
-    is_draw_due j.paces.rejoin j.joined at.now || (are_news_due j at || not (length j.looked == 0))
+    is_draw_due (draw_rest j at) j.joined at.now
+    || (are_news_due j at || not (length j.looked == 0))
 
 -- the peer of the list that is due is joined, or else the rest is done
 abbrev pub DoesDue : Option ℕ → JoinerView → Moment → CallerView → JoinerView → CallerView → Type 0

@@ -2,9 +2,19 @@
 
 ghost use Rattle.std.specs.Prelude.{◌≡◌, IfSome, IsTrue, ◌≢◌, length};
 ghost use Rattle.swim_wire.specs.declared.update.UpdateKind.TheVariants.{Confirm};
-ghost use Rattle.swim_shell.specs.Joins.{IsDrawnFrom, drawn_by, eligible_in, may_be_drawn, nth_eligible};
+ghost use Rattle.swim_shell.specs.Joins.{IsDrawnFrom, drawn_by, eligible_in, may_be_drawn, next_draw, nth_eligible};
 
+use rand_chacha::ChaCha20Rng;
+use rand_core::utils::NextWord;
 use swim_wire::{Endpoint, Update, UpdateKind};
+
+/// The next word of a generator.
+pub(crate) fn next_draw(rng: &mut ChaCha20Rng) -> u32
+    ensures word { result ≡ (next_draw rng.old).0 }
+    ensures then { rng.new ≡ (next_draw rng.old).1 }
+{
+    rng.next_word()
+}
 
 /// Whether the row shows another member as Alive or Suspect.
 fn is_eligible(row: &Update, me: Endpoint) -> bool
@@ -16,14 +26,14 @@ fn is_eligible(row: &Update, me: Endpoint) -> bool
 }
 
 /// How many other members are eligible.
-fn count_eligible(rows: &[Update], me: Endpoint) -> usize
+pub(crate) fn count_eligible(rows: &[Update], me: Endpoint) -> usize
     ensures { result ≡ length (eligible_in me rows.now) }
 {
     rows.iter().filter(|row| is_eligible(row, me)).count()
 }
 
 /// The member of the eligible row after so many others, itself left out.
-fn nth_eligible(rows: &[Update], me: Endpoint, nth: usize) -> Option<Endpoint>
+pub(crate) fn nth_eligible(rows: &[Update], me: Endpoint, nth: usize) -> Option<Endpoint>
     ensures value { result ≡ nth_eligible me rows.now nth }
     ensures drawn { IfSome result (IsDrawnFrom me rows.now) }
 {

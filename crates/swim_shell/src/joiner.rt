@@ -2,14 +2,18 @@
 
 ghost use Rattle.std.specs.Prelude.{◌≡◌, ◌⊎◌, ◌↔◌, [], Some, None, true, false};
 ghost use Rattle.std.specs.Prelude.{IsTrue, IfSome, IfOk, IfErr, OnOk, OnErr, length};
+ghost use Rattle.std.specs.Duration.{as_nanos};
+ghost use Rattle.std.specs.Option.{option_map};
 ghost use Rattle.swim_member.specs.declared.event.Event.TheVariants.{Join};
 ghost use Rattle.swim_shell.specs.Calls.{Refuses};
-ghost use Rattle.swim_shell.specs.Joins.{Asks, AsksInVain, IsDrawnFrom, IsNext, IsRelisted, LooksAll, LooksInVain, chosen, may_ask};
+ghost use Rattle.swim_shell.specs.Introductions.{introductions_of};
+ghost use Rattle.swim_shell.specs.Joins.{Asks, AsksInVain, IsDrawnFrom, IsNext, IsRelisted, LooksAll, LooksInVain, chosen, may_ask, next_draw};
 ghost use Rattle.swim_shell.specs.Silences.{heard_nobody};
-ghost use Rattle.swim_shell.specs.Turns.{DoesRest, DoesTurn, DoesTurnInVain, JoinsPeer, LooksRound, LooksRoundInVain, RestInVain, TellsDue, Turned, TurnedInVain, after_draw, after_look, are_news_due, drawn_for, due_peer, is_alone, is_draw_due, is_look_due, joined_drawn, joined_listed, list_turn, next_draw, told_missing, with_answer, with_draw, with_start};
+ghost use Rattle.swim_shell.specs.Turns.{DoesRest, DoesTurn, DoesTurnInVain, JoinsPeer, LooksRound, LooksRoundInVain, RestInVain, TellsDue, Turned, TurnedInVain, after_draw, after_look, are_news_due, draw_rest, drawn_for, due_peer, idle_rest, introduced, is_alone, is_draw_due, is_introducing, is_look_due, joined_drawn, joined_listed, list_turn, told_missing, with_answer, with_draw, with_introduction, with_start};
 
 use crate::caller::{Caller, Observer, Refusal};
-use crate::draw::draw;
+use crate::draw::{draw, next_draw};
+use crate::introductions::Introductions;
 use crate::look::look;
 use crate::news_log::{News, are_shown};
 use crate::paces::{Moment, Paces, has_passed};
@@ -18,10 +22,9 @@ use crate::silence::Silence;
 use arrayvec::ArrayVec;
 use log::{Log, error};
 use rand_chacha::ChaCha20Rng;
-use rand_core::utils::NextWord;
 use std::marker::Model;
 use std::mem;
-use std::time::{Clock, Instant};
+use std::time::{Clock, Duration, Instant};
 use swim_member::{Event, Phase};
 use swim_news::Rows;
 use swim_node::Status;
@@ -29,8 +32,8 @@ use swim_trace::Trace;
 use swim_wire::{Endpoint, Rules};
 
 /// Whom a member joins, and when: all peers of its list in order, one after the other; one of them every few periods while
-/// it holds nobody for alive or suspected, since a lost join would leave it alone for ever; and now and then a member that
-/// it draws, since gossip or a page that was lost leaves a hole for ever. What a full era cuts off goes on in the next one, so that an
+/// it holds nobody for alive or suspected, since a lost join would leave it alone for ever; those to whom it introduces itself, once
+/// somebody has answered; and now and then a member that it draws, since gossip or a page that was lost leaves a hole for ever. What a full era cuts off goes on in the next one, so that an
 /// era of any size ends. Contracts see it as `JoinerView`.
 #[derive(Drop)]
 pub struct Joiner {
@@ -55,6 +58,7 @@ pub struct Joiner {
     has_told: bool,
     /// Of which member it was, for proofs.
     missing: Trace<Endpoint>,
+    introductions: Introductions,
     silence: Silence,
     ghost once: { missing ≡ [] → has_told ≡ false },
     ghost told: { has_told ≡ false → missing ≡ [] },
@@ -77,6 +81,7 @@ impl Model for Joiner {
       looked = j.looked;
       drawn = j.drawn;
       missing = j.missing;
+      introductions = j.introductions;
       silence = j.silence;
       news = j.news;
     } };
@@ -102,14 +107,6 @@ fn chosen(drawn: Option<Endpoint>, peer: Endpoint, is_drawns_turn: bool) -> Endp
         Some(drawn) if is_drawns_turn => drawn,
         _ => peer,
     }
-}
-
-/// The next word of a generator.
-fn next_draw(rng: &mut ChaCha20Rng) -> u32
-    ensures word { result ≡ (next_draw rng.old).0 }
-    ensures then { rng.new ≡ (next_draw rng.old).1 }
-{
-    rng.next_word()
 }
 
 /// Whether it is the list's turn: by rules 2 one time in two. Two parts of a group that hold each other for failed find each
@@ -139,6 +136,7 @@ impl Joiner {
         ensures first { (result.joins ≡ 0) × (result.joined ≡ None) × (result.missing ≡ [])
             × (result.unanswered ≡ 0) × (result.silence ≡ heard_nobody) }
         ensures nothing { (result.looked ≡ []) × (result.drawn ≡ None) }
+        ensures introductions { result.introductions ≡ introductions_of paces.introduce }
         ensures shown { (result.peers.shown ≡ []) × (result.peers.gone ≡ None) }
         ensures news { (result.news.rows ≡ []) × (result.news.compared ≡ None) }
         ensures list { (result.peers.list ≡ peers.items) × (result.peers.next ≡ 0) }
@@ -158,6 +156,7 @@ impl Joiner {
             news: News::new(),
             has_told: false,
             missing: Trace::new(),
+            introductions: Introductions::new(paces.introduce),
             silence: Silence::new(),
         }
     }
@@ -167,6 +166,16 @@ impl Joiner {
         ensures { result ≡ length self.now.peers.list }
     {
         self.peers.listed()
+    }
+
+    /// How long its thread may wait for something else, before the next turn: until the next introduction, while the member makes them.
+    pub fn idle_rest(&self) -> Duration
+        ensures { as_nanos result ≡ idle_rest self.now }
+    {
+        if self.introductions.go_on() {
+            return self.paces.until_introduction();
+        }
+        Duration::MAX
     }
 
     /// Joins these peers from now on, by these paces. The list begins anew, and all else goes on.
@@ -180,7 +189,8 @@ impl Joiner {
     }
 
     /// Somebody is known again. If more than one peer was joined since somebody was, an earlier one than the last may have
-    /// answered late, and the later join ended its pages: then the list begins again.
+    /// answered late, and the later join ended its pages: then the list begins again. A lone member introduces itself anew once somebody
+    /// is known.
     fn hear(&mut self, at: Moment)
         ensures then { self.new ≡ with_answer at self.old }
         ensures me { self.new.me ≡ self.old.me }
@@ -189,6 +199,7 @@ impl Joiner {
             × (self.new.drawn ≡ self.old.drawn) }
     {
         if at.is_alone {
+            self.introductions = Introductions::new(self.paces.introduce);
             return;
         }
         if self.unanswered > 1 {
@@ -220,12 +231,29 @@ impl Joiner {
         }
     }
 
-    /// Whether a drawn member is to be joined.
-    fn is_draw_due(&self, now: Option<Instant>) -> bool
-        ensures { result ≡ is_draw_due self.now.paces.rejoin self.now.joined now }
+    /// Whether the member introduces itself: introductions are left, and somebody is known to whom they can be made.
+    fn is_introducing(&self, at: Moment) -> bool
+        ensures { result ≡ is_introducing self.now at }
     {
-        match self.paces.rejoin {
-            Some(time) => self.joined.is_some() && has_passed(now, self.joined, time),
+        !at.is_alone && self.introductions.are_left()
+    }
+
+    /// How long after the last join a member is to be drawn.
+    fn draw_rest(&self, at: Moment) -> Option<Duration>
+        ensures { option_map as_nanos result ≡ draw_rest self.now at }
+    {
+        if self.is_introducing(at) {
+            return Some(self.paces.until_introduction());
+        }
+        self.paces.rejoin
+    }
+
+    /// Whether a drawn member is to be joined.
+    fn is_draw_due(&self, at: Moment) -> bool
+        ensures { result ≡ is_draw_due (draw_rest self.now at) self.now.joined at.now }
+    {
+        match self.draw_rest(at) {
+            Some(time) => self.joined.is_some() && has_passed(at.now, self.joined, time),
             None => false,
         }
     }
@@ -289,7 +317,17 @@ impl Joiner {
         Some(peer)
     }
 
-    /// The same, if it is time: the join of the drawn member is due then.
+    /// The member to whom this one introduces itself next.
+    fn introduce(&mut self, rows: &Rows) -> Option<Endpoint>
+        ensures value { result ≡ introduced self.old rows.now }
+        ensures then { self.new ≡ with_introduction self.old rows.now }
+        ensures drawn { IfSome result (IsDrawnFrom self.old.me rows.now) }
+    {
+        self.introductions
+            .next(rows.as_slice(), self.me, &mut self.rng)
+    }
+
+    /// A member that the rows show is drawn, if it is time, and its join is due then.
     fn draw_due<W: Log>(&mut self, rt: &W, at: Moment, rows: &Rows)
         ensures then { self.new ≡ after_draw self.old at rows.now }
         ensures known { IfSome self.new.drawn (λ peer. (self.old.drawn ≡ Some peer)
@@ -297,10 +335,14 @@ impl Joiner {
         ensures me { self.new.me ≡ self.old.me }
         ensures list { self.new.peers.list ≡ self.old.peers.list }
     {
-        if !self.is_draw_due(at.now) {
+        if !self.is_draw_due(at) {
             return;
         }
-        self.drawn = self.draw(rt, rows, at.now);
+        self.drawn = if self.is_introducing(at) {
+            self.introduce(rows)
+        } else {
+            self.draw(rt, rows, at.now)
+        };
         if self.drawn.is_none() {
             self.joined = at.now;
         }
@@ -451,7 +493,7 @@ impl Joiner {
             return self.join_drawn(caller, at.now, peer);
         }
         let is_cut = !self.looked.as_slice().is_empty();
-        if self.is_draw_due(at.now) || self.are_news_due(at) || is_cut {
+        if self.is_draw_due(at) || self.are_news_due(at) || is_cut {
             return self.look_round(rt, caller, at);
         }
         Ok(())

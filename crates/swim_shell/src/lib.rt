@@ -15,6 +15,7 @@ mod doors;
 mod draw;
 mod gate;
 mod inbound;
+mod introductions;
 mod joiner;
 mod lines;
 mod look;

@@ -3,7 +3,7 @@
 ghost use Rattle.std.specs.Prelude.{◌≡◌, ◌≤◌, length};
 ghost use Rattle.swim_shell.specs.Silences.{asked_anew, heard_nobody, is_due, with_ask};
 
-use crate::paces::has_passed;
+use crate::paces::{QUICK_JOINS, has_passed};
 use crate::peers::LIST_MAX;
 use log::{Log, warn};
 use std::fmt::{self, Display, Formatter};
@@ -57,13 +57,13 @@ impl Silence {
         self.joins = 0;
     }
 
-    /// Whether it is to be said: two rounds of joins of so many peers are over, and a join of the third was made; it was not said in
-    /// the last ten minutes. A clock that cannot be read says no.
+    /// Whether it is to be said: two rounds of joins of so many peers are over, beside those that come quickly at first, and a join of the
+    /// third was made; it was not said in the last ten minutes. A clock that cannot be read says no.
     fn is_due(&self, now: Option<Instant>, listed: usize) -> bool
         requires { listed ≤ LIST_MAX }
         ensures { result ≡ is_due self.now listed now }
     {
-        let is_over = ROUNDS * (listed as u64) < u64::from(self.joins);
+        let is_over = ROUNDS * (listed as u64) + u64::from(QUICK_JOINS) < u64::from(self.joins);
         let has_rested = has_passed(now, self.said, Duration::from_secs(SAID_SECONDS));
         now.is_some() && is_over && has_rested
     }

@@ -43,6 +43,8 @@ rules: rules = 1
 rules: rules = 2
 rejoin: rejoin = 0
 rejoin: rejoin = 1000000
+introduce: introduce = 0
+introduce: introduce = 256
 record_eras: record_eras = 1
 record_eras: record_eras = 1000
 expelled: expelled = 'stay'
@@ -99,6 +101,9 @@ random_key: random_key = 32
 rejoin: rejoin = -1
 rejoin: rejoin = 1000001
 rejoin: rejoin = '300'
+introduce: introduce = -1
+introduce: introduce = 257
+introduce: introduce = 'all'
 expelled: expelled = ''
 expelled: expelled = 'End'
 expelled: expelled = true
@@ -182,6 +187,7 @@ fn defaults(rt: HostRuntime) -> Result<(), Fail> {
         random_key,
         join,
         rejoin,
+        introduce,
         ends_expelled,
         record_folder,
         record_eras,
@@ -206,6 +212,7 @@ fn defaults(rt: HostRuntime) -> Result<(), Fail> {
     holds(&rt, random_key.is_none());
     same(&rt, join.len(), 0);
     same(&rt, rejoin, 300);
+    same(&rt, introduce, 16);
     holds(&rt, !ends_expelled);
     holds(&rt, record_folder.is_none());
     same(&rt, record_eras, 8);
@@ -216,7 +223,7 @@ fn defaults(rt: HostRuntime) -> Result<(), Fail> {
 #[test]
 fn every_key(rt: HostRuntime) -> Result<(), Fail> {
     let lines = "tick_ms = 20\nlambda = 5\nperiod = 8\ndirect = 7\nsuspect = 90\nforget = 400
-helpers = 0\nlimit = 20\nblock = 64\nrules = 2\nrejoin = 90\nexpelled = 'end'
+helpers = 0\nlimit = 20\nblock = 64\nrules = 2\nrejoin = 90\nintroduce = 256\nexpelled = 'end'
 record = 'eras'\nrecord_eras = 3\nlog = 'debug'
 join = ['10.0.0.2:7000', '10.0.0.3:7001']
 random_key = '000102030405060708090a0b0c0d0e0f101112131415161718191A1B1C1D1E1F'\n";
@@ -237,6 +244,7 @@ random_key = '000102030405060708090a0b0c0d0e0f101112131415161718191A1B1C1D1E1F'\
         Endpoint::new(0x0a00_0003, 7001),
     ];
     same(&rt, run.rejoin, 90);
+    same(&rt, run.introduce, 256);
     holds(&rt, run.ends_expelled);
     same(&rt, run.record_eras, 3);
     holds(&rt, run.log == Some(Level::Debug));
@@ -301,7 +309,7 @@ fn presets(rt: HostRuntime) -> Result<(), Fail> {
 
 /// Lines that a file gets while its member runs, and the keys that need a restart for them.
 const RELOADED: &str = "# nothing:
-join = ['10.0.0.2:7000']; rejoin = 7; record = 'eras'; record_eras = 3:
+join = ['10.0.0.2:7000']; rejoin = 7; introduce = 0; record = 'eras'; record_eras = 3:
 period = 9; rejoin = 7: period
 record_eras = 3; rules = 2; limit = 20: limit rules
 preset = 'lan': preset suspect
@@ -341,11 +349,12 @@ fn restarts(rt: HostRuntime) -> Result<(), Fail> {
 fn taken_anew(rt: HostRuntime) -> Result<(), Fail> {
     let alloc = rt.alloc();
     let lines =
-        "join = ['10.0.0.2:7000']; rejoin = 7; record = 'eras'; record_eras = 3; limit = 20";
+        "join = ['10.0.0.2:7000']; rejoin = 7; introduce = 0; record = 'eras'; record_eras = 3; limit = 20";
     let mut now = read_settings(alloc, file_with(alloc, "join", "")?.as_bytes())?;
     now.take_anew(read_settings(alloc, file_with(alloc, "join", lines)?.as_bytes())?);
     same(&rt, now.join.len(), 1);
     same(&rt, now.rejoin, 7);
+    same(&rt, now.introduce, 0);
     same(&rt, now.folder(), Some("eras"));
     same(&rt, now.record_eras, 3);
     same(&rt, now.limit, 4096);
@@ -400,6 +409,7 @@ block = 1
 rules = 1
 join = [\"10.0.0.2:7000\"]
 rejoin = 30
+introduce = 16
 expelled = \"stay\"
 record_eras = 8
 # A member that stops, in seconds: when the first of the others suspects it, on the mean; when each of them suspects it,

@@ -14,11 +14,23 @@ fn ping_text(number: u32) -> Option<ArrayVec<u8, RECEIVED_MAX>> {
     text(Kind::Ping, number, subject, &updates)
 }
 
+/// The text of a ping that says of 10.0.0.3:7000 to 10.0.0.6:7000 that they are alive with number 1.
+fn group_text() -> Option<ArrayVec<u8, RECEIVED_MAX>> {
+    let subject = Cursor::at(endpoint(1)?);
+    let mut updates = [update(UpdateKind::Alive, 3, 1)?; 4];
+    for (row, last) in updates.iter_mut().zip(3u8..) {
+        *row = update(UpdateKind::Alive, last, 1)?;
+    }
+    text(Kind::Ping, 1, subject, &updates)
+}
+
 /// What a receive gives.
 #[derive(Clone, Copy, Debug, PartialEq, Eq)]
 pub(super) enum Given {
     /// A ping of this number from the peer.
     Ping(u32),
+    /// A ping that tells of four members.
+    Group,
     Nothing,
     Failed,
 }
@@ -61,6 +73,13 @@ impl<'a> Inbound for Listed<'a> {
             Given::Ping(number) => {
                 into.clear();
                 if let Some(bytes) = ping_text(number) {
+                    *into = bytes;
+                }
+                Ok(endpoint(2))
+            }
+            Given::Group => {
+                into.clear();
+                if let Some(bytes) = group_text() {
                     *into = bytes;
                 }
                 Ok(endpoint(2))

@@ -114,6 +114,7 @@ fn joins_listed_and_drawn(rt: HostRuntime) -> Result<(), Fail> {
             answer: Duration::from_millis(300),
             period: Duration::from_secs(1),
             rejoin,
+            introduce: 0,
             forget: Duration::from_secs(600),
         };
         let mut joiner = Joiner::new(me, rules, peers, paces, ChaCha20Rng::from_seed(KEY));
@@ -139,18 +140,23 @@ fn joins_listed_and_drawn(rt: HostRuntime) -> Result<(), Fail> {
 }
 
 /// Peers of a list are joined soon after another while nobody has answered, a period after another once somebody has, and
-/// again by a lone member alone: each period at first, and later each third.
+/// again by a lone member alone: quickly at first, then each period, and later each third.
 #[test]
 fn waits_between_joins(rt: HostRuntime) -> Result<(), Fail> {
     let paces = Paces {
         answer: Duration::from_millis(300),
         period: Duration::from_secs(1),
         rejoin: None,
+        introduce: 0,
         forget: Duration::from_secs(600),
     };
     for (joins, were_all, is_alone, millis) in [
         (0, false, true, Some(300)),
         (1, false, false, Some(1_000)),
+        (1, true, true, Some(100)),
+        (2, true, true, Some(200)),
+        (3, true, true, Some(400)),
+        (4, true, true, Some(1_000)),
         (9, true, true, Some(1_000)),
         (10, true, true, Some(3_000)),
         (1, true, false, None),

@@ -30,7 +30,7 @@ fn alarm_ends_wait(rt: HostRuntime) -> Result<(), Fail> {
     let mut doors = given(&rt, TcpDoors::new(listener, &waits, &rt, long()));
     let start = given(&rt, Instant::now(&rt));
     holds(&rt, doors.next().is_none());
-    let _ = join(&rt, || doors.wait(), || ring_later(&rt, &alarm));
+    let _ = join(&rt, || doors.wait(long()), || ring_later(&rt, &alarm));
     let took = given(&rt, start.elapsed(&rt)).as_millis();
     holds(&rt, 15 < took && took < ENDED_MILLIS);
     Ok(())
@@ -50,7 +50,7 @@ fn connection_ends_wait(rt: HostRuntime) -> Result<(), Fail> {
             sleep(&rt, 30);
             TcpStream::connect(&rt, address(port)).is_ok()
         },
-        || doors.wait(),
+        || doors.wait(long()),
     );
     holds(&rt, made && doors.next().is_some());
     holds(
@@ -99,7 +99,7 @@ fn last_failure<D: Doors, R: Read>(doors: &mut D, reader: &mut R) -> Option<Erro
     for _ in 0..TURNS {
         match failed(reader) {
             None => {}
-            Some(ErrorKind::WouldBlock) => doors.wait(),
+            Some(ErrorKind::WouldBlock) => doors.wait(long()),
             other => return other,
         }
     }
@@ -182,7 +182,7 @@ fn read_whole<D: Doors, R: Read>(doors: &mut D, reader: &mut R, bytes: &mut [u8]
         }
         match reader.read(&mut bytes[kept..kept + 1]) {
             Ok(1) => kept += 1,
-            Err(error) if error.kind() == ErrorKind::WouldBlock => doors.wait(),
+            Err(error) if error.kind() == ErrorKind::WouldBlock => doors.wait(long()),
             _ => return None,
         }
     }

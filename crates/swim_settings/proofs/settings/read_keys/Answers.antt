@@ -40,13 +40,25 @@ returns-in_err-rejoin-clause-refused c =
     let fault = err_from_is_err_and c.from_residual-in_err-rejoin.result c.from_residual-in_err-rejoin.ensures.1 in
     rw (fault.1, fault.2, c.in_err-rejoin.ensures.none.0) (taken, (c.of-times.result, (c.in_ok-preset.preset, c.in_ok-preset.ensures.word, c.of-times.ensures), c.in_err-rejoin.ensures.none.1))
 
+pub returns-in_err-introduce-clause-refused : goal.returns-in_err-introduce-clause-refused
+returns-in_err-introduce-clause-refused c =
+    let t = table_view c.args.table.now in
+    let rejoin = c.in_ok-rejoin in
+    let to_random_key = AreTaken-push t (keys_before keys.RandomKey) keys.RandomKey c.in_ok-settings.ensures.taken (c.in_ok-random_key.random_key, c.in_ok-random_key.ensures.bytes) in
+    let to_join = AreTaken-push t (keys_before keys.Join) keys.Join to_random_key (c.in_ok-join.join.items, c.in_ok-join.ensures.places) in
+    let taken = AreTaken-push t (keys_before keys.Rejoin) keys.Rejoin to_join (c.of-times.result, rejoin.rejoin, (c.in_ok-preset.preset, c.in_ok-preset.ensures.word, c.of-times.ensures), (rejoin.ensures.number, rejoin.ensures.range.0, rejoin.ensures.range.1)) in
+    let fault = err_from_is_err_and c.from_residual-in_err-introduce.result c.from_residual-in_err-introduce.ensures.1 in
+    rw (fault.1, fault.2, c.in_err-introduce.ensures.none.0) (taken, c.in_err-introduce.ensures.none.1)
+
 pub returns-in_err-ends_expelled-clause-refused : goal.returns-in_err-ends_expelled-clause-refused
 returns-in_err-ends_expelled-clause-refused c =
     let t = table_view c.args.table.now in
     let rejoin = c.in_ok-rejoin in
     let to_random_key = AreTaken-push t (keys_before keys.RandomKey) keys.RandomKey c.in_ok-settings.ensures.taken (c.in_ok-random_key.random_key, c.in_ok-random_key.ensures.bytes) in
     let to_join = AreTaken-push t (keys_before keys.Join) keys.Join to_random_key (c.in_ok-join.join.items, c.in_ok-join.ensures.places) in
-    let taken = AreTaken-push t (keys_before keys.Rejoin) keys.Rejoin to_join (c.of-times.result, rejoin.rejoin, (c.in_ok-preset.preset, c.in_ok-preset.ensures.word, c.of-times.ensures), (rejoin.ensures.number, rejoin.ensures.range.0, rejoin.ensures.range.1)) in
+    let introduce = c.in_ok-introduce in
+    let to_rejoin = AreTaken-push t (keys_before keys.Rejoin) keys.Rejoin to_join (c.of-times.result, rejoin.rejoin, (c.in_ok-preset.preset, c.in_ok-preset.ensures.word, c.of-times.ensures), (rejoin.ensures.number, rejoin.ensures.range.0, rejoin.ensures.range.1)) in
+    let taken = AreTaken-push t (keys_before keys.Introduce) keys.Introduce to_rejoin (introduce.introduce, (introduce.ensures.number, introduce.ensures.range.0, introduce.ensures.range.1)) in
     let fault = err_from_is_err_and c.from_residual-in_err-ends_expelled.result c.from_residual-in_err-ends_expelled.ensures.1 in
     rw (fault.1, fault.2, c.in_err-ends_expelled.ensures.none.0) (taken, c.in_err-ends_expelled.ensures.none.1)
 
@@ -54,11 +66,13 @@ pub read_recording-requires : goal.read_recording-requires
 read_recording-requires c =
     let t = table_view c.args.table.now in
     let rejoin = c.in_ok-rejoin in
+    let introduce = c.in_ok-introduce in
     let ends = c.in_ok-ends_expelled in
     let to_random_key = AreTaken-push t (keys_before keys.RandomKey) keys.RandomKey c.in_ok-settings.ensures.taken (c.in_ok-random_key.random_key, c.in_ok-random_key.ensures.bytes) in
     let to_join = AreTaken-push t (keys_before keys.Join) keys.Join to_random_key (c.in_ok-join.join.items, c.in_ok-join.ensures.places) in
     let to_rejoin = AreTaken-push t (keys_before keys.Rejoin) keys.Rejoin to_join (c.of-times.result, rejoin.rejoin, (c.in_ok-preset.preset, c.in_ok-preset.ensures.word, c.of-times.ensures), (rejoin.ensures.number, rejoin.ensures.range.0, rejoin.ensures.range.1)) in
-    AreTaken-push t (keys_before keys.Expelled) keys.Expelled to_rejoin (ends.ends_expelled, ends.ensures.choice)
+    let to_introduce = AreTaken-push t (keys_before keys.Introduce) keys.Introduce to_rejoin (introduce.introduce, (introduce.ensures.number, introduce.ensures.range.0, introduce.ensures.range.1)) in
+    AreTaken-push t (keys_before keys.Expelled) keys.Expelled to_introduce (ends.ends_expelled, ends.ensures.choice)
 
 pub returns-in_err-log-clause-refused : goal.returns-in_err-log-clause-refused
 returns-in_err-log-clause-refused c =
@@ -90,6 +104,7 @@ returns-clause-said c =
       random_key = c.in_ok-random_key.ensures.bytes;
       join = c.in_ok-join.ensures.places;
       rejoin = rw (← c.of-times.ensures) c.in_ok-rejoin.ensures.number;
+      introduce = c.in_ok-introduce.ensures.number;
       expelled = c.in_ok-ends_expelled.ensures.choice;
       record_folder = c.in_ok-record_folder.ensures.folder;
       record_eras = c.in_ok-record_folder.ensures.eras;

@@ -1,7 +1,7 @@
 use Rattle.std.proofs.Common.{ℕ, ap}
 use Rattle.rand_chacha.specs.ChaCha.{ChaCha}
-use Rattle.swim_shell.specs.Turns.{next_draw}
-use Rattle.swim_shell.proofs.joiner.next_draw.Goals as goal
+use Rattle.swim_shell.specs.Joins.{next_draw}
+use Rattle.swim_shell.proofs.draw.next_draw.Goals as goal
 
 pub returns-clause-word : goal.returns-clause-word
 unfolding next_draw
