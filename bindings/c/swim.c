@@ -47,6 +47,7 @@ uint32_t swim_library_next_datagram(struct swim_inside *member, struct swim_insi
                                     uint8_t *bytes, size_t room, size_t *length);
 uint32_t swim_library_members(struct swim_inside *member, struct swim_inside spare, const struct swim_endpoint *after,
                               struct row *rows, size_t room, size_t *count);
+uint32_t swim_library_next_change(struct swim_inside *member, struct swim_inside spare, struct row *row, struct row *was);
 uint32_t swim_library_status(struct swim_inside *member, struct swim_inside spare, struct swim_status *status);
 uint32_t swim_library_notes(struct swim_inside *member, struct swim_inside spare, uint8_t *notes, size_t room, size_t *count);
 uint32_t swim_library_stored_peers(struct swim_inside *member, struct swim_inside spare, struct swim_endpoint *peers,
@@ -361,6 +362,11 @@ static int list_rows(struct swim_inside *inside, struct row all[SWIM_MEMBERS_MAX
 /* The calls that only read are told of a constant handle: what the member answers stays as it is. Its mark does not. */
 #define READ(member) ((struct swim_member *)(member))
 
+/* A row as swim.h has it. */
+static struct swim_row shown(const struct row *row) {
+    return (struct swim_row){row->number, row->address, row->port, row->kind, {0}};
+}
+
 int swim_members(const struct swim_member *member, struct swim_row *rows, size_t room, size_t *count) {
     struct row all[SWIM_MEMBERS_MAX];
     size_t total;
@@ -373,8 +379,23 @@ int swim_members(const struct swim_member *member, struct swim_row *rows, size_t
     if (code != SWIM_OK)
         return code;
     for (size_t i = 0; i < total && i < room; i++)
-        rows[i] = (struct swim_row){all[i].number, all[i].address, all[i].port, all[i].kind, {0}};
+        rows[i] = shown(&all[i]);
     *count = total;
+    return SWIM_OK;
+}
+
+int swim_next_change(struct swim_member *member, struct swim_row *row, struct swim_row *was) {
+    struct row now, before;
+    int code;
+    if (row == NULL || was == NULL)
+        return SWIM_NULL;
+    code = begin_own(member);
+    if (code == SWIM_OK)
+        code = ended(member, (int)swim_library_next_change(&member->inside, closed, &now, &before));
+    if (code != SWIM_OK)
+        return code;
+    *row = shown(&now);
+    *was = shown(&before);
     return SWIM_OK;
 }
 

@@ -60,7 +60,7 @@ extern "C" {
  * may come.
  */
 #define SWIM_VERSION_MAJOR 1
-#define SWIM_VERSION_MINOR 0
+#define SWIM_VERSION_MINOR 1
 #define SWIM_VERSION (SWIM_VERSION_MAJOR * 1000u + SWIM_VERSION_MINOR)
 
 /* The most bytes of a datagram. */
@@ -315,6 +315,16 @@ int swim_next_datagram(struct swim_member *member, struct swim_endpoint *to, uin
  * SWIM_OK, SWIM_NULL, SWIM_CLOSED, SWIM_NO_MEMORY.
  */
 int swim_members(const struct swim_member *member, struct swim_row *rows, size_t room, size_t *count);
+
+/*
+ * Tells the next change of what is held of a member, the own one among them: *row is what is held of it now, and *was what was told
+ * of it before. Of one that is new, *was has the kind 0, and of one that is forgotten *row: there is no row, and its number is 0.
+ * After an opening all members are new, the own one too. Ask until it answers SWIM_NOTHING, after events or each period, as you like: of a row
+ * that changed twice between, one change is told. When it has told all that it found, it reads all rows and compares
+ * them with those that it told. The last event's notes and the datagrams that wait stay.
+ * SWIM_OK, SWIM_NOTHING, SWIM_NULL, SWIM_CLOSED, SWIM_NO_MEMORY.
+ */
+int swim_next_change(struct swim_member *member, struct swim_row *row, struct swim_row *was);
 
 /* SWIM_OK, SWIM_NULL, SWIM_CLOSED. */
 int swim_get_status(const struct swim_member *member, struct swim_status *status);

@@ -105,6 +105,15 @@ public:
         rows.resize(count);
         return rows;
     }
+    // Gives each change of what is held of a member to `tell(row, was)`, as swim_next_change has them.
+    template <class Tell> void tell_changes(Tell &&tell) {
+        swim_row row, was;
+        int code;
+        while ((code = swim_next_change(&handle_, &row, &was)) == SWIM_OK)
+            tell(static_cast<const swim_row &>(row), static_cast<const swim_row &>(was));
+        if (code != SWIM_NOTHING)
+            must(code);
+    }
     swim_status status() const {
         swim_status status;
         must(swim_get_status(&handle_, &status));

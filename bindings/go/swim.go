@@ -266,9 +266,36 @@ func (m *Member) Members() ([]Row, error) {
 	}
 	all := make([]Row, 0, count)
 	for _, row := range rows[:count] {
-		all = append(all, Row{fromC(row.address, row.port), Kind(row.kind), uint64(row.number)})
+		all = append(all, rowOf(row))
 	}
 	return all, nil
+}
+
+// A Change is how what is held of a member changed: Was is nil where it had no row, and Now where it has none any more.
+type Change struct {
+	Now, Was *Row
+}
+
+func rowOf(row C.struct_swim_row) Row {
+	return Row{fromC(row.address, row.port), Kind(row.kind), uint64(row.number)}
+}
+
+func rowIfAny(row C.struct_swim_row) *Row {
+	if row.kind == 0 {
+		return nil
+	}
+	found := rowOf(row)
+	return &found
+}
+
+// NextChange is the next change of what is held of a member, or ErrNothing; after the opening all members are new.
+func (m *Member) NextChange() (Change, error) {
+	var now, was C.struct_swim_row
+	err := m.call(func(handle *C.struct_swim_member) (C.int, error) { return C.swim_next_change(handle, &now, &was), nil })
+	if err != nil {
+		return Change{}, err
+	}
+	return Change{rowIfAny(now), rowIfAny(was)}, nil
 }
 
 // StoredPeers are whom an earlier life knew.

@@ -86,6 +86,17 @@ func TestGoroutinesWaitForOneAnother(t *testing.T) {
 	}
 }
 
+func TestChangesAreToldOnce(t *testing.T) {
+	member := open(t)
+	defer member.Close()
+	change, err := member.NextChange()
+	if err != nil || change.Was != nil || *change.Now != (swim.Row{Who: me, Kind: swim.Alive, Number: 1}) {
+		t.Error(change, err)
+	}
+	_, err = member.NextChange()
+	want(t, err, swim.ErrNothing)
+}
+
 func TestStatusIsOfTypes(t *testing.T) {
 	member := open(t)
 	defer member.Close()

@@ -37,7 +37,7 @@ from . import _made
 from ._made import DATAGRAM_MAX, MEMBERS_MAX, NOTES_MAX, PEERS_MAX, Code, Kind, Note, Phase
 
 __all__ = [
-    "DATAGRAM_MAX", "MEMBERS_MAX", "Closed", "Code", "Kind", "Locked", "Member", "Note", "Phase", "Row", "Settings", "Status",
+    "DATAGRAM_MAX", "MEMBERS_MAX", "Change", "Closed", "Code", "Kind", "Locked", "Member", "Note", "Phase", "Row", "Settings", "Status",
     "SwimError", "Waiting", "make", "version",
 ]  # fmt: skip
 
@@ -148,6 +148,14 @@ class Row:
 
 
 @dataclass(frozen=True)
+class Change:
+    """How what is held of a member changed: None where there was no row, or is none any more."""
+
+    now: Optional[Row]
+    was: Optional[Row]
+
+
+@dataclass(frozen=True)
 class Status:
     """What a status page shows. `first` is the number with which this life began."""
 
@@ -157,6 +165,10 @@ class Status:
     alive: int
     suspect: int
     confirmed: int
+
+
+def _row(row: _made.swim_row) -> Optional[Row]:
+    return Row(Kind(row.kind), _from_c(row.address, row.port), row.number) if row.kind else None
 
 
 def version() -> int:
@@ -241,7 +253,19 @@ class Member:
         """A Row of each member that is known, the own one among them, by address and port."""
         rows, count = (_made.swim_row * MEMBERS_MAX)(), _c.c_size_t()
         self._call(_library.swim_members, rows, MEMBERS_MAX, count)
-        return [Row(Kind(row.kind), _from_c(row.address, row.port), row.number) for row in rows[: count.value]]
+        return [row for row in map(_row, rows[: count.value]) if row]
+
+    def changes(self) -> Iterator[Change]:
+        """What changed since the last of these was told, by address and port; after the opening all members are new."""
+        now, was = _made.swim_row(), _made.swim_row()
+        while True:
+            with self._lock:
+                code = _library.swim_next_change(self._handle, now, was)
+                if code == Code.NOTHING:
+                    return
+                _must(code)
+                found = Change(_row(now), _row(was))
+            yield found
 
     def status(self) -> Status:
         """What a status page shows."""

@@ -4,7 +4,7 @@ import ctypes as _c
 import enum
 from typing import Any, Dict, List, Tuple
 
-VERSION = 1000
+VERSION = 1001
 DATAGRAM_MAX = 512
 MEMBERS_MAX = 257
 NOTES_MAX = 32
@@ -196,6 +196,7 @@ CALLS: Dict[str, Tuple[Any, List[Any]]] = {
     "swim_leave": (_c.c_int, [_c.POINTER(swim_member)]),
     "swim_next_datagram": (_c.c_int, [_c.POINTER(swim_member), _c.POINTER(swim_endpoint), _c.c_void_p, _c.c_size_t, _c.POINTER(_c.c_size_t)]),
     "swim_members": (_c.c_int, [_c.POINTER(swim_member), _c.POINTER(swim_row), _c.c_size_t, _c.POINTER(_c.c_size_t)]),
+    "swim_next_change": (_c.c_int, [_c.POINTER(swim_member), _c.POINTER(swim_row), _c.POINTER(swim_row)]),
     "swim_get_status": (_c.c_int, [_c.POINTER(swim_member), _c.POINTER(swim_status)]),
     "swim_notes": (_c.c_int, [_c.POINTER(swim_member), _c.c_void_p, _c.POINTER(_c.c_size_t)]),
     "swim_stored_peers": (_c.c_int, [_c.POINTER(swim_member), _c.POINTER(swim_endpoint), _c.POINTER(_c.c_size_t)]),

@@ -1,7 +1,7 @@
 """A whole member over UDP under asyncio: it ticks, joins again while it is alone and every 300 ticks, and skips ticks that are late.
 
     async with swim.aio.Member("member.state", settings, peers=[("10.0.0.2", 7000)]) as member:
-        ...                     # member.members(), member.status(), as of swim.Member
+        ...                     # member.members(), member.changes(), member.status(), as of swim.Member
 """
 
 import asyncio
@@ -20,7 +20,7 @@ class Member(asyncio.DatagramProtocol):
     def __init__(self, path: Optional[swim.Path], settings: swim.Settings, peers: Sequence[swim.Address] = ()):
         self._settings, self._member = settings, swim.Member(path, settings)
         self._peers = [*peers, *self._member.stored_peers()]
-        self.members, self.status = self._member.members, self._member.status
+        self.members, self.changes, self.status = self._member.members, self._member.changes, self._member.status
 
     async def start(self) -> None:
         loop = asyncio.get_running_loop()

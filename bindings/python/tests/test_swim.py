@@ -71,6 +71,14 @@ def test_port_0_is_left_aside(member):
     assert member.notes() == []
 
 
+def test_changes_are_told_once(member):
+    own = swim.Row(swim.Kind.ALIVE, member.members()[0].who, 1)
+    assert list(member.changes()) == [swim.Change(now=own, was=None)]
+    assert list(member.changes()) == []
+    member.leave()
+    assert list(member.changes()) == [swim.Change(now=swim.Row(swim.Kind.CONFIRM, own.who, 1), was=own)]
+
+
 def test_threads_wait_for_one_another(member):
     def use():
         for _ in range(200):

@@ -1,6 +1,7 @@
 -- A call that answers 0 did what it says.
-use Rattle.std.proofs.Common.{◌≡◌, ℕ, Result, Ok, Err, OnOk, arith, sym}
-use Rattle.swim_library.specs.Codes.{OK, code_of, code_of_result}
+use Rattle.std.proofs.Common.{◌≡◌, ◌∙◌, ℕ, Result, Ok, Err, OnOk, ap, arith, refl, sym}
+use Rattle.std.specs.Prelude.{IsErrOf}
+use Rattle.swim_library.specs.Codes.{NOTHING, NO_MEMORY, OK, code_of, code_of_result}
 use Rattle.swim_library.specs.declared.refusal.Refusal.{Refusal}
 use Rattle.swim_library.specs.declared.refusal.Refusal.TheVariants as why
 
@@ -22,3 +23,48 @@ refused (why.Keeping fault) is = omega (arith, is)
 pub done : {P : Type 0} (result : Result (Unit {0}) Refusal) (code : ℕ) → code ≡ code_of_result result → code ≡ OK → OnOk result P → P
 done (Ok all) code is ok p = p
 done (Err refusal) code is ok p = absurd (refused refusal (rw (sym is) ok))
+
+-- The code of an error says which one it is.
+
+abbrev pub err : Refusal → Result (Unit {0}) Refusal
+err refusal = Err refusal
+
+erred : (result : Result (Unit {0}) Refusal) (code : ℕ) (r : Refusal) → code ≡ code_of_result result → code ≡ code_of r → ((s : Refusal) → code_of s ≡ code_of r → s ≡ r) → IsErrOf result r
+erred (Ok all) code r is said one = absurd (refused r (sym said ∙ is))
+erred (Err s) code r is said one = ap err (one s (sym is ∙ said))
+
+is_nothing : (r : Refusal) → code_of r ≡ NOTHING → r ≡ why.Nothing
+is_nothing why.Nothing is = refl
+is_nothing why.Closed is = absurd omega (arith, is)
+is_nothing why.IsOpen is = absurd omega (arith, is)
+is_nothing why.NoEndpoint is = absurd omega (arith, is)
+is_nothing why.Waiting is = absurd omega (arith, is)
+is_nothing why.Short is = absurd omega (arith, is)
+is_nothing why.NoMemory is = absurd omega (arith, is)
+is_nothing why.File is = absurd omega (arith, is)
+is_nothing why.Address is = absurd omega (arith, is)
+is_nothing (why.Settings fault) is = absurd omega (arith, is)
+is_nothing (why.Opening fault) is = absurd omega (arith, is)
+is_nothing (why.Making fault) is = absurd omega (arith, is)
+is_nothing (why.Keeping fault) is = absurd omega (arith, is)
+
+is_no_memory : (r : Refusal) → code_of r ≡ NO_MEMORY → r ≡ why.NoMemory
+is_no_memory why.Nothing is = absurd omega (arith, is)
+is_no_memory why.Closed is = absurd omega (arith, is)
+is_no_memory why.IsOpen is = absurd omega (arith, is)
+is_no_memory why.NoEndpoint is = absurd omega (arith, is)
+is_no_memory why.Waiting is = absurd omega (arith, is)
+is_no_memory why.Short is = absurd omega (arith, is)
+is_no_memory why.NoMemory is = refl
+is_no_memory why.File is = absurd omega (arith, is)
+is_no_memory why.Address is = absurd omega (arith, is)
+is_no_memory (why.Settings fault) is = absurd omega (arith, is)
+is_no_memory (why.Opening fault) is = absurd omega (arith, is)
+is_no_memory (why.Making fault) is = absurd omega (arith, is)
+is_no_memory (why.Keeping fault) is = absurd omega (arith, is)
+
+pub nothing : (result : Result (Unit {0}) Refusal) (code : ℕ) → code ≡ code_of_result result → code ≡ NOTHING → IsErrOf result why.Nothing
+nothing result code is said = erred result code why.Nothing is said is_nothing
+
+pub no_memory : (result : Result (Unit {0}) Refusal) (code : ℕ) → code ≡ code_of_result result → code ≡ NO_MEMORY → IsErrOf result why.NoMemory
+no_memory result code is said = erred result code why.NoMemory is said is_no_memory

@@ -1,5 +1,7 @@
+mod Changing
 mod Crosses
 mod Dealing
 mod Doing
+mod Entering
 mod Owned
 mod Waiting

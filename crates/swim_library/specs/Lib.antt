@@ -1,3 +1,4 @@
+pub mod Changes
 pub mod Codes
 pub mod Deal
 pub mod Handle

@@ -39,7 +39,8 @@ abbrev pub GoesInto : NodeView FileView → NodeView FileView → Entry → Type
 GoesInto old new e = ((new.base ≡ old.base) × (new.entries ≡ old.entries ++ e ∷ []))
     ⊎ ((new.base ≡ next_base old.base (old.entries ++ e ∷ [])) × (new.entries ≡ []))
 
--- one call of the node, with this event and this reply: what it sent, and no more, waits too
+-- one call of the node, with this event and this reply: what it sent, and no more, waits too; what
+-- was told of members stays
 pub record AddsTo (old new : Running) (event : Event) (reply : Reply) : Type 0 where
   pub entry : Entry
   pub event_is : entry.event ≡ event
@@ -48,6 +49,7 @@ pub record AddsTo (old new : Running) (event : Event) (reply : Reply) : Type 0 w
   pub era : GoesInto old.node new.node entry
   pub waits : waiting_in new.outbox
       ≡ waiting_in old.outbox ++ taken_by entry.outs.items entry.outcomes.items
+  pub told : new.told ≡ old.told
   pub owner : new.node.owner ≡ old.node.owner
   pub first : new.node.first ≡ old.node.first
   pub lives : LivesOn old.node new.node
@@ -75,6 +77,7 @@ pub record Hands (old new : Running) (to : SwimEndpoint) (bytes : List ℕ) : Ty
   pub to_is : to ≡ endpoint_as who
   pub node : new.node ≡ old.node
   pub notes : new.notes ≡ old.notes
+  pub told : new.told ≡ old.told
 
 -- these rows are those of the page that was answered
 pub record ShowsRows (old new : Running) (event : Event) (rows : List SwimRow) : Type 0 where
@@ -82,10 +85,11 @@ pub record ShowsRows (old new : Running) (event : Event) (rows : List SwimRow) :
   pub adds : AddsTo old new event reply
   pub rows_are : rows ≡ map row_as reply.page.items
 
--- the member goes on, with what waits and with its notes
+-- the member goes on, with what waits, its notes, and what it has told
 pub record GoesOnOpen (old new : Running) : Type 0 where
   pub outbox : new.outbox ≡ old.outbox
   pub notes : new.notes ≡ old.notes
+  pub told : new.told ≡ old.told
   pub owner : new.node.owner ≡ old.node.owner
   pub first : new.node.first ≡ old.node.first
   pub lives : LivesOn old.node new.node

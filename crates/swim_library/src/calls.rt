@@ -104,9 +104,10 @@ fn write_endpoints(endpoints: &[Endpoint], out: &mut [SwimEndpoint])
 
 impl Running {
     /// Makes one call of the node. Where it fills the era, the next one begins.
-    fn apply(&mut self, event: Event) -> Result<Reply, Refusal>
+    pub(crate) fn apply(&mut self, event: Event) -> Result<Reply, Refusal>
         ensures added { IfOk result (λ reply. AddsTo self.old self.new event reply) }
         ensures notes { self.new.notes ≡ self.old.notes }
+        ensures told { self.new.told ≡ self.old.told }
         ensures refused { IfErr result (λ refusal. refusal ≡ why.NoMemory) }
         ensures same { OnErr result (self.new ≡ self.old) }
     {

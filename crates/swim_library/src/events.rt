@@ -1,8 +1,8 @@
 //! The events of a member, and what it is to send.
 
-ghost use Rattle.std.specs.Prelude.{◌≡◌, ◌≢◌, ◌*◌, ◌+◌, ◌∷◌, [], List, ℕ, length, take as first, Some, None};
-ghost use Rattle.swim_library.specs.Codes.{CLOSED, IsDoneOrLacks, NO_ENDPOINT, NOTHING, OK, WAITING};
-ghost use Rattle.swim_library.specs.Holding.{HandleBecomes, held};
+ghost use Rattle.std.specs.Prelude.{◌≡◌, ◌≢◌, [], List, ℕ, length, take as first, Some, None};
+ghost use Rattle.swim_library.specs.Codes.{CLOSED, NO_ENDPOINT, NOTHING, OK};
+ghost use Rattle.swim_library.specs.Holding.{TriesToEnter, HandleBecomes, held};
 ghost use Rattle.swim_library.specs.Outbox.{waiting_in};
 ghost use Rattle.swim_library.specs.Running.{EntersEvent, EntersTick, Hands};
 ghost use Rattle.swim_library.specs.Shapes.{number_of_endpoint};
@@ -29,17 +29,8 @@ fn kept_of(bytes: &[u8]) -> ArrayVec<u8, RECEIVED_MAX>
 
 /// Enters an event in the member that a handle leads to.
 fn enter(member: &mut SwimMember, spare: SwimMember, event: Event) -> u32
-    ensures entered { result ≡ OK
-        → HandleBecomes member.old member.new
+    ensures { TriesToEnter member.old member.new result
         (λ before after. EntersEvent before after event) }
-    ensures refused { result ≢ OK → held member.new ≡ held member.old }
-    ensures closed { held member.old ≡ None → result ≡ CLOSED }
-    ensures waits { (running : Running) → held member.old ≡ Some running
-        → waiting_in running.outbox ≢ []
-        → result ≡ WAITING }
-    ensures open { (running : Running) → held member.old ≡ Some running
-        → waiting_in running.outbox ≡ []
-        → IsDoneOrLacks result }
 {
     match take(member, spare) {
         None => code(Err(Refusal::Closed)),
@@ -54,17 +45,8 @@ fn enter(member: &mut SwimMember, spare: SwimMember, event: Event) -> u32
 /// Time goes on by one tick.
 #[unsafe(no_mangle)]
 pub extern "C" fn swim_library_tick(member: &mut SwimMember, spare: SwimMember, random: u64) -> u32
-    ensures entered { result ≡ OK → (numbers : List ℕ)
-        × HandleBecomes member.old member.new
-        (λ before after. EntersTick before after numbers) }
-    ensures refused { result ≢ OK → held member.new ≡ held member.old }
-    ensures closed { held member.old ≡ None → result ≡ CLOSED }
-    ensures waits { (running : Running) → held member.old ≡ Some running
-        → waiting_in running.outbox ≢ []
-        → result ≡ WAITING }
-    ensures open { (running : Running) → held member.old ≡ Some running
-        → waiting_in running.outbox ≡ []
-        → IsDoneOrLacks result }
+    ensures { TriesToEnter member.old member.new result
+        (λ before after. (numbers : List ℕ) × EntersTick before after numbers) }
 {
     match take(member, spare) {
         None => code(Err(Refusal::Closed)),
@@ -85,22 +67,12 @@ pub extern "C" fn swim_library_receive(
     from: &SwimEndpoint,
     bytes: &[u8],
 ) -> u32
-    ensures entered { result ≡ OK → from.now.port ≢ 0
-        → HandleBecomes member.old member.new (λ before after. EntersEvent before after
-        (Datagram (number_of_endpoint from.now)
+    ensures somebody { from.now.port ≢ 0 → TriesToEnter member.old member.new result
+        (λ before after. EntersEvent before after (Datagram (number_of_endpoint from.now)
         (record { items = first RECEIVED_MAX bytes.now }))) }
-    ensures refused { result ≢ OK → held member.new ≡ held member.old }
-    ensures closed { held member.old ≡ None → result ≡ CLOSED }
     ensures nobody { from.now.port ≡ 0 → held member.new ≡ held member.old }
     ensures aside { from.now.port ≡ 0 → held member.old ≢ None → result ≡ OK }
-    ensures waits { (running : Running) → held member.old ≡ Some running
-        → from.now.port ≢ 0
-        → waiting_in running.outbox ≢ []
-        → result ≡ WAITING }
-    ensures open { (running : Running) → held member.old ≡ Some running
-        → from.now.port ≢ 0
-        → waiting_in running.outbox ≡ []
-        → IsDoneOrLacks result }
+    ensures closed { held member.old ≡ None → result ≡ CLOSED }
 {
     match from.endpoint() {
         None if member.is_open() => code(Ok(())),
@@ -115,17 +87,8 @@ pub extern "C" fn swim_library_receive(
 /// A receive failed.
 #[unsafe(no_mangle)]
 pub extern "C" fn swim_library_receive_failed(member: &mut SwimMember, spare: SwimMember) -> u32
-    ensures entered { result ≡ OK
-        → HandleBecomes member.old member.new
+    ensures { TriesToEnter member.old member.new result
         (λ before after. EntersEvent before after ReceiveFailed) }
-    ensures refused { result ≢ OK → held member.new ≡ held member.old }
-    ensures closed { held member.old ≡ None → result ≡ CLOSED }
-    ensures waits { (running : Running) → held member.old ≡ Some running
-        → waiting_in running.outbox ≢ []
-        → result ≡ WAITING }
-    ensures open { (running : Running) → held member.old ≡ Some running
-        → waiting_in running.outbox ≡ []
-        → IsDoneOrLacks result }
 {
     enter(member, spare, Event::ReceiveFailed)
 }
@@ -137,17 +100,8 @@ pub extern "C" fn swim_library_send_failed(
     spare: SwimMember,
     count: u32,
 ) -> u32
-    ensures entered { result ≡ OK
-        → HandleBecomes member.old member.new
+    ensures { TriesToEnter member.old member.new result
         (λ before after. EntersEvent before after (SendFailed count)) }
-    ensures refused { result ≢ OK → held member.new ≡ held member.old }
-    ensures closed { held member.old ≡ None → result ≡ CLOSED }
-    ensures waits { (running : Running) → held member.old ≡ Some running
-        → waiting_in running.outbox ≢ []
-        → result ≡ WAITING }
-    ensures open { (running : Running) → held member.old ≡ Some running
-        → waiting_in running.outbox ≡ []
-        → IsDoneOrLacks result }
 {
     enter(member, spare, Event::SendFailed { count })
 }
@@ -159,20 +113,10 @@ pub extern "C" fn swim_library_join(
     spare: SwimMember,
     peer: &SwimEndpoint,
 ) -> u32
-    ensures entered { result ≡ OK
-        → HandleBecomes member.old member.new (λ before after. EntersEvent before after
-        (Join (number_of_endpoint peer.now))) }
-    ensures refused { result ≢ OK → held member.new ≡ held member.old }
-    ensures closed { held member.old ≡ None → peer.now.port ≢ 0 → result ≡ CLOSED }
+    ensures peer { peer.now.port ≢ 0 → TriesToEnter member.old member.new result
+        (λ before after. EntersEvent before after (Join (number_of_endpoint peer.now))) }
     ensures endpoint { peer.now.port ≡ 0 → result ≡ NO_ENDPOINT }
-    ensures waits { (running : Running) → held member.old ≡ Some running
-        → peer.now.port ≢ 0
-        → waiting_in running.outbox ≢ []
-        → result ≡ WAITING }
-    ensures open { (running : Running) → held member.old ≡ Some running
-        → peer.now.port ≢ 0
-        → waiting_in running.outbox ≡ []
-        → IsDoneOrLacks result }
+    ensures same { peer.now.port ≡ 0 → held member.new ≡ held member.old }
 {
     match peer.endpoint() {
         None => code(Err(Refusal::NoEndpoint)),
@@ -183,17 +127,8 @@ pub extern "C" fn swim_library_join(
 /// The member leaves the group.
 #[unsafe(no_mangle)]
 pub extern "C" fn swim_library_leave(member: &mut SwimMember, spare: SwimMember) -> u32
-    ensures entered { result ≡ OK
-        → HandleBecomes member.old member.new
+    ensures { TriesToEnter member.old member.new result
         (λ before after. EntersEvent before after Leave) }
-    ensures refused { result ≢ OK → held member.new ≡ held member.old }
-    ensures closed { held member.old ≡ None → result ≡ CLOSED }
-    ensures waits { (running : Running) → held member.old ≡ Some running
-        → waiting_in running.outbox ≢ []
-        → result ≡ WAITING }
-    ensures open { (running : Running) → held member.old ≡ Some running
-        → waiting_in running.outbox ≡ []
-        → IsDoneOrLacks result }
 {
     enter(member, spare, Event::Leave)
 }

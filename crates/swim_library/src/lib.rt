@@ -7,6 +7,7 @@
 #![tactic(auto)]
 
 mod calls;
+mod changes;
 mod deal;
 mod events;
 mod handle;

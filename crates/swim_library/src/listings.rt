@@ -1,7 +1,8 @@
 //! What a member shows and keeps.
 
-ghost use Rattle.std.specs.Prelude.{◌≡◌, ◌≢◌, ◌≤◌, length, map, take as first, Some, None};
-ghost use Rattle.swim_library.specs.Codes.{CLOSED, IsDoneOrLacks, OK};
+ghost use Rattle.std.specs.Prelude.{◌≡◌, ◌≢◌, ◌≤◌, ◌⊎◌, length, map, take as first, Some, None};
+ghost use Rattle.swim_library.specs.Changes.{HasNothingToTell, ReadsInVain, TellsChange};
+ghost use Rattle.swim_library.specs.Codes.{CLOSED, IsDoneOrLacks, NOTHING, NO_MEMORY, OK};
 ghost use Rattle.swim_library.specs.Holding.{HandleBecomes, held};
 ghost use Rattle.swim_library.specs.Running.{GoesOnOpen, SavesPeers, ShowsRows};
 ghost use Rattle.swim_library.specs.Shapes.{cursor_of, endpoint_as, note_as, status_as};
@@ -38,6 +39,32 @@ pub extern "C" fn swim_library_members(
         None => code(Err(Refusal::Closed)),
         Some(mut running) => {
             let done = running.rows_after(after.cursor(), rows, count);
+            put(member, running);
+            code(done)
+        }
+    }
+}
+
+/// Tells the next change of a member's row: the row that it is, and the row that it was. The kind is 0 where there is none.
+#[unsafe(no_mangle)]
+pub extern "C" fn swim_library_next_change(
+    member: &mut SwimMember,
+    spare: SwimMember,
+    row: &mut SwimRow,
+    was: &mut SwimRow,
+) -> u32
+    ensures told { result ≡ OK → HandleBecomes member.old member.new
+        (λ before after. TellsChange before after row.new was.new) }
+    ensures nothing { result ≡ NOTHING → HandleBecomes member.old member.new HasNothingToTell }
+    ensures in_vain { result ≡ NO_MEMORY → HandleBecomes member.old member.new ReadsInVain }
+    ensures closed { held member.old ≡ None → (result ≡ CLOSED) × (held member.new ≡ None) }
+    ensures open { held member.old ≢ None → IsDoneOrLacks result ⊎ (result ≡ NOTHING) }
+    ensures unwritten { result ≢ OK → (row.new ≡ row.old) × (was.new ≡ was.old) }
+{
+    match take(member, spare) {
+        None => code(Err(Refusal::Closed)),
+        Some(mut running) => {
+            let done = running.next_change(row, was);
             put(member, running);
             code(done)
         }

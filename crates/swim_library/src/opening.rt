@@ -14,6 +14,7 @@ ghost use Rattle.swim_library.specs.declared.running.Running.{Running};
 ghost use Rattle.swim_member.specs.Checks.{AreSound};
 ghost use Rattle.swim_node.specs.Lives.{MayEnd};
 
+use crate::changes::Told;
 use crate::handle::{SwimMember, put, take};
 use crate::outbox::Outbox;
 use crate::refusal::{Refusal, code};
@@ -104,6 +105,7 @@ fn running_on(
         node,
         outbox: Outbox::new(),
         notes: ArrayVec::new(),
+        told: Told::new(),
         limit,
     };
     match Box::new(alloc, running) {
@@ -123,7 +125,7 @@ pub extern "C" fn swim_library_make_state(alloc: Global, fd: i32, settings: &Swi
     code(make(alloc, fd, settings))
 }
 
-/// OpensOn a member on its state file. A handle that is open already stays as it is.
+/// Opens a member on its state file. A handle that is open already stays as it is.
 #[unsafe(no_mangle)]
 pub extern "C" fn swim_library_open(
     alloc: Global,

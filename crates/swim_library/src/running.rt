@@ -2,6 +2,7 @@
 
 ghost use Rattle.std.specs.Prelude.{◌≡◌, ◌<◌, length};
 
+use crate::changes::Told;
 use crate::outbox::Outbox;
 use arrayvec::ArrayVec;
 use swim_disk::FileDisk;
@@ -15,6 +16,8 @@ pub(crate) struct Running {
     pub(crate) outbox: Outbox,
     /// What the last event took note of.
     pub(crate) notes: ArrayVec<Note, NOTES_MAX>,
+    /// What the program was told of members.
+    pub(crate) told: Told,
     /// How many entries an era has.
     pub(crate) limit: u32,
     ghost limit_is: { node.base.limit ≡ limit },

@@ -7,6 +7,7 @@
  *     calls fail                each write and sync of a life is failed once: no life says a number of an earlier one, and none
  *                               allocates after its opening
  *     calls order               each turn probes each other member once, in an order that the random words give
+ *     calls changes             changes are told once each and in order, and lead to the rows that swim_members has
  *     calls make                a making that is killed at any moment leaves its path whole or not there
  *     calls fork                a handle that was open is refused in the child of a fork, which may close it
  *     calls threads             calls of four threads on one handle: whoever meets another is told, and nothing breaks
@@ -150,7 +151,7 @@ static void misuse(void) {
     struct swim_member m = SWIM_CLOSED_MEMBER, other = SWIM_CLOSED_MEMBER;
     struct swim_settings settings = sound();
     struct swim_endpoint none = {LOOPBACK, 0}, to = {1, 2}, peers[SWIM_PEERS_MAX];
-    struct swim_row rows[SWIM_MEMBERS_MAX];
+    struct swim_row rows[SWIM_MEMBERS_MAX], was = {0};
     struct swim_status status;
     uint8_t bytes[SWIM_DATAGRAM_MAX], notes[SWIM_NOTES_MAX], noise[600];
     size_t n = 77;
@@ -174,6 +175,9 @@ static void misuse(void) {
     want("leave null", swim_leave(NULL), SWIM_NULL);
     want("next null", swim_next_datagram(NULL, &to, bytes, sizeof bytes, &n), SWIM_NULL);
     want("members null", swim_members(NULL, rows, 1, &n), SWIM_NULL);
+    want("changes null", swim_next_change(NULL, rows, &was), SWIM_NULL);
+    want("changes null row", swim_next_change(&m, NULL, &was), SWIM_NULL);
+    want("changes null was", swim_next_change(&m, rows, NULL), SWIM_NULL);
     want("status null", swim_get_status(NULL, &status), SWIM_NULL);
     want("notes null", swim_notes(NULL, notes, &n), SWIM_NULL);
     want("stored peers null", swim_stored_peers(NULL, peers, &n), SWIM_NULL);
@@ -188,6 +192,7 @@ static void misuse(void) {
     want("leave closed", swim_leave(&m), SWIM_CLOSED);
     want("next closed", swim_next_datagram(&m, &to, bytes, sizeof bytes, &n), SWIM_CLOSED);
     want("members closed", swim_members(&m, rows, SWIM_MEMBERS_MAX, &n), SWIM_CLOSED);
+    want("changes closed", swim_next_change(&m, rows, &was), SWIM_CLOSED);
     want("status closed", swim_get_status(&m, &status), SWIM_CLOSED);
     want("notes closed", swim_notes(&m, notes, &n), SWIM_CLOSED);
     want("stored peers closed", swim_stored_peers(&m, peers, &n), SWIM_CLOSED);
@@ -445,7 +450,7 @@ static struct swim_endpoint some_endpoint(void) {
 static int one_call(struct swim_member *m) {
     uint8_t bytes[700], notes[SWIM_NOTES_MAX];
     struct swim_endpoint to, peers[SWIM_PEERS_MAX];
-    struct swim_row rows[SWIM_MEMBERS_MAX];
+    struct swim_row rows[SWIM_MEMBERS_MAX], was;
     struct swim_status status = {0};
     struct swim_settings settings = sound();
     size_t n = 0;
@@ -462,6 +467,7 @@ static int one_call(struct swim_member *m) {
     case 8: return swim_receive_failed(m);
     case 9: return below(32) == 0 ? swim_close(m) : SWIM_OK;
     case 10: return swim_open_memory(m, &settings, 1 + (uint32_t)below(4));
+    case 11: return swim_next_change(m, rows, &was);
     default: break;
     }
     if (below(3) == 0)
@@ -582,6 +588,7 @@ static void make(void) {
 /* The child says by its status which calls did not answer SWIM_FORKED. It closes once it is told. */
 static int be_child(struct swim_member *m, int told) {
     struct swim_endpoint to, peers[SWIM_PEERS_MAX];
+    struct swim_row row, was;
     struct swim_status status;
     uint8_t bytes[SWIM_DATAGRAM_MAX];
     size_t n;
@@ -590,6 +597,7 @@ static int be_child(struct swim_member *m, int told) {
         swim_tick(m, 1), swim_receive(m, peer, bytes, 0), swim_receive_failed(m), swim_send_failed(m, 1), swim_join(m, peer),
         swim_leave(m), swim_next_datagram(m, &to, bytes, sizeof bytes, &n), swim_members(m, NULL, 0, &n),
         swim_get_status(m, &status), swim_notes(m, bytes, &n), swim_stored_peers(m, peers, &n), swim_keep_peers(m),
+        swim_next_change(m, &row, &was),
     };
     for (size_t i = 0; i < sizeof codes / sizeof *codes; i++)
         if (codes[i] != SWIM_FORKED)
@@ -663,6 +671,92 @@ static void threads(void) {
     holds(live == 0, "all memory is given back");
 }
 
+/* What a program knows by changes alone: its rows by address and port. */
+static struct swim_row known[SWIM_MEMBERS_MAX];
+static size_t known_count;
+
+static uint64_t place_of(const struct swim_row *row) { return (uint64_t)row->address << 16 | row->port; }
+
+static int is_same(const struct swim_row *a, const struct swim_row *b) {
+    return place_of(a) == place_of(b) && a->kind == b->kind && a->number == b->number;
+}
+
+/* Makes a change of the rows that are known, of which `was` has to be one, or none of its member. */
+static void apply_change(const struct swim_row *row, const struct swim_row *was) {
+    size_t at = 0;
+    while (at < known_count && place_of(&known[at]) < place_of(was))
+        at++;
+    int is_known = at < known_count && place_of(&known[at]) == place_of(was);
+    holds(place_of(row) == place_of(was) && !is_same(row, was), "a change is of one member");
+    holds(is_known ? is_same(&known[at], was) : was->kind == 0 && was->number == 0, "it says what was told before");
+    holds(row->kind != 0 || row->number == 0, "no row has no number");
+    if (row->kind != 0 && is_known) {
+        known[at] = *row;
+    } else if (row->kind != 0) {
+        memmove(&known[at + 1], &known[at], (known_count++ - at) * sizeof *known);
+        known[at] = *row;
+    } else if (is_known) {
+        memmove(&known[at], &known[at + 1], (--known_count - at) * sizeof *known);
+    }
+}
+
+/* Takes all changes. Then what is known is what swim_members has. */
+static int take_changes(struct swim_member *m) {
+    struct swim_row row, was, rows[SWIM_MEMBERS_MAX];
+    uint64_t last = 0;
+    size_t count;
+    int told = 0;
+    for (; swim_next_change(m, &row, &was) == SWIM_OK; told++) {
+        holds(place_of(&row) > last, "changes are told by address and port, each member once");
+        last = place_of(&row);
+        apply_change(&row, &was);
+    }
+    want("members", swim_members(m, rows, SWIM_MEMBERS_MAX, &count), SWIM_OK);
+    holds(count == known_count, "as many rows as changes have told");
+    for (size_t i = 0; i < count && i < known_count; i++)
+        holds(is_same(&rows[i], &known[i]), "the rows that changes have told");
+    return told;
+}
+
+static void changes(void) {
+    struct swim_member m = SWIM_CLOSED_MEMBER;
+    struct swim_settings settings = sound();
+    struct swim_row row, was;
+    uint8_t bytes[SWIM_DATAGRAM_MAX], notes[SWIM_NOTES_MAX];
+    size_t n;
+    long told = 0;
+    settings.suspect = 20;
+    settings.forget = 100;
+    want("open", swim_open_memory(&m, &settings, 1), SWIM_OK);
+    long before = allocations;
+    want("itself is new", take_changes(&m), 1);
+    want("and told once", swim_next_change(&m, &row, &was), SWIM_NOTHING);
+    want("receive noise", swim_receive(&m, peer, (const uint8_t *)"x", 1), SWIM_OK);
+    want("join", swim_join(&m, peer), SWIM_OK);
+    want("nothing new while a datagram waits", swim_next_change(&m, &row, &was), SWIM_NOTHING);
+    take_all(&m);
+    want("others", swim_receive(&m, peer, bytes, presence(bytes)), SWIM_OK);
+    want("notes", swim_notes(&m, notes, &n), SWIM_OK);
+    holds(n == 0, "no note");
+    want("the first of them", swim_next_change(&m, &row, &was), SWIM_OK);
+    holds(row.kind == SWIM_ALIVE && row.number == 1 && row.port == peer.port && was.kind == 0, "is new");
+    apply_change(&row, &was);
+    take_all(&m);
+    want("the others", take_changes(&m), OTHERS - 1);
+    for (int i = 0; i < 1000; i++) {
+        want("tick", swim_tick(&m, draw()), SWIM_OK);
+        take_all(&m);
+        told += take_changes(&m);
+    }
+    holds(known_count == 1 && told == 3 * OTHERS, "each was suspected, confirmed and forgotten");
+    want("suspicion", swim_receive(&m, peer, bytes, suspicion(bytes, 1)), SWIM_OK);
+    take_all(&m);
+    holds(take_changes(&m) >= 1 && known[0].number == 2, "its own number rose");
+    holds(allocations == before, "no change allocates");
+    want("close", swim_close(&m), SWIM_OK);
+    holds(live == 0, "all memory is given back");
+}
+
 static void random_calls(uint64_t seed, long count) {
     struct swim_member m = SWIM_CLOSED_MEMBER;
     long by_code[64] = {0};
@@ -688,6 +782,8 @@ int main(int argc, char **argv) {
         fail();
     else if (argc >= 2 && strcmp(argv[1], "order") == 0)
         order();
+    else if (argc >= 2 && strcmp(argv[1], "changes") == 0)
+        changes();
     else if (argc >= 2 && strcmp(argv[1], "make") == 0)
         make();
     else if (argc >= 2 && strcmp(argv[1], "fork") == 0)

@@ -3,7 +3,7 @@
 use std::mem::size_of;
 use std::os::raw::{c_char, c_int, c_void};
 
-pub const SWIM_VERSION: u32 = 1000;
+pub const SWIM_VERSION: u32 = 1001;
 pub const SWIM_DATAGRAM_MAX: usize = 512;
 pub const SWIM_MEMBERS_MAX: usize = 257;
 pub const SWIM_NOTES_MAX: usize = 32;
@@ -186,6 +186,7 @@ extern "C" {
     pub fn swim_leave(member: *mut swim_member) -> c_int;
     pub fn swim_next_datagram(member: *mut swim_member, to: *mut swim_endpoint, bytes: *mut u8, room: usize, length: *mut usize) -> c_int;
     pub fn swim_members(member: *const swim_member, rows: *mut swim_row, room: usize, count: *mut usize) -> c_int;
+    pub fn swim_next_change(member: *mut swim_member, row: *mut swim_row, was: *mut swim_row) -> c_int;
     pub fn swim_get_status(member: *const swim_member, status: *mut swim_status) -> c_int;
     pub fn swim_notes(member: *const swim_member, notes: *mut u8, count: *mut usize) -> c_int;
     pub fn swim_stored_peers(member: *const swim_member, peers: *mut swim_endpoint, count: *mut usize) -> c_int;

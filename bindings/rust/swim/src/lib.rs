@@ -165,6 +165,26 @@ pub struct Row {
     pub number: u64,
 }
 
+impl Row {
+    /// The row that C wrote, if it is one.
+    fn of(row: &sys::swim_row) -> Option<Row> {
+        (row.kind != 0).then(|| Row {
+            kind: Kind::of(row.kind),
+            who: from_c(row.address, row.port),
+            number: row.number,
+        })
+    }
+}
+
+/// How what is held of a member changed: `None` where there was no row, or is none any more.
+#[derive(Clone, Copy, Debug, PartialEq, Eq)]
+pub struct Change {
+    /// What is held of it now.
+    pub now: Option<Row>,
+    /// What was told of it before.
+    pub was: Option<Row>,
+}
+
 /// What a status page shows. `first` is the number with which this life began.
 #[derive(Clone, Copy, Debug, PartialEq, Eq)]
 pub struct Status {
@@ -330,14 +350,21 @@ impl Member {
     pub fn members(&mut self) -> Result<Vec<Row>, Fault> {
         let (mut rows, mut count) = ([NO_ROW; sys::SWIM_MEMBERS_MAX], 0);
         done(unsafe { sys::swim_members(&self.handle, rows.as_mut_ptr(), rows.len(), &mut count) })?;
-        Ok(rows[..count]
-            .iter()
-            .map(|row| Row {
-                kind: Kind::of(row.kind),
-                who: from_c(row.address, row.port),
-                number: row.number,
-            })
-            .collect())
+        Ok(rows[..count].iter().filter_map(Row::of).collect())
+    }
+
+    /// The next change of what is held of a member, if there is one; after the opening all members are new. Ask until it gives none.
+    pub fn next_change(&mut self) -> Result<Option<Change>, Fault> {
+        let (mut now, mut was) = (NO_ROW, NO_ROW);
+        let code = unsafe { sys::swim_next_change(&mut self.handle, &mut now, &mut was) };
+        if code == sys::SWIM_NOTHING {
+            return Ok(None);
+        }
+        done(code)?;
+        Ok(Some(Change {
+            now: Row::of(&now),
+            was: Row::of(&was),
+        }))
     }
 
     /// What a status page shows.

@@ -90,6 +90,14 @@ fn a_member_goes_to_another_thread() {
 }
 
 #[test]
+fn changes_are_told_once() {
+    let mut member = member();
+    let change = member.next_change().expect("it answers").expect("itself is new");
+    assert_eq!((change.now, change.was), (Some(member.members().expect("rows")[0]), None));
+    assert_eq!(member.next_change().expect("it answers"), None);
+}
+
+#[test]
 fn a_status_is_of_types() {
     let mut member = member();
     let status = member.status().expect("a status");

@@ -1,12 +1,12 @@
 use Rattle.std.proofs.Common.{ℕ, subst, take, List}
-use Rattle.swim_library.specs.Holding.{HandleBecomes}
+use Rattle.swim_library.specs.Holding.{TriesToEnter}
 use Rattle.swim_library.specs.Running.{EntersEvent}
 use Rattle.swim_member.specs.declared.event.Event.TheVariants.{Datagram}
 use Rattle.swim_library.proofs.events.swim_library_receive.Goals as goal
 
-pub returns-in-Some-clause-entered : goal.returns-in-Some-clause-entered
-returns-in-Some-clause-entered c = λ ok named.
-    subst (λ (from : ℕ). HandleBecomes c.args.member.now c.enter.new.member (λ before after. EntersEvent before after (Datagram from (record { items = take 513 c.args.bytes.now }))))
+pub returns-in-Some-clause-somebody : goal.returns-in-Some-clause-somebody
+returns-in-Some-clause-somebody c = λ named.
+    subst (λ (from : ℕ). TriesToEnter c.args.member.now c.enter.new.member c.enter.result (λ before after. EntersEvent before after (Datagram from (record { items = take 513 c.args.bytes.now }))))
     c.in-Some.ensures.1
-    (subst (λ (bytes : List ℕ). HandleBecomes c.args.member.now c.enter.new.member (λ before after. EntersEvent before after (Datagram c.in-Some.from (record { items = bytes }))))
-    c.kept_of-bytes.ensures (c.enter.ensures.entered ok))
+    (subst (λ (bytes : List ℕ). TriesToEnter c.args.member.now c.enter.new.member c.enter.result (λ before after. EntersEvent before after (Datagram c.in-Some.from (record { items = bytes }))))
+    c.kept_of-bytes.ensures c.enter.ensures)

@@ -1,4 +1,4 @@
-use Rattle.std.proofs.Common.{◌≡◌, ◌∙◌, ap, subst, sym, ⊎_elim, inl, inr, List, [], ◌∷◌, ◌++◌}
+use Rattle.std.proofs.Common.{◌≡◌, ◌∙◌, ap, subst, sym, ⊎_elim, inl, inr, refl, List, [], ◌∷◌, ◌++◌}
 use Rattle.swim_disk.specs.File.{FileView, file_state}
 use Rattle.swim_state.specs.Held.{Covers, Through}
 use Rattle.swim_node.specs.History.{Base, IsLegal, granted_of}
@@ -31,6 +31,7 @@ returns-clause-added c =
           ))
           c.end_era_of.ensures.era;
       waits = made.2.took tt;
+      told = refl;
       owner = c.end_era_of.ensures.owner ∙ c.in-Ok.ensures.owner;
       first = c.end_era_of.ensures.first ∙ c.in-Ok.ensures.first;
       lives = λ settings limit opened eras lives.

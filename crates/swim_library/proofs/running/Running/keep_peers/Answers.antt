@@ -44,6 +44,7 @@ pub returns-in-Ok-clause-goes_on : goal.returns-in-Ok-clause-goes_on
 returns-in-Ok-clause-goes_on c = record {
   outbox = refl;
   notes = refl;
+  told = refl;
   owner = c.in-Ok.ensures.owner ∙ c.end_era_of.ensures.owner;
   first = c.in-Ok.ensures.first ∙ c.end_era_of.ensures.first;
   lives = λ settings limit opened eras lives.
@@ -56,6 +57,7 @@ pub returns-in-Err-clause-goes_on : goal.returns-in-Err-clause-goes_on
 returns-in-Err-clause-goes_on c = record {
   outbox = refl;
   notes = refl;
+  told = refl;
   owner = c.in-Err.ensures.owner ∙ c.end_era_of.ensures.owner;
   first = c.in-Err.ensures.first ∙ c.end_era_of.ensures.first;
   lives = λ settings limit opened eras lives.
