@@ -22,9 +22,6 @@
 /* The rows of one page. */
 #define PAGE 30
 
-/* A closed handle, which stands in the place of an open one while a call lasts. */
-static const struct swim_inside closed = {0, NULL};
-
 /* A row as the proved side has it. */
 struct row {
     uint64_t number;
@@ -35,24 +32,25 @@ struct row {
 
 uint32_t swim_library_make_state(int32_t fd, const struct swim_settings *settings);
 uint32_t swim_library_open(struct swim_inside *member, int32_t fd, const struct swim_settings *settings, uint32_t limit);
-uint32_t swim_library_close(struct swim_inside *member, struct swim_inside spare);
-uint32_t swim_library_tick(struct swim_inside *member, struct swim_inside spare, uint64_t random);
-uint32_t swim_library_receive(struct swim_inside *member, struct swim_inside spare, const struct swim_endpoint *from,
+uint32_t swim_library_close(struct swim_inside *member);
+uint32_t swim_library_tick(struct swim_inside *member, uint64_t random);
+uint32_t swim_library_advance(struct swim_inside *member, uint64_t now_ms, uint64_t random, uint64_t *next_ms);
+uint32_t swim_library_receive(struct swim_inside *member, const struct swim_endpoint *from,
                               const uint8_t *bytes, size_t length);
-uint32_t swim_library_receive_failed(struct swim_inside *member, struct swim_inside spare);
-uint32_t swim_library_send_failed(struct swim_inside *member, struct swim_inside spare, uint32_t count);
-uint32_t swim_library_join(struct swim_inside *member, struct swim_inside spare, const struct swim_endpoint *peer);
-uint32_t swim_library_leave(struct swim_inside *member, struct swim_inside spare);
-uint32_t swim_library_next_datagram(struct swim_inside *member, struct swim_inside spare, struct swim_endpoint *to,
+uint32_t swim_library_receive_failed(struct swim_inside *member);
+uint32_t swim_library_send_failed(struct swim_inside *member, uint32_t count);
+uint32_t swim_library_join(struct swim_inside *member, const struct swim_endpoint *peer);
+uint32_t swim_library_leave(struct swim_inside *member);
+uint32_t swim_library_next_datagram(struct swim_inside *member, struct swim_endpoint *to,
                                     uint8_t *bytes, size_t room, size_t *length);
-uint32_t swim_library_members(struct swim_inside *member, struct swim_inside spare, const struct swim_endpoint *after,
+uint32_t swim_library_members(struct swim_inside *member, const struct swim_endpoint *after,
                               struct row *rows, size_t room, size_t *count);
-uint32_t swim_library_next_change(struct swim_inside *member, struct swim_inside spare, struct row *row, struct row *was);
-uint32_t swim_library_status(struct swim_inside *member, struct swim_inside spare, struct swim_status *status);
-uint32_t swim_library_notes(struct swim_inside *member, struct swim_inside spare, uint8_t *notes, size_t room, size_t *count);
-uint32_t swim_library_stored_peers(struct swim_inside *member, struct swim_inside spare, struct swim_endpoint *peers,
+uint32_t swim_library_next_change(struct swim_inside *member, struct row *row, struct row *was);
+uint32_t swim_library_status(struct swim_inside *member, struct swim_status *status);
+uint32_t swim_library_notes(struct swim_inside *member, uint8_t *notes, size_t room, size_t *count);
+uint32_t swim_library_stored_peers(struct swim_inside *member, struct swim_endpoint *peers,
                                    size_t room, size_t *count);
-uint32_t swim_library_keep_peers(struct swim_inside *member, struct swim_inside spare);
+uint32_t swim_library_keep_peers(struct swim_inside *member);
 
 /* What crosses has the layout that the proved side and the bindings expect: the proved side knows no `reserved`. */
 #define LAYOUT(type, size, field, at)                                                                                  \
@@ -306,38 +304,44 @@ int swim_open_memory(struct swim_member *member, const struct swim_settings *set
 
 int swim_close(struct swim_member *member) {
     int code = begin(member);
-    return code == SWIM_OK ? ended(member, (int)swim_library_close(&member->inside, closed)) : code;
+    return code == SWIM_OK ? ended(member, (int)swim_library_close(&member->inside)) : code;
 }
 
 int swim_tick(struct swim_member *member, uint64_t random) {
-    OWN(member, swim_library_tick(&member->inside, closed, random));
+    OWN(member, swim_library_tick(&member->inside, random));
+}
+
+int swim_advance(struct swim_member *member, uint64_t now_ms, uint64_t random, uint64_t *next_ms) {
+    if (next_ms == NULL)
+        return SWIM_NULL;
+    OWN(member, swim_library_advance(&member->inside, now_ms, random, next_ms));
 }
 
 int swim_receive(struct swim_member *member, struct swim_endpoint from, const uint8_t *bytes, size_t length) {
     static const uint8_t none;
     if (bytes == NULL && length != 0)
         return SWIM_NULL;
-    OWN(member, swim_library_receive(&member->inside, closed, &from, bytes == NULL ? &none : bytes, length));
+    OWN(member, swim_library_receive(&member->inside, &from, bytes == NULL ? &none : bytes, length));
 }
 
 int swim_receive_failed(struct swim_member *member) {
-    OWN(member, swim_library_receive_failed(&member->inside, closed));
+    OWN(member, swim_library_receive_failed(&member->inside));
 }
 
 int swim_send_failed(struct swim_member *member, uint32_t count) {
-    OWN(member, swim_library_send_failed(&member->inside, closed, count));
+    OWN(member, swim_library_send_failed(&member->inside, count));
 }
 
 int swim_join(struct swim_member *member, struct swim_endpoint peer) {
-    OWN(member, swim_library_join(&member->inside, closed, &peer));
+    OWN(member, swim_library_join(&member->inside, &peer));
 }
 
-int swim_leave(struct swim_member *member) { OWN(member, swim_library_leave(&member->inside, closed)); }
+int swim_leave(struct swim_member *member) { OWN(member, swim_library_leave(&member->inside)); }
 
 int swim_next_datagram(struct swim_member *member, struct swim_endpoint *to, uint8_t *bytes, size_t room, size_t *length) {
     if (to == NULL || bytes == NULL || length == NULL)
         return SWIM_NULL;
-    OWN(member, swim_library_next_datagram(&member->inside, closed, to, bytes, room, length));
+    OWN(member, swim_library_next_datagram(&member->inside, to, bytes, room, length));
 }
 
 /* All rows, page by page, within a call on the handle. */
@@ -346,7 +350,7 @@ static int list_rows(struct swim_inside *inside, struct row all[SWIM_MEMBERS_MAX
     struct row page[PAGE];
     size_t got = PAGE;
     for (*total = 0; got == PAGE && *total < SWIM_MEMBERS_MAX;) {
-        int code = (int)swim_library_members(inside, closed, &after, page, PAGE, &got);
+        int code = (int)swim_library_members(inside, &after, page, PAGE, &got);
         if (code != SWIM_OK)
             return code;
         for (size_t i = 0; i < got && *total < SWIM_MEMBERS_MAX; i++)
@@ -391,7 +395,7 @@ int swim_next_change(struct swim_member *member, struct swim_row *row, struct sw
         return SWIM_NULL;
     code = begin_own(member);
     if (code == SWIM_OK)
-        code = ended(member, (int)swim_library_next_change(&member->inside, closed, &now, &before));
+        code = ended(member, (int)swim_library_next_change(&member->inside, &now, &before));
     if (code != SWIM_OK)
         return code;
     *row = shown(&now);
@@ -407,7 +411,7 @@ int swim_get_status(const struct swim_member *member, struct swim_status *status
     code = begin_own(READ(member));
     if (code != SWIM_OK)
         return code;
-    code = (int)swim_library_status(&READ(member)->inside, closed, status);
+    code = (int)swim_library_status(&READ(member)->inside, status);
     if (code == SWIM_OK)
         memcpy(status->reserved, none.reserved, sizeof none.reserved);
     return ended(READ(member), code);
@@ -416,15 +420,15 @@ int swim_get_status(const struct swim_member *member, struct swim_status *status
 int swim_notes(const struct swim_member *member, uint8_t notes[SWIM_NOTES_MAX], size_t *count) {
     if (notes == NULL || count == NULL)
         return SWIM_NULL;
-    OWN(READ(member), swim_library_notes(&READ(member)->inside, closed, notes, SWIM_NOTES_MAX, count));
+    OWN(READ(member), swim_library_notes(&READ(member)->inside, notes, SWIM_NOTES_MAX, count));
 }
 
 int swim_stored_peers(const struct swim_member *member, struct swim_endpoint peers[SWIM_PEERS_MAX], size_t *count) {
     if (peers == NULL || count == NULL)
         return SWIM_NULL;
-    OWN(READ(member), swim_library_stored_peers(&READ(member)->inside, closed, peers, SWIM_PEERS_MAX, count));
+    OWN(READ(member), swim_library_stored_peers(&READ(member)->inside, peers, SWIM_PEERS_MAX, count));
 }
 
 int swim_keep_peers(struct swim_member *member) {
-    OWN(member, swim_library_keep_peers(&member->inside, closed));
+    OWN(member, swim_library_keep_peers(&member->inside));
 }

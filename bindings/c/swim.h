@@ -11,8 +11,8 @@
  *     swim_open(&member, "member.state", &settings, 1);
  *     swim_join(&member, peer);                                  and send what waits
  *
- *     each 100 ms         swim_tick(&member, random word)
  *     each datagram       swim_receive(&member, from, bytes, length)
+ *     then, and at `next` swim_advance(&member, now in ms, random word, &next)
  *     after each of them  swim_next_datagram(&member, ..) until it answers SWIM_NOTHING, and send each
  *
  *     swim_close(&member);
@@ -34,8 +34,8 @@
  * Fork.       Open after the fork, as after daemon(). In the child of a fork a handle that was open answers SWIM_FORKED, so
  *             that no two processes say one number; swim_close frees it there, and should be called, since the state file
  *             stays locked as long as any process has it open. The parent goes on. (exec closes the file by itself.)
- * Time.       A tick is what the group agrees on: `swim run` ticks each 100 ms. The library counts ticks and nothing else.
- *             Ticks that are late are skipped and never made up: see swim_tick.
+ * Time.       A tick is what the group agrees on: `swim run` ticks each 100 ms, and so does swim_advance, by the program's
+ *             clock. Ticks that are late are skipped and never made up: see swim_tick.
  * The file.   One handle on a state file, and never an older copy of it. swim_open locks the file (flock), and answers
  *             SWIM_LOCKED where another has it.
  * Numbers.    Addresses and ports are in host order: 127.0.0.1 is 0x7f000001.
@@ -283,6 +283,15 @@ int swim_close(struct swim_member *member);
  * heard and passed on 523 such confirms; by rules 1 that expelled 21 members for good.
  */
 int swim_tick(struct swim_member *member, uint64_t random);
+
+/*
+ * Time is what the program's clock says, in milliseconds: one that only rises, from whatever it counts, as CLOCK_MONOTONIC. Makes one
+ * tick if one is due, however late it is, and says in *next_ms when the next one is: 100 ms after it was due, or after now where that
+ * has passed. So ticks that are late are skipped. The first one is due 100 ms after the first call. Hand in first what waits at the
+ * socket. While none is due nothing happens but that *next_ms is said, so it may be called after each datagram. Use this or
+ * swim_tick, and not both.
+ */
+int swim_advance(struct swim_member *member, uint64_t now_ms, uint64_t random, uint64_t *next_ms);
 
 /* Bytes came from there. Any bytes will do; what is no datagram of the group is noted and no more. Past 513 bytes they are
    cut, which makes them no datagram. `bytes` may be null where `length` is 0. Anybody can send from port 0, where nobody can be

@@ -74,6 +74,12 @@ public:
     ~Member() { swim_close(&handle_); }
 
     void tick(std::uint64_t random) { must(swim_tick(&handle_, random)); }
+    // Makes one tick if one is due by the program's clock, in milliseconds, and answers when the next one is due. Late ticks are skipped.
+    std::uint64_t advance(std::uint64_t now_ms, std::uint64_t random) {
+        std::uint64_t next;
+        must(swim_advance(&handle_, now_ms, random, &next));
+        return next;
+    }
     void receive(swim_endpoint from, const void *bytes, std::size_t length) {
         must(swim_receive(&handle_, from, static_cast<const std::uint8_t *>(bytes), length));
     }

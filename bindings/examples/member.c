@@ -17,7 +17,6 @@
 #include <time.h>
 #include <unistd.h>
 
-#define TICK_MS 100
 #define PERIOD 10  /* ticks, as in the settings */
 #define REJOIN 300 /* ticks */
 #define LOOPBACK 0x7f000001u
@@ -35,10 +34,10 @@ static void must(int code, const char *what) {
     }
 }
 
-static long long now_ms(void) {
+static uint64_t now_ms(void) {
     struct timespec now;
     clock_gettime(CLOCK_MONOTONIC, &now);
-    return now.tv_sec * 1000LL + now.tv_nsec / 1000000;
+    return (uint64_t)now.tv_sec * 1000 + (uint64_t)now.tv_nsec / 1000000;
 }
 
 /* Sends all that waits, and tells how many datagrams the system refused. */
@@ -79,9 +78,12 @@ static uint64_t random_word(void) {
     return word;
 }
 
-static void tick(struct swim_member *member, int udp) {
-    must(swim_tick(member, random_word()), "tick");
+/* Makes the tick that is due, if one is, and gives when the next one is. */
+static uint64_t advance(struct swim_member *member, int udp) {
+    uint64_t next;
+    must(swim_advance(member, now_ms(), random_word(), &next), "advance");
     send_all(member, udp);
+    return next;
 }
 
 static void join(struct swim_member *member, int udp, struct swim_endpoint peer) {
@@ -99,7 +101,7 @@ static void join_all(struct swim_member *member, int udp, struct peers *peers, u
 
 /* Asks again: the peers in turn, each period while alone, and each 300 ticks one of them and one member that is known, by chance.
    Without it a group that was cut for longer than `suspect` stays in two. */
-static void join_again(struct swim_member *member, int udp, struct peers *peers, long long ticks) {
+static void join_again(struct swim_member *member, int udp, struct peers *peers, long ticks) {
     struct swim_row rows[SWIM_MEMBERS_MAX];
     struct swim_status status;
     size_t count;
@@ -144,17 +146,15 @@ int main(int argc, char **argv) {
 
     struct peers peers = {.count = 0};
     join_all(&member, udp, &peers, (uint16_t)atoi(argv[4]));
-    long long next = now_ms() + TICK_MS, end = now_ms() + atoll(argv[5]) * 1000;
-    for (long long ticks = 1; now_ms() < end;) {
-        long long left = next - now_ms();
+    uint64_t next = advance(&member, udp), end = now_ms() + strtoull(argv[5], NULL, 10) * 1000;
+    for (long ticks = 0; now_ms() < end;) {
+        uint64_t due = next, now = now_ms();
         struct pollfd ready = {udp, POLLIN, 0};
-        if (poll(&ready, 1, left > 0 ? (int)left : 0) > 0)
+        if (poll(&ready, 1, due > now ? (int)(due - now) : 0) > 0)
             receive_all(&member, udp); /* what waits is read before a tick */
-        if (now_ms() < next)
-            continue;
-        tick(&member, udp);
-        join_again(&member, udp, &peers, ticks++);
-        next = next + TICK_MS > now_ms() ? next + TICK_MS : now_ms() + TICK_MS; /* late ticks are never made up */
+        next = advance(&member, udp);
+        if (next != due)
+            join_again(&member, udp, &peers, ++ticks);
     }
 
     print_members(&member);

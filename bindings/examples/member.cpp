@@ -13,7 +13,7 @@
 using Clock = std::chrono::steady_clock;
 using Peers = std::vector<swim_endpoint>;
 
-const std::chrono::milliseconds TICK(100);
+const std::chrono::milliseconds LATE(100); // that a tick may be late for what waits at the socket
 const long REJOIN = 300; // ticks
 const std::uint32_t LOOPBACK = 0x7f000001;
 
@@ -25,13 +25,13 @@ public:
     void run(Clock::time_point end) {
         for (const swim_endpoint &peer : peers_)
             join(peer);
-        Clock::time_point next = Clock::now() + TICK;
-        for (long ticks = 1; Clock::now() < end; ticks++) {
-            receive_until(next);
-            member_.tick(random_());
-            send_all();
-            join_again(ticks);
-            next = next + TICK > Clock::now() ? next + TICK : Clock::now() + TICK; // late ticks are never made up
+        std::uint64_t next = advance();
+        for (long ticks = 0; Clock::now() < end;) {
+            std::uint64_t due = next;
+            receive_until(Clock::time_point(std::chrono::milliseconds(due)));
+            next = advance();
+            if (next != due)
+                join_again(++ticks);
         }
     }
 
@@ -44,9 +44,17 @@ public:
     const swim::Member &member() const { return member_; }
 
 private:
+    // Makes the tick that is due, if one is, and gives when the next one is.
+    std::uint64_t advance() {
+        auto now = std::chrono::duration_cast<std::chrono::milliseconds>(Clock::now().time_since_epoch());
+        std::uint64_t next = member_.advance(std::uint64_t(now.count()), random_());
+        send_all();
+        return next;
+    }
+
     // Hands in what waits, and what comes until then.
     void receive_until(Clock::time_point due) {
-        while (Clock::now() < due + TICK) {
+        while (Clock::now() < due + LATE) {
             auto left = std::chrono::duration_cast<std::chrono::milliseconds>(due - Clock::now()).count();
             pollfd ready = {udp_, POLLIN, 0};
             if (poll(&ready, 1, left > 0 ? int(left) + 1 : 0) <= 0) {

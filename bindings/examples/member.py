@@ -9,8 +9,8 @@ import time
 
 import swim
 
-TICK = 0.1
 REJOIN = 300  # ticks
+LATE = 0.1  # seconds that a tick may be late for what waits at the socket
 
 
 def send_all(member, udp):
@@ -46,21 +46,21 @@ def receive_until(member, udp, due):
         data, source = udp.recvfrom(swim.DATAGRAM_MAX + 1)
         member.receive(source, data)
         send_all(member, udp)
-        if time.monotonic() > due + TICK:
+        if time.monotonic() > due + LATE:
             return
 
 
 def run(member, udp, peers, period, seconds):
     for peer in peers:
         join(member, udp, peer)
-    end, due, ticks = time.monotonic() + seconds, time.monotonic() + TICK, 0
+    end, due, ticks = time.monotonic() + seconds, member.advance(time.monotonic()), 0
     while time.monotonic() < end:
         receive_until(member, udp, due)
-        member.tick()
+        last, due = due, member.advance(time.monotonic())
         send_all(member, udp)
-        ticks += 1
-        join_again(member, udp, peers, period, ticks)
-        due = due + TICK if due + TICK > time.monotonic() else time.monotonic() + TICK  # late ticks are never made up
+        if due > last:
+            ticks += 1
+            join_again(member, udp, peers, period, ticks)
 
 
 def main():

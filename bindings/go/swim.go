@@ -191,6 +191,16 @@ func (m *Member) Tick(random uint64) error {
 	return m.call(func(handle *C.struct_swim_member) (C.int, error) { return C.swim_tick(handle, C.uint64_t(random)), nil })
 }
 
+// Advance makes one tick if one is due by the program's clock, in milliseconds, and gives when the next one is due. Late ticks are
+// skipped. Use this or Tick, and not both.
+func (m *Member) Advance(nowMs, random uint64) (next uint64, err error) {
+	var due C.uint64_t
+	err = m.call(func(handle *C.struct_swim_member) (C.int, error) {
+		return C.swim_advance(handle, C.uint64_t(nowMs), C.uint64_t(random), &due), nil
+	})
+	return uint64(due), err
+}
+
 // Receive hands in bytes that came from there. A datagram that is none of the group is noted, and one from port 0, or from an address
 // that is not of IPv4, is left aside: neither is an error.
 func (m *Member) Receive(from netip.AddrPort, data []byte) error {

@@ -86,6 +86,16 @@ func TestGoroutinesWaitForOneAnother(t *testing.T) {
 	}
 }
 
+func TestLateTicksAreSkipped(t *testing.T) {
+	member := open(t)
+	defer member.Close()
+	for _, at := range []struct{ now, next uint64 }{{5000, 5100}, {5050, 5100}, {5100, 5200}, {60000, 60100}} {
+		if next, err := member.Advance(at.now, 1); err != nil || next != at.next {
+			t.Error(at, next, err)
+		}
+	}
+}
+
 func TestChangesAreToldOnce(t *testing.T) {
 	member := open(t)
 	defer member.Close()

@@ -15,7 +15,6 @@ import (
 )
 
 const (
-	tick   = 100 * time.Millisecond
 	rejoin = 300 // ticks
 )
 
@@ -102,14 +101,16 @@ func joinAgain(member *swim.Member, udp *net.UDPConn, peers []netip.AddrPort, pe
 	}
 }
 
-// run makes one tick a time: a Ticker leaves out those that are late, which are never made up.
+// run makes a tick when one is due; those that are late are left out.
 func run(member *swim.Member, udp *net.UDPConn, peers []netip.AddrPort, period, seconds uint64) {
 	for _, peer := range peers {
 		join(member, udp, peer)
 	}
 	came := make(chan datagram)
 	go receiveAll(udp, came)
-	ticks, count, end := time.NewTicker(tick), uint64(0), time.After(time.Duration(seconds)*time.Second)
+	begin, count, end := time.Now(), uint64(0), time.After(time.Duration(seconds)*time.Second)
+	due, err := member.Advance(0, 0)
+	must(err)
 	for {
 		select { // what waits is read before a tick
 		case one := <-came:
@@ -121,11 +122,14 @@ func run(member *swim.Member, udp *net.UDPConn, peers []netip.AddrPort, period, 
 		select {
 		case <-end:
 			return
-		case <-ticks.C:
-			count++
-			must(member.Tick(rand.Uint64()))
+		case <-time.After(time.Until(begin.Add(time.Duration(due) * time.Millisecond))):
+			next, err := member.Advance(uint64(time.Since(begin).Milliseconds()), rand.Uint64())
+			must(err)
 			sendAll(member, udp)
-			joinAgain(member, udp, peers, period, count)
+			if next != due {
+				due, count = next, count+1
+				joinAgain(member, udp, peers, period, count)
+			}
 		case one := <-came:
 			must(member.Receive(one.from, one.data))
 			sendAll(member, udp)

@@ -3,8 +3,8 @@
     with swim.Member("member.state", swim.Settings(group=7, me=("127.0.0.1", 7000))) as member:
         member.join(("127.0.0.1", 7001))
         for to, data in member.datagrams(): ...       # send each
-        member.tick()                                 # each 100 ms; late ticks are skipped, never made up
         member.receive(source, data)                  # each datagram
+        due = member.advance(time.monotonic())        # then, and when it is due again: late ticks are skipped
 
 After each event `datagrams` has to be taken to its end: the next event is refused until then. `swim.aio.Member` does all of it
 over UDP under asyncio. Threads may call one member: each call waits for the one before. `docs/EMBEDDING.md` says how time, random
@@ -215,6 +215,13 @@ class Member:
     def tick(self, random: Optional[int] = None) -> None:
         """Time goes on by one tick, with 64 random bits: the system's, if none are given. Late ticks are never made up."""
         self._call(_library.swim_tick, secrets.randbits(64) if random is None else random)
+
+    def advance(self, now: float, random: Optional[int] = None) -> float:
+        """Makes one tick if one is due by the program's clock, in seconds, as time.monotonic(), and answers when the next one is due. Late
+        ticks are skipped. Use this or tick, and not both."""
+        due = _c.c_uint64()
+        self._call(_library.swim_advance, int(now * 1000), secrets.randbits(64) if random is None else random, due)
+        return due.value / 1000
 
     def receive(self, source: Address, data: Data) -> None:
         """Bytes came from there. No datagram, whatever it is, makes this fail; one from port 0 is left aside."""

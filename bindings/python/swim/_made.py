@@ -189,6 +189,7 @@ CALLS: Dict[str, Tuple[Any, List[Any]]] = {
     "swim_open_memory": (_c.c_int, [_c.POINTER(swim_member), _c.POINTER(swim_settings), _c.c_uint32]),
     "swim_close": (_c.c_int, [_c.POINTER(swim_member)]),
     "swim_tick": (_c.c_int, [_c.POINTER(swim_member), _c.c_uint64]),
+    "swim_advance": (_c.c_int, [_c.POINTER(swim_member), _c.c_uint64, _c.c_uint64, _c.POINTER(_c.c_uint64)]),
     "swim_receive": (_c.c_int, [_c.POINTER(swim_member), swim_endpoint, _c.c_void_p, _c.c_size_t]),
     "swim_receive_failed": (_c.c_int, [_c.POINTER(swim_member)]),
     "swim_send_failed": (_c.c_int, [_c.POINTER(swim_member), _c.c_uint32]),

@@ -10,7 +10,7 @@ from typing import Any, List, Optional, Sequence, Tuple
 
 import swim
 
-TICK, REJOIN = 0.1, 300  # seconds; ticks
+REJOIN = 300  # ticks
 
 
 class Member(asyncio.DatagramProtocol):
@@ -60,15 +60,15 @@ class Member(asyncio.DatagramProtocol):
 
     async def _tick(self) -> None:
         now, ticks = asyncio.get_running_loop().time, 0
-        due = now() + TICK
+        due = self._member.advance(now())
         while True:
             await asyncio.sleep(max(0.0, due - now()))
             await asyncio.sleep(0)  # what waits at the socket is read before a tick
-            self._member.tick()
+            last, due = due, self._member.advance(now())
             self._send()
-            ticks += 1
-            self._join_again(ticks)
-            due = due + TICK if due + TICK > now() else now() + TICK
+            ticks += due > last
+            if due > last:
+                self._join_again(ticks)
 
     def _join_again(self, ticks: int) -> None:
         status = self._member.status()

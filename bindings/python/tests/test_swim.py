@@ -71,6 +71,10 @@ def test_port_0_is_left_aside(member):
     assert member.notes() == []
 
 
+def test_late_ticks_are_skipped(member):
+    assert [member.advance(now) for now in (5.0, 5.05, 5.1, 60.0)] == [5.1, 5.1, 5.2, 60.1]
+
+
 def test_changes_are_told_once(member):
     own = swim.Row(swim.Kind.ALIVE, member.members()[0].who, 1)
     assert list(member.changes()) == [swim.Change(now=own, was=None)]

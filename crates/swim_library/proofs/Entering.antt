@@ -1,8 +1,8 @@
 -- What an event came to, by the code of its call.
-use Rattle.std.proofs.Common.{◌≡◌, ◌≢◌, ◌∙◌, ◌↔◌, ℕ, [], Option, Some, None, Result, Ok, Err, OnOk, OnErr, inl, inr, ap, arith, refl, subst, sym}
+use Rattle.std.proofs.Common.{◌≡◌, ◌≢◌, ◌∙◌, ◌↔◌, ℕ, [], Some, None, Result, Ok, Err, OnOk, OnErr, inl, inr, ap, arith, subst, sym}
 use Rattle.std.proofs.lemmas.Option.{none-some, same_Some}
 use Rattle.std.specs.Prelude.{IfErr, IsErrOf}
-use Rattle.swim_library.specs.Codes.{CLOSED, OK, code_of, code_of_result}
+use Rattle.swim_library.specs.Codes.{CLOSED, code_of, code_of_result}
 use Rattle.swim_library.specs.Holding.{TriesToEnter, held}
 use Rattle.swim_library.specs.Outbox.{waiting_in}
 use Rattle.swim_library.specs.declared.handle.member.SwimMember.{SwimMember}

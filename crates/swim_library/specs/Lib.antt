@@ -5,5 +5,6 @@ pub mod Handle
 pub mod Holding
 pub mod Opening
 pub mod Outbox
+pub mod Pacing
 pub mod Running
 pub mod Shapes

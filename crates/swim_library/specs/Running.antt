@@ -50,6 +50,7 @@ pub record AddsTo (old new : Running) (event : Event) (reply : Reply) : Type 0 w
   pub waits : waiting_in new.outbox
       ≡ waiting_in old.outbox ++ taken_by entry.outs.items entry.outcomes.items
   pub told : new.told ≡ old.told
+  pub due : new.due ≡ old.due
   pub owner : new.node.owner ≡ old.node.owner
   pub first : new.node.first ≡ old.node.first
   pub lives : LivesOn old.node new.node
@@ -78,6 +79,7 @@ pub record Hands (old new : Running) (to : SwimEndpoint) (bytes : List ℕ) : Ty
   pub node : new.node ≡ old.node
   pub notes : new.notes ≡ old.notes
   pub told : new.told ≡ old.told
+  pub due : new.due ≡ old.due
 
 -- these rows are those of the page that was answered
 pub record ShowsRows (old new : Running) (event : Event) (rows : List SwimRow) : Type 0 where
@@ -90,6 +92,7 @@ pub record GoesOnOpen (old new : Running) : Type 0 where
   pub outbox : new.outbox ≡ old.outbox
   pub notes : new.notes ≡ old.notes
   pub told : new.told ≡ old.told
+  pub due : new.due ≡ old.due
   pub owner : new.node.owner ≡ old.node.owner
   pub first : new.node.first ≡ old.node.first
   pub lives : LivesOn old.node new.node

@@ -107,7 +107,7 @@ impl Running {
     pub(crate) fn apply(&mut self, event: Event) -> Result<Reply, Refusal>
         ensures added { IfOk result (λ reply. AddsTo self.old self.new event reply) }
         ensures notes { self.new.notes ≡ self.old.notes }
-        ensures told { self.new.told ≡ self.old.told }
+        ensures told { (self.new.told ≡ self.old.told) × (self.new.due ≡ self.old.due) }
         ensures refused { IfErr result (λ refusal. refusal ≡ why.NoMemory) }
         ensures same { OnErr result (self.new ≡ self.old) }
     {

@@ -1,9 +1,10 @@
 //! The events of a member, and what it is to send.
 
-ghost use Rattle.std.specs.Prelude.{◌≡◌, ◌≢◌, [], List, ℕ, length, take as first, Some, None};
-ghost use Rattle.swim_library.specs.Codes.{CLOSED, NO_ENDPOINT, NOTHING, OK};
+ghost use Rattle.std.specs.Prelude.{◌≡◌, ◌≢◌, ◌<◌, ◌≤◌, [], List, ℕ, length, take as first, Some, None};
+ghost use Rattle.swim_library.specs.Codes.{CLOSED, IsDoneOrLacks, NO_ENDPOINT, NOTHING, OK, WAITING};
 ghost use Rattle.swim_library.specs.Holding.{TriesToEnter, HandleBecomes, held};
 ghost use Rattle.swim_library.specs.Outbox.{waiting_in};
+ghost use Rattle.swim_library.specs.Pacing.{Advances, tick_due};
 ghost use Rattle.swim_library.specs.Running.{EntersEvent, EntersTick, Hands};
 ghost use Rattle.swim_library.specs.Shapes.{number_of_endpoint};
 ghost use Rattle.swim_library.specs.declared.running.Running.{Running};
@@ -28,11 +29,11 @@ fn kept_of(bytes: &[u8]) -> ArrayVec<u8, RECEIVED_MAX>
 }
 
 /// Enters an event in the member that a handle leads to.
-fn enter(member: &mut SwimMember, spare: SwimMember, event: Event) -> u32
+fn enter(member: &mut SwimMember, event: Event) -> u32
     ensures { TriesToEnter member.old member.new result
         (λ before after. EntersEvent before after event) }
 {
-    match take(member, spare) {
+    match take(member) {
         None => code(Err(Refusal::Closed)),
         Some(mut running) => {
             let done = running.enter(event);
@@ -44,11 +45,11 @@ fn enter(member: &mut SwimMember, spare: SwimMember, event: Event) -> u32
 
 /// Time goes on by one tick.
 #[unsafe(no_mangle)]
-pub extern "C" fn swim_library_tick(member: &mut SwimMember, spare: SwimMember, random: u64) -> u32
+pub extern "C" fn swim_library_tick(member: &mut SwimMember, random: u64) -> u32
     ensures { TriesToEnter member.old member.new result
         (λ before after. (numbers : List ℕ) × EntersTick before after numbers) }
 {
-    match take(member, spare) {
+    match take(member) {
         None => code(Err(Refusal::Closed)),
         Some(mut running) => {
             let done = running.tick(random);
@@ -58,12 +59,51 @@ pub extern "C" fn swim_library_tick(member: &mut SwimMember, spare: SwimMember, 
     }
 }
 
+/// Time is what the clock says: one tick goes by if one is due, however late it is.
+#[unsafe(no_mangle)]
+pub extern "C" fn swim_library_advance(
+    member: &mut SwimMember,
+    now: u64,
+    random: u64,
+    next: &mut u64,
+) -> u32
+    ensures advanced { result ≡ OK → HandleBecomes member.old member.new
+        (λ before after. Advances before after now next.new) }
+    ensures refused { result ≢ OK → held member.new ≡ held member.old }
+    ensures unwritten { result ≢ OK → next.new ≡ next.old }
+    ensures closed { held member.old ≡ None → result ≡ CLOSED }
+    ensures early { (running : Running) → held member.old ≡ Some running
+        → now < tick_due running now
+        → result ≡ OK }
+    ensures waits { (running : Running) → held member.old ≡ Some running
+        → tick_due running now ≤ now
+        → waiting_in running.outbox ≢ []
+        → result ≡ WAITING }
+    ensures open { (running : Running) → held member.old ≡ Some running
+        → waiting_in running.outbox ≡ []
+        → IsDoneOrLacks result }
+{
+    match take(member) {
+        None => code(Err(Refusal::Closed)),
+        Some(mut running) => {
+            let done = running.advance(now, random);
+            put(member, running);
+            match done {
+                Ok(due) => {
+                    *next = due;
+                    code(Ok(()))
+                }
+                Err(refusal) => code(Err(refusal)),
+            }
+        }
+    }
+}
+
 /// Bytes came. What passes 513 of them is cut off. Whoever can send a datagram can send one from port 0; nobody can be
 /// answered there, so such a one is left aside, and nothing is entered.
 #[unsafe(no_mangle)]
 pub extern "C" fn swim_library_receive(
     member: &mut SwimMember,
-    spare: SwimMember,
     from: &SwimEndpoint,
     bytes: &[u8],
 ) -> u32
@@ -79,40 +119,32 @@ pub extern "C" fn swim_library_receive(
         None => code(Err(Refusal::Closed)),
         Some(from) => {
             let bytes = kept_of(bytes);
-            enter(member, spare, Event::Datagram { from, bytes })
+            enter(member, Event::Datagram { from, bytes })
         }
     }
 }
 
 /// A receive failed.
 #[unsafe(no_mangle)]
-pub extern "C" fn swim_library_receive_failed(member: &mut SwimMember, spare: SwimMember) -> u32
+pub extern "C" fn swim_library_receive_failed(member: &mut SwimMember) -> u32
     ensures { TriesToEnter member.old member.new result
         (λ before after. EntersEvent before after ReceiveFailed) }
 {
-    enter(member, spare, Event::ReceiveFailed)
+    enter(member, Event::ReceiveFailed)
 }
 
 /// So many datagrams were not sent.
 #[unsafe(no_mangle)]
-pub extern "C" fn swim_library_send_failed(
-    member: &mut SwimMember,
-    spare: SwimMember,
-    count: u32,
-) -> u32
+pub extern "C" fn swim_library_send_failed(member: &mut SwimMember, count: u32) -> u32
     ensures { TriesToEnter member.old member.new result
         (λ before after. EntersEvent before after (SendFailed count)) }
 {
-    enter(member, spare, Event::SendFailed { count })
+    enter(member, Event::SendFailed { count })
 }
 
 /// The member asks another for all that it knows.
 #[unsafe(no_mangle)]
-pub extern "C" fn swim_library_join(
-    member: &mut SwimMember,
-    spare: SwimMember,
-    peer: &SwimEndpoint,
-) -> u32
+pub extern "C" fn swim_library_join(member: &mut SwimMember, peer: &SwimEndpoint) -> u32
     ensures peer { peer.now.port ≢ 0 → TriesToEnter member.old member.new result
         (λ before after. EntersEvent before after (Join (number_of_endpoint peer.now))) }
     ensures endpoint { peer.now.port ≡ 0 → result ≡ NO_ENDPOINT }
@@ -120,24 +152,23 @@ pub extern "C" fn swim_library_join(
 {
     match peer.endpoint() {
         None => code(Err(Refusal::NoEndpoint)),
-        Some(peer) => enter(member, spare, Event::Join { peer }),
+        Some(peer) => enter(member, Event::Join { peer }),
     }
 }
 
 /// The member leaves the group.
 #[unsafe(no_mangle)]
-pub extern "C" fn swim_library_leave(member: &mut SwimMember, spare: SwimMember) -> u32
+pub extern "C" fn swim_library_leave(member: &mut SwimMember) -> u32
     ensures { TriesToEnter member.old member.new result
         (λ before after. EntersEvent before after Leave) }
 {
-    enter(member, spare, Event::Leave)
+    enter(member, Event::Leave)
 }
 
 /// Hands out the next datagram that waits.
 #[unsafe(no_mangle)]
 pub extern "C" fn swim_library_next_datagram(
     member: &mut SwimMember,
-    spare: SwimMember,
     to: &mut SwimEndpoint,
     bytes: &mut [u8],
     count: &mut usize,
@@ -156,7 +187,7 @@ pub extern "C" fn swim_library_next_datagram(
         × (to.new ≡ to.old) }
     ensures room { length bytes.new ≡ length bytes.old }
 {
-    match take(member, spare) {
+    match take(member) {
         None => code(Err(Refusal::Closed)),
         Some(mut running) => {
             let done = running.next_datagram(to, bytes, count);

@@ -13,17 +13,27 @@ pub use member::SwimMember;
 use slot::Slot;
 use std::mem;
 
-/// Takes the member out of an open handle, which then is as the spare one was.
-pub(crate) fn take(member: &mut SwimMember, spare: SwimMember) -> Option<Box<Running>>
+/// Takes the member out of an open handle, which then is closed.
+pub(crate) fn take(member: &mut SwimMember) -> Option<Box<Running>>
     ensures open { IfSome result (λ running. held member.old ≡ Some running.value) }
     ensures closed { IfNone result (held member.old ≡ None) }
     ensures same { IfNone result (member.new ≡ member.old) }
-    ensures spare { IfSome result (λ _. member.new ≡ spare) }
+    ensures shut { IfSome result (λ _. held member.new ≡ None) }
 {
     if member.mark != MARK {
         return None;
     }
-    let SwimMember { mark: _, slot } = mem::replace(member, spare);
+    let alloc = member.alloc;
+    let shut = SwimMember {
+        mark: 0,
+        alloc,
+        slot: Slot::to_nothing(alloc),
+    };
+    let SwimMember {
+        mark: _,
+        alloc: _,
+        slot,
+    } = mem::replace(member, shut);
     Some(slot.into_running())
 }
 
@@ -33,6 +43,7 @@ pub(crate) fn put(member: &mut SwimMember, running: Box<Running>)
 {
     *member = SwimMember {
         mark: MARK,
+        alloc: member.alloc,
         slot: Slot::holding(running),
     };
 }

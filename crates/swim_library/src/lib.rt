@@ -2,8 +2,6 @@
 //!
 //! `bindings/c/swim.h` says what the calls are for. The functions here are those that it names, without the word
 //! `library`; `bindings/c/swim.c` refuses null before it calls them.
-//!
-//! A call takes the handle behind a `&mut`, and an empty one, which stands there while the call lasts.
 #![tactic(auto)]
 
 mod calls;
@@ -14,6 +12,7 @@ mod handle;
 mod listings;
 mod opening;
 mod outbox;
+mod pacing;
 mod refusal;
 mod running;
 mod shapes;

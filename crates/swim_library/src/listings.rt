@@ -21,7 +21,6 @@ use crate::shapes::{SwimEndpoint, SwimRow, SwimStatus};
 #[unsafe(no_mangle)]
 pub extern "C" fn swim_library_members(
     member: &mut SwimMember,
-    spare: SwimMember,
     after: &SwimEndpoint,
     rows: &mut [SwimRow],
     count: &mut usize,
@@ -35,7 +34,7 @@ pub extern "C" fn swim_library_members(
         → IsDoneOrLacks result }
     ensures room { length rows.new ≡ length rows.old }
 {
-    match take(member, spare) {
+    match take(member) {
         None => code(Err(Refusal::Closed)),
         Some(mut running) => {
             let done = running.rows_after(after.cursor(), rows, count);
@@ -49,7 +48,6 @@ pub extern "C" fn swim_library_members(
 #[unsafe(no_mangle)]
 pub extern "C" fn swim_library_next_change(
     member: &mut SwimMember,
-    spare: SwimMember,
     row: &mut SwimRow,
     was: &mut SwimRow,
 ) -> u32
@@ -61,7 +59,7 @@ pub extern "C" fn swim_library_next_change(
     ensures open { held member.old ≢ None → IsDoneOrLacks result ⊎ (result ≡ NOTHING) }
     ensures unwritten { result ≢ OK → (row.new ≡ row.old) × (was.new ≡ was.old) }
 {
-    match take(member, spare) {
+    match take(member) {
         None => code(Err(Refusal::Closed)),
         Some(mut running) => {
             let done = running.next_change(row, was);
@@ -73,11 +71,7 @@ pub extern "C" fn swim_library_next_change(
 
 /// What a status page shows.
 #[unsafe(no_mangle)]
-pub extern "C" fn swim_library_status(
-    member: &mut SwimMember,
-    spare: SwimMember,
-    status: &mut SwimStatus,
-) -> u32
+pub extern "C" fn swim_library_status(member: &mut SwimMember, status: &mut SwimStatus) -> u32
     ensures same { held member.new ≡ held member.old }
     ensures status { (running : Running) → held member.old ≡ Some running
         → status.new ≡ status_as (status_of running.node.base running.node.entries)
@@ -85,7 +79,7 @@ pub extern "C" fn swim_library_status(
     ensures closed { held member.old ≡ None → result ≡ CLOSED }
     ensures open { held member.old ≢ None → result ≡ OK }
 {
-    match take(member, spare) {
+    match take(member) {
         None => code(Err(Refusal::Closed)),
         Some(running) => {
             *status = running.status();
@@ -99,7 +93,6 @@ pub extern "C" fn swim_library_status(
 #[unsafe(no_mangle)]
 pub extern "C" fn swim_library_notes(
     member: &mut SwimMember,
-    spare: SwimMember,
     notes: &mut [u8],
     count: &mut usize,
 ) -> u32
@@ -110,7 +103,7 @@ pub extern "C" fn swim_library_notes(
     ensures open { held member.old ≢ None → NOTES_MAX ≤ length notes.old → result ≡ OK }
     ensures room { length notes.new ≡ length notes.old }
 {
-    match take(member, spare) {
+    match take(member) {
         None => code(Err(Refusal::Closed)),
         Some(running) => {
             let done = running.write_notes(notes, count);
@@ -124,7 +117,6 @@ pub extern "C" fn swim_library_notes(
 #[unsafe(no_mangle)]
 pub extern "C" fn swim_library_stored_peers(
     member: &mut SwimMember,
-    spare: SwimMember,
     peers: &mut [SwimEndpoint],
     count: &mut usize,
 ) -> u32
@@ -135,7 +127,7 @@ pub extern "C" fn swim_library_stored_peers(
     ensures open { held member.old ≢ None → PEERS_MAX ≤ length peers.old → result ≡ OK }
     ensures room { length peers.new ≡ length peers.old }
 {
-    match take(member, spare) {
+    match take(member) {
         None => code(Err(Refusal::Closed)),
         Some(running) => {
             let done = running.write_peers(peers, count);
@@ -147,7 +139,7 @@ pub extern "C" fn swim_library_stored_peers(
 
 /// Saves whom the member knows in the state file.
 #[unsafe(no_mangle)]
-pub extern "C" fn swim_library_keep_peers(member: &mut SwimMember, spare: SwimMember) -> u32
+pub extern "C" fn swim_library_keep_peers(member: &mut SwimMember) -> u32
     ensures kept { result ≡ OK → HandleBecomes member.old member.new
         (λ before after. SavesPeers before.node after.node) }
     // also if they were not saved
@@ -155,7 +147,7 @@ pub extern "C" fn swim_library_keep_peers(member: &mut SwimMember, spare: SwimMe
         → HandleBecomes member.old member.new GoesOnOpen }
     ensures closed { held member.old ≡ None → result ≡ CLOSED }
 {
-    match take(member, spare) {
+    match take(member) {
         None => code(Err(Refusal::Closed)),
         Some(mut running) => {
             let done = running.keep_peers();

@@ -106,6 +106,7 @@ fn running_on(
         outbox: Outbox::new(),
         notes: ArrayVec::new(),
         told: Told::new(),
+        due: None,
         limit,
     };
     match Box::new(alloc, running) {
@@ -160,15 +161,14 @@ pub extern "C" fn swim_library_open(
 
 /// Closes a member, and its descriptor of the state file, which stays as it is. The life may end so.
 #[unsafe(no_mangle)]
-pub extern "C" fn swim_library_close(member: &mut SwimMember, spare: SwimMember) -> u32
-    requires spare { held spare ≡ None }
+pub extern "C" fn swim_library_close(member: &mut SwimMember) -> u32
     ensures shut { held member.new ≡ None }
     ensures closed { held member.old ≡ None → result ≡ CLOSED }
     ensures open { held member.old ≢ None → result ≡ OK }
     ensures ends { result ≡ OK → (running : Running) × (held member.old ≡ Some running)
         × MayEnd file_state running.node }
 {
-    match take(member, spare) {
+    match take(member) {
         None => code(Err(Refusal::Closed)),
         Some(running) => {
             // that its life may end

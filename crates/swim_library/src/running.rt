@@ -18,6 +18,8 @@ pub(crate) struct Running {
     pub(crate) notes: ArrayVec<Note, NOTES_MAX>,
     /// What the program was told of members.
     pub(crate) told: Told,
+    /// When the next tick is due by the program's clock, in milliseconds; none before it was told.
+    pub(crate) due: Option<u64>,
     /// How many entries an era has.
     pub(crate) limit: u32,
     ghost limit_is: { node.base.limit ≡ limit },

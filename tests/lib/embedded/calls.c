@@ -8,6 +8,7 @@
  *                               allocates after its opening
  *     calls order               each turn probes each other member once, in an order that the random words give
  *     calls changes             changes are told once each and in order, and lead to the rows that swim_members has
+ *     calls clock               ticks are made by the clock, and those that are late are skipped
  *     calls make                a making that is killed at any moment leaves its path whole or not there
  *     calls fork                a handle that was open is refused in the child of a fork, which may close it
  *     calls threads             calls of four threads on one handle: whoever meets another is told, and nothing breaks
@@ -154,6 +155,7 @@ static void misuse(void) {
     struct swim_row rows[SWIM_MEMBERS_MAX], was = {0};
     struct swim_status status;
     uint8_t bytes[SWIM_DATAGRAM_MAX], notes[SWIM_NOTES_MAX], noise[600];
+    uint64_t next = 77;
     size_t n = 77;
     char path[] = "misuse.state";
 
@@ -168,6 +170,8 @@ static void misuse(void) {
     want("make no settings", swim_make(path, NULL), SWIM_NULL);
     want("make state no settings", swim_make_state(0, NULL), SWIM_NULL);
     want("tick null", swim_tick(NULL, 1), SWIM_NULL);
+    want("advance null", swim_advance(NULL, 0, 1, &next), SWIM_NULL);
+    want("advance null next", swim_advance(&m, 0, 1, NULL), SWIM_NULL);
     want("receive null", swim_receive(NULL, peer, bytes, 1), SWIM_NULL);
     want("receive_failed null", swim_receive_failed(NULL), SWIM_NULL);
     want("send_failed null", swim_send_failed(NULL, 1), SWIM_NULL);
@@ -185,6 +189,7 @@ static void misuse(void) {
     want("close null", swim_close(NULL), SWIM_NULL);
 
     want("tick closed", swim_tick(&m, 1), SWIM_CLOSED);
+    want("advance closed", swim_advance(&m, 0, 1, &next), SWIM_CLOSED);
     want("receive closed", swim_receive(&m, peer, noise, 3), SWIM_CLOSED);
     want("receive_failed closed", swim_receive_failed(&m), SWIM_CLOSED);
     want("send_failed closed", swim_send_failed(&m, 1), SWIM_CLOSED);
@@ -198,7 +203,7 @@ static void misuse(void) {
     want("stored peers closed", swim_stored_peers(&m, peers, &n), SWIM_CLOSED);
     want("keep peers closed", swim_keep_peers(&m), SWIM_CLOSED);
     want("close closed", swim_close(&m), SWIM_CLOSED);
-    holds(n == 77 && to.address == 1 && to.port == 2, "a closed handle writes nothing");
+    holds(n == 77 && next == 77 && to.address == 1 && to.port == 2, "a closed handle writes nothing");
 
     SETTING(port, 0, SWIM_NO_ENDPOINT);
     SETTING(lambda, 0, SWIM_BAD_LAMBDA);
@@ -453,6 +458,7 @@ static int one_call(struct swim_member *m) {
     struct swim_row rows[SWIM_MEMBERS_MAX], was;
     struct swim_status status = {0};
     struct swim_settings settings = sound();
+    static uint64_t now, next;
     size_t n = 0;
     int code;
     switch (below(64)) {
@@ -468,6 +474,7 @@ static int one_call(struct swim_member *m) {
     case 9: return below(32) == 0 ? swim_close(m) : SWIM_OK;
     case 10: return swim_open_memory(m, &settings, 1 + (uint32_t)below(4));
     case 11: return swim_next_change(m, rows, &was);
+    case 12: return swim_advance(m, below(50) == 0 ? draw() : (now += below(300)), draw(), &next);
     default: break;
     }
     if (below(3) == 0)
@@ -591,13 +598,14 @@ static int be_child(struct swim_member *m, int told) {
     struct swim_row row, was;
     struct swim_status status;
     uint8_t bytes[SWIM_DATAGRAM_MAX];
+    uint64_t next;
     size_t n;
     char byte;
     int codes[] = {
         swim_tick(m, 1), swim_receive(m, peer, bytes, 0), swim_receive_failed(m), swim_send_failed(m, 1), swim_join(m, peer),
         swim_leave(m), swim_next_datagram(m, &to, bytes, sizeof bytes, &n), swim_members(m, NULL, 0, &n),
         swim_get_status(m, &status), swim_notes(m, bytes, &n), swim_stored_peers(m, peers, &n), swim_keep_peers(m),
-        swim_next_change(m, &row, &was),
+        swim_next_change(m, &row, &was), swim_advance(m, 0, 1, &next),
     };
     for (size_t i = 0; i < sizeof codes / sizeof *codes; i++)
         if (codes[i] != SWIM_FORKED)
@@ -757,6 +765,51 @@ static void changes(void) {
     holds(live == 0, "all memory is given back");
 }
 
+/* Time is `now`; gives how many datagrams were sent at it. The next tick has to be due then. */
+static int sent_at(struct swim_member *m, uint64_t now, uint64_t due) {
+    uint8_t bytes[SWIM_DATAGRAM_MAX];
+    struct swim_endpoint to;
+    uint64_t next = 0;
+    size_t length;
+    int sent = 0;
+    want("advance", swim_advance(m, now, draw(), &next), SWIM_OK);
+    holds(next == due, "the next tick is due");
+    while (swim_next_datagram(m, &to, bytes, sizeof bytes, &length) == SWIM_OK)
+        sent++;
+    return sent;
+}
+
+/* By these settings each second tick sends a ping, and each first one asks nobody. */
+static void follow_clock(void) {
+    struct swim_member m = SWIM_CLOSED_MEMBER;
+    struct swim_settings settings = sound();
+    uint8_t bytes[SWIM_DATAGRAM_MAX];
+    uint64_t next = 77;
+    int sent = 0;
+    settings.period = 2;
+    settings.direct = 1;
+    settings.helpers = 0;
+    settings.suspect = 10000;
+    want("open", swim_open_memory(&m, &settings, 1), SWIM_OK);
+    want("others", swim_receive(&m, peer, bytes, presence(bytes)), SWIM_OK);
+    want("before a tick is due, while a datagram waits", swim_advance(&m, 5000, 1, &next), SWIM_OK);
+    holds(next == 5100, "the first tick is due a tick after the first call");
+    want("a tick while a datagram waits", swim_advance(&m, 5100, 1, &next), SWIM_WAITING);
+    holds(next == 5100, "which is written nowhere");
+    take_all(&m);
+    holds(sent_at(&m, 5099, 5100) == 0, "nothing before it is due");
+    for (uint64_t now = 5100; now < 9100; now += 100)
+        sent += sent_at(&m, now, now + 100) + sent_at(&m, now, now + 100) + sent_at(&m, now + 99, now + 100);
+    holds(sent == 20, "40 ticks in 4 seconds, however often it is called");
+    sent = sent_at(&m, 9150, 9200) + sent_at(&m, 9200, 9300);
+    holds(sent == 1, "a tick that is late by less than a tick puts none off");
+    sent = sent_at(&m, 60000, 60100) + sent_at(&m, 60000, 60100) + sent_at(&m, 60100, 60200);
+    holds(sent == 1, "500 ticks that are late are one");
+    sent = sent_at(&m, UINT64_MAX, UINT64_MAX);
+    holds(sent <= 1, "the end of the clock");
+    want("close", swim_close(&m), SWIM_OK);
+}
+
 static void random_calls(uint64_t seed, long count) {
     struct swim_member m = SWIM_CLOSED_MEMBER;
     long by_code[64] = {0};
@@ -784,6 +837,8 @@ int main(int argc, char **argv) {
         order();
     else if (argc >= 2 && strcmp(argv[1], "changes") == 0)
         changes();
+    else if (argc >= 2 && strcmp(argv[1], "clock") == 0)
+        follow_clock();
     else if (argc >= 2 && strcmp(argv[1], "make") == 0)
         make();
     else if (argc >= 2 && strcmp(argv[1], "fork") == 0)

@@ -3,7 +3,7 @@
  * looks after itself as docs/EMBEDDING.md says: it reads what waits before it ticks, never makes up for a tick, and joins again.
  *
  *     groups pause      one rests for 300 ticks, and goes on as the page says: nobody else is confirmed by anybody
- *     groups made-up    the same, but for making up for its ticks: others are confirmed, so the trial before sees it
+ *     groups made-up    the same, but for making up for its ticks by swim_tick: others are confirmed, so the trial before sees it
  *     groups cut        the group is cut in halves for 300 ticks: a minute later it is one
  *     groups alone      the same, but for never joining again: it stays in two, so the trial before sees it
  */
@@ -19,6 +19,7 @@
 #define LOOPBACK 0x7f000001u
 #define REJOIN 300
 #define MINUTE 600 /* ticks */
+#define TICK_MS 100
 #define SECONDS_30 300
 
 struct datagram {
@@ -83,6 +84,14 @@ static void tick(size_t place) {
     send_all(place);
 }
 
+/* By the clock of the program, which tells each millisecond that is a tick's. */
+static void advance(size_t place, int now) {
+    uint64_t next, now_ms = (uint64_t)now * TICK_MS;
+    must(swim_advance(&group[place].member, now_ms, draw(), &next), "advance");
+    wrong += next != now_ms + TICK_MS;
+    send_all(place);
+}
+
 static void join(size_t place, struct swim_endpoint peer) {
     must(swim_join(&group[place].member, peer), "join");
     send_all(place);
@@ -128,7 +137,7 @@ static int live(int ticks, size_t rested) {
         for (size_t place = 0; place < MEMBERS; place++)
             if (!group[place].rests) {
                 receive_all(place);
-                tick(place);
+                advance(place, now);
                 join_again(place, now);
             }
         for (size_t place = 0; place < MEMBERS; place++)

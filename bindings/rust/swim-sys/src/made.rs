@@ -179,6 +179,7 @@ extern "C" {
     pub fn swim_open_memory(member: *mut swim_member, settings: *const swim_settings, limit: u32) -> c_int;
     pub fn swim_close(member: *mut swim_member) -> c_int;
     pub fn swim_tick(member: *mut swim_member, random: u64) -> c_int;
+    pub fn swim_advance(member: *mut swim_member, now_ms: u64, random: u64, next_ms: *mut u64) -> c_int;
     pub fn swim_receive(member: *mut swim_member, from: swim_endpoint, bytes: *const u8, length: usize) -> c_int;
     pub fn swim_receive_failed(member: *mut swim_member) -> c_int;
     pub fn swim_send_failed(member: *mut swim_member, count: u32) -> c_int;

@@ -8,7 +8,7 @@ use std::path::Path;
 use std::time::{Duration, Instant};
 use swim::{Kind, Member, Settings, DATAGRAM_MAX};
 
-const TICK: Duration = Duration::from_millis(100);
+const LATE: Duration = Duration::from_millis(100); // that a tick may be late for what waits at the socket
 const REJOIN: u64 = 300; // ticks
 
 type Done = Result<(), Box<dyn Error>>;
@@ -44,7 +44,7 @@ fn receive_until(member: &mut Member, udp: &UdpSocket, until: Instant) -> Done {
             Err(_) => member.receive_failed()?,
         }
         send_all(member, udp)?;
-        if Instant::now() > until + TICK {
+        if Instant::now() > until + LATE {
             return Ok(());
         }
     }
@@ -96,28 +96,20 @@ fn run(
     for &peer in peers {
         join(member, udp, peer)?;
     }
-    let (mut next, mut ticks) = (Instant::now() + TICK, 0);
+    let start = Instant::now();
+    let (mut due, mut ticks) = (member.advance(0, 0)?, 0);
     while Instant::now() < end {
-        receive_until(member, udp, next)?;
+        receive_until(member, udp, start + Duration::from_millis(due))?;
         let mut word = [0; 8];
         random.read_exact(&mut word)?;
-        member.tick(u64::from_ne_bytes(word))?;
+        let word = u64::from_ne_bytes(word);
+        let next = member.advance(start.elapsed().as_millis() as u64, word)?;
         send_all(member, udp)?;
-        ticks += 1;
-        join_again(
-            member,
-            udp,
-            peers,
-            settings.period,
-            ticks,
-            u64::from_ne_bytes(word),
-        )?;
-        let now = Instant::now();
-        next = if next + TICK > now {
-            next + TICK
-        } else {
-            now + TICK
-        }; // late ticks are never made up
+        if next != due {
+            due = next;
+            ticks += 1;
+            join_again(member, udp, peers, settings.period, ticks, word)?;
+        }
     }
     Ok(())
 }

@@ -299,6 +299,14 @@ impl Member {
         done(unsafe { sys::swim_tick(&mut self.handle, random) })
     }
 
+    /// Makes one tick if one is due by the program's clock, in milliseconds, and answers when the next one is due. Late ticks are
+    /// skipped. Use this or [`Member::tick`], and not both.
+    pub fn advance(&mut self, now_ms: u64, random: u64) -> Result<u64, Fault> {
+        let mut next = 0;
+        done(unsafe { sys::swim_advance(&mut self.handle, now_ms, random, &mut next) })?;
+        Ok(next)
+    }
+
     /// Bytes came from there. No datagram, whatever it is, makes this fail; one from port 0 is left aside.
     pub fn receive(&mut self, from: SocketAddrV4, bytes: &[u8]) -> Result<(), Fault> {
         done(unsafe { sys::swim_receive(&mut self.handle, to_c(from), bytes.as_ptr(), bytes.len()) })

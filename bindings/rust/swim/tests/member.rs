@@ -90,6 +90,13 @@ fn a_member_goes_to_another_thread() {
 }
 
 #[test]
+fn late_ticks_are_skipped() {
+    let mut member = member();
+    let next = [5000, 5050, 5100, 60000].map(|now| member.advance(now, 1).expect("time goes on"));
+    assert_eq!(next, [5100, 5100, 5200, 60100]);
+}
+
+#[test]
 fn changes_are_told_once() {
     let mut member = member();
     let change = member.next_change().expect("it answers").expect("itself is new");

@@ -4,6 +4,7 @@ ghost use Rattle.std.specs.Prelude.{◌≡◌, ◌≢◌, ◌↔◌, None};
 ghost use Rattle.swim_library.specs.declared.handle.member.TheConstants.{MARK};
 
 use super::slot::Slot;
+use std::alloc::Global;
 
 /// What an open handle begins with: the letters SWIMOPEN.
 pub(super) const MARK: u64 = 0x5357_494d_4f50_454e;
@@ -13,6 +14,8 @@ pub(super) const MARK: u64 = 0x5357_494d_4f50_454e;
 #[derive(Drop)]
 pub struct SwimMember {
     pub(super) mark: u64,
+    /// What gives its memory back. It takes no room.
+    pub(super) alloc: Global,
     /// What it leads to.
     pub slot: Slot,
     ghost mark_tells: { (mark ≡ MARK) ↔ (slot.kept ≢ None) },

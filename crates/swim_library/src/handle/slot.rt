@@ -8,6 +8,7 @@ use super::parts::Parts;
 use crate::running::Running;
 use std::alloc::Global;
 use std::marker::Model;
+use std::ptr;
 
 /// A pointer to a member that runs, or, where all its bytes are 0, nothing. Dropping one does not free the member.
 #[repr(C)]
@@ -40,6 +41,16 @@ impl Slot {
         ensures { self.kept ≡ Some result.value }
     {
         self.into_parts().into_box()
+    }
+
+    /// A slot that leads to nothing.
+    pub(super) fn to_nothing(alloc: Global) -> Slot
+        ensures { result.kept ≡ None }
+    {
+        Slot {
+            at: ptr::null_mut(),
+            alloc,
+        }
     }
 
     fn of_parts(parts: Parts<Running, Global>) -> Slot

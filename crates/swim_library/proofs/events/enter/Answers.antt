@@ -1,6 +1,5 @@
 use Rattle.std.proofs.Common.{Some, ap, sym, ◌∙◌}
 use Rattle.swim_library.specs.Holding.{held}
-use Rattle.swim_library.specs.declared.handle.member.SwimMember.{SwimMember}
 use Rattle.swim_library.specs.declared.running.Running.{Running}
 use Rattle.swim_library.proofs.Entering.{enters_none, enters_some}
 use Rattle.swim_library.proofs.events.enter.Goals as goal

@@ -1,6 +1,6 @@
 use Rattle.std.proofs.Common.{◌≡◌, ◌∙◌, ◌+◌, suc, ℕ, Bool, true, false, arith, inl, inr, rules, subst}
 use Rattle.swim_news.specs.declared.rows.TheConstants.{PAGES_MAX}
-use Rattle.swim_library.specs.Changes.{AddsAllPages, AddsFullPages, AddsPage}
+use Rattle.swim_library.specs.Changes.{AddsFullPages, AddsPage}
 use Rattle.swim_library.proofs.running.Running.read_rows.Goals as goal
 use Rattle.swim_library.proofs.running.Running.read_rows.Goals.{else-loop-test, then-loop-test+in-Ok-false}
 
