@@ -18,9 +18,8 @@ use std::thread::Threads;
 use std::time::Clock;
 use std::{env, fs};
 use swim_ask::{
-    AboutJson, Addresses, Answered, CountersJson, Paint, StatusJson, Watched, WholeJson, ask,
-    ask_about, await_end, await_peer, read_about, read_counters, read_status, show_members,
-    watch_members,
+    AboutJson, Addresses, Answered, CountersJson, Joining, Paint, StatusJson, Watched, WholeJson,
+    ask, ask_about, await_end, read_about, read_counters, read_status, show_members, watch_members,
 };
 use swim_check::{Stop, check};
 use swim_cli::{Subcommand, hold_standard, make, read_words};
@@ -269,7 +268,7 @@ fn named_or(mut named: Vec<String>, usual: String) -> Result<Vec<String>, Failur
     Ok(named)
 }
 
-/// Has a member join another one, and says whether that is known to it as alive within seconds.
+/// Has a member join another one, and says what is known of that one within seconds.
 fn join_peer<T: Threads>(
     rt: &HostRuntime,
     threads: &T,
@@ -279,15 +278,13 @@ fn join_peer<T: Threads>(
     let Some(who) = read_endpoint(peer.as_bytes()) else {
         return Err(Failure::of_address(rt.alloc(), "A", peer));
     };
-    let made = format!(in rt.alloc(); "join {who}");
-    let line = made.map_err(|_| Failure::from(Ending::Memory))?;
-    let answer = ask(rt, threads, to, line.as_str())?;
-    print_bytes(rt, answer.text.as_slice())?;
-    if answer.text.as_slice() != SENT {
+    let joining = Joining::new(rt, threads, to, who)?;
+    let answer = joining.send(rt)?;
+    print_bytes(rt, answer.as_slice())?;
+    if answer.as_slice() != SENT {
         return Ok(ExitCode::FAILURE);
     }
-    let row = await_peer(rt, answer.at, who)?;
-    print_line(rt, format_args!("{who} is alive, number {}", row.number))?;
+    print_line(rt, joining.wait(rt)?)?;
     Ok(ExitCode::SUCCESS)
 }
 

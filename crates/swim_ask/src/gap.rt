@@ -33,8 +33,11 @@ impl Gap {
 impl fmt::Display for Gap {
     fn fmt<W: fmt::Write>(&self, f: &mut fmt::Formatter<W>) -> fmt::Result {
         match self {
-            Gap::Begins => write!(f, "gap begins: the member does not answer"),
-            Gap::Ends => write!(f, "gap ends: the member answers again"),
+            Gap::Begins => write!(
+                f,
+                "no answer: what changes from now on is told once there is one"
+            ),
+            Gap::Ends => write!(f, "answers again: what has changed meanwhile follows"),
         }
     }
 }

@@ -22,7 +22,7 @@ pub use about::{AboutJson, ask_about, read_about};
 pub use addresses::Addresses;
 pub use asking::{Answered, ask};
 pub use counters::{CountersJson, read_counters};
-pub use joining::await_peer;
+pub use joining::{Joined, Joining};
 pub use looking::{Shown, look};
 pub use paint::Paint;
 pub use place::find;

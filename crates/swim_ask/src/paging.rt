@@ -12,11 +12,17 @@ use std::alloc::Global;
 use std::fmt::Write as _;
 use std::net::{Net, TcpStream};
 use std::rt::Clock;
-use std::str;
+use std::time::Duration;
+use std::{str, thread};
 use swim_ending::{Ending, Failure};
 use swim_news::{PAGES_MAX, Rows};
 use swim_wire::{Endpoint, MEMBERS_MAX, UPDATES_MAX, Update, UpdateKind};
 use swim_words::{read_endpoint, read_number, split_at_byte};
+
+/// How long a member is left alone until it is asked again whose era was full, in milliseconds, and how often it is asked.
+const AGAIN_MILLIS: u64 = 100;
+
+const AGAIN_MAX: u32 = 50;
 
 /// Room for the line `members A`.
 const LINE_MAX: usize = 40;
@@ -148,4 +154,19 @@ pub(crate) fn read_rows<R: Net<Stream = TcpStream> + Clock + AllocGlobal>(
         }
     }
     Ok(Some(rows))
+}
+
+/// The same, where a member whose era is full is asked again.
+pub(crate) fn read_all_rows<R: Net<Stream = TcpStream> + Clock + AllocGlobal>(
+    rt: &R,
+    to: Endpoint,
+) -> Result<Rows, Failure> {
+    for _ in 0..AGAIN_MAX {
+        if let Some(rows) = read_rows(rt, to)? {
+            return Ok(rows);
+        }
+        thread::sleep(rt, Duration::from_millis(AGAIN_MILLIS));
+    }
+    let full = format_args!("TCP {to} (control): each page that was asked for found its era full");
+    Err(Failure::about(rt.alloc(), Ending::Answer, full))
 }

@@ -5,7 +5,7 @@ use crate::addresses::Addresses;
 use crate::asking::now;
 use crate::gap::{Gap, GapJson};
 use crate::output::Output;
-use crate::paging::read_rows;
+use crate::paging::{read_all_rows, read_rows};
 use crate::paint::{Paint, PaintedChange, PaintedKind};
 use crate::place::{find, find_from};
 use crate::timed::{Timed, TimedJson};
@@ -14,17 +14,12 @@ use std::fmt::{self, Display, Write as _};
 use std::net::{Net, TcpStream};
 use std::rt::Clock;
 use std::sync::{Wait, WaitMethods};
-use std::thread::{self, Threads};
+use std::thread::Threads;
 use std::time::Duration;
 use swim_ending::{Ending, Failure};
 use swim_news::{Change, ChangeJson, Changes, RowJson, Rows, compare};
 use swim_shell::Alone;
 use swim_wire::{Endpoint, Update};
-
-/// How long `swim members` waits until it asks a member again whose era was full, in milliseconds, and how often.
-const AGAIN_MILLIS: u64 = 100;
-
-const AGAIN_MAX: u32 = 50;
 
 /// The width of the longest endpoint.
 const ENDPOINT_WIDTH: usize = 21;
@@ -85,18 +80,12 @@ pub fn show_members<T: Threads>(
     paint: Paint,
 ) -> Result<(), Failure> {
     let to = find_from(rt, threads, to, &now(rt)?)?;
-    for _ in 0..AGAIN_MAX {
-        if let Some(rows) = read_rows(rt, to)? {
-            if as_json {
-                return print_objects(rt, &rows);
-            }
-            print_table(rt, &rows, paint)?;
-            return print_alone(rt, to);
-        }
-        thread::sleep(rt, Duration::from_millis(AGAIN_MILLIS));
+    let rows = read_all_rows(rt, to)?;
+    if as_json {
+        return print_objects(rt, &rows);
     }
-    let full = format_args!("TCP {to} (control): each page that was asked for found its era full");
-    Err(Failure::about(rt.alloc(), Ending::Answer, full))
+    print_table(rt, &rows, paint)?;
+    print_alone(rt, to)
 }
 
 /// A change as what a JSON object has of it.

@@ -19,3 +19,4 @@ mod surroundings;
 
 pub use reading::settings_at;
 pub use running::{run, shown_settings};
+pub use sockets::try_addresses;

@@ -2,7 +2,7 @@
 
 use std::alloc::Global;
 use std::io;
-use std::net::{Net, SocketAddr, TcpListener, TcpStream};
+use std::net::{Net, SocketAddr, TcpListener, TcpStream, UdpSocket};
 use std::time::Clock;
 use swim_ending::{Ending, Failure};
 use swim_net::{SocketAlarm, Sockets, Waits, address_of, bind_datagrams, wait_of};
@@ -34,6 +34,22 @@ fn without_doors(alloc: Global, control: Endpoint, error: &io::Error) -> Failure
         ending,
         format_args!("TCP {control} (control): {error}"),
     )
+}
+
+/// Refuses settings with an address at which the system binds no socket now, as one that is taken. What is bound is let go.
+pub fn try_addresses<R>(rt: &R, told: &RunSettings) -> Result<(), Failure>
+where
+    R: Net<Listener = TcpListener, Stream = TcpStream> + AllocGlobal,
+{
+    let (me, control, alloc) = (told.settings.me, told.control, rt.alloc());
+    let at = own_address(alloc, me)?;
+    if let Err(error) = UdpSocket::bind(rt, at) {
+        return Err(without_datagrams(alloc, me, &error));
+    }
+    if let Err(error) = TcpListener::bind(rt, address_of(control)) {
+        return Err(without_doors(alloc, control, &error));
+    }
+    Ok(())
 }
 
 /// The waits of the control socket's thread, and what ends them.

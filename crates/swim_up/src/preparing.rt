@@ -9,7 +9,7 @@ use std::alloc::{AllocError, Global};
 use std::{env, fs, io};
 use swim_cli::{UpWords, make};
 use swim_ending::{Ending, Failure};
-use swim_run::settings_at;
+use swim_run::{settings_at, try_addresses};
 use swim_settings::{JOIN_MAX, Key, Refusal, RunSettings, read_settings};
 use swim_words::{read_endpoint, read_host};
 
@@ -177,7 +177,8 @@ fn tell_made(rt: &HostRuntime, settings: &str, state: &str, has_state: bool) {
     }
 }
 
-/// Makes the settings of a member, and its folder and its state file where there are none. Refused words leave nothing.
+/// Makes the settings of a member, and its folder and its state file where there are none. Refused words leave nothing, nor do addresses
+/// that are taken or not this machine's.
 fn make_all(
     rt: &HostRuntime,
     paths: &Paths,
@@ -191,6 +192,7 @@ fn make_all(
     let text = settings_text(alloc, state.as_str(), words, usual).map_err(lacks_memory)?;
     let wanted = wanted_by(alloc, text.as_str(), words)?;
     let lacking = lacking_of(false, is_there(rt, "state file", state.as_str())?);
+    try_addresses(rt, &wanted)?;
     make_folder(rt, folder).map_err(unknown)?;
     let has_state = lacking != Lacking::All;
     if !has_state {
