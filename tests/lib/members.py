@@ -56,7 +56,7 @@ class Member:
         self.process = None
 
     def init(self):
-        expect(swim("init", self.file, "--group", str(GROUP), "--me", str(self.me)), Ran(0, "", ""), "init")
+        expect(swim("init", self.file, "--group", str(self.keys["group"]), "--me", str(self.me)), Ran(0, "", ""), "init")
         self.config.write_text(toml(self.keys))
         return self
 

@@ -198,6 +198,10 @@ const ADDRESS: &str =
 const ADDRESSES: &str =
     "The member's control socket, e.g. 127.0.0.1:7001, and those of others to ask where it does not answer; without any SWIM_CONTROL, or else 127.0.0.1:7001";
 
+/// What the addresses are whose members are shown over HTTP.
+const SHOWN: &str =
+    "A member's control socket, e.g. 127.0.0.1:7001; of several in one group the next one is asked where one does not answer, and several groups are shown together; without any SWIM_CONTROL, or else 127.0.0.1:7001";
+
 /// The control socket of a member.
 fn address<'a>(alloc: Global) -> Arg<'a> {
     word(alloc, "addr", "ADDR", ADDRESS).required(false)
@@ -328,7 +332,7 @@ fn watch_command<'a>(alloc: Global) -> Result<Command<'a>, Error> {
 
 /// `swim web [--of ADDR].. [--listen ADDR]`.
 fn web_command<'a>(alloc: Global) -> Result<Command<'a>, Error> {
-    let of = option(alloc, "of", "ADDR", ADDRESSES).action(ArgAction::Append);
+    let of = option(alloc, "of", "ADDR", SHOWN).action(ArgAction::Append);
     let listen = option(
         alloc,
         "listen",

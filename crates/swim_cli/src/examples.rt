@@ -99,7 +99,8 @@ pub(crate) const WATCH: &str = "Examples:
 pub(crate) const WEB: &str = "Examples:
   swim web --of 127.0.0.1:7001                          at http://127.0.0.1:7080
   swim web --of 127.0.0.1:7001 --listen 127.0.0.1:8080  elsewhere
-  swim web --of 10.0.0.1:7001 --of 10.0.0.2:7001        of the second one while the first does not answer";
+  swim web --of 10.0.0.1:7001 --of 10.0.0.2:7001        of the second one while the first does not answer
+  swim web --of 10.0.0.1:7001 --of 10.0.9.1:7001        of both groups, if they are of two";
 
 /// Examples of `swim show`.
 pub(crate) const SHOW: &str = "Examples:

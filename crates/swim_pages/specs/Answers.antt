@@ -142,11 +142,14 @@ abbrev pub wants_head : Reading → Bool
 wants_head (Asked asked) = is_head asked.method
 wants_head _ = false
 
+-- what is sent where the head alone may be wanted
+abbrev pub sent_text : Reading → Answer → List ℕ → List ℕ
+sent_text reading a body =
+    http_head a (length body) ++ (if wants_head reading then [] else body)
+
 -- what is sent where this came, as the member was seen: the head of the answer, and its body unless
 -- the head is wanted alone
 pub record IsResponse (reading : Reading) (seen : Seen) (text : List ℕ) : Type 0 where
   pub body : List ℕ
   pub says : IsBody (answer_for reading (phase_in seen.status)) seen body
-  pub whole :
-      text ≡ http_head (answer_for reading (phase_in seen.status)) (length body)
-      ++ (if wants_head reading then [] else body)
+  pub whole : text ≡ sent_text reading (answer_for reading (phase_in seen.status)) body

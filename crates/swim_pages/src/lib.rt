@@ -4,7 +4,11 @@
 
 mod answer;
 mod counted;
+mod directory;
+mod directory_page;
 mod gauges;
+mod group;
+mod group_metrics;
 mod members;
 mod metrics;
 mod page;
@@ -15,6 +19,8 @@ mod seen;
 mod writing;
 
 pub use answer::{Answer, Code, Content, answer_for};
+pub use directory::directory_response;
+pub use group::Group;
 pub use metrics::write_metrics;
 pub use request::{FIELDS_MAX, HEAD_MAX, Method, Path, Reading, Request, read_request};
 pub use seen::Seen;

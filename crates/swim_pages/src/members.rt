@@ -45,7 +45,7 @@ pub(crate) fn write_states(text: &mut String, rows: &[Update]) -> Result<(), All
 
 /// Adds the labels of a member.
 #[tactic(auto, unfolding(crate::specs::Members::info_sample))]
-fn write_labels(text: &mut String, who: &Who) -> Result<(), AllocError>
+pub(crate) fn write_labels(text: &mut String, who: &Who) -> Result<(), AllocError>
     ensures { OnOk result (text.new.bytes.items
         ≡ text.old.bytes.items ++ info_sample who.now) }
 {

@@ -10,7 +10,7 @@ use swim_shell::{About, Alone};
 use swim_wire::{Update, UpdateKind};
 
 /// What stands before the title.
-const HEAD: &str = r#"<!DOCTYPE html>
+pub(crate) const HEAD: &str = r#"<!DOCTYPE html>
 <html lang="en">
 <head>
 <meta charset="utf-8">
@@ -18,7 +18,7 @@ const HEAD: &str = r#"<!DOCTYPE html>
 <title>"#;
 
 /// What stands between the title and the body. Without scripts a browser loads the page anew each five seconds.
-const STYLE: &str = r#"</title>
+pub(crate) const STYLE: &str = r#"</title>
 <noscript><meta http-equiv="refresh" content="5"></noscript>
 <style>
 :root { color-scheme: light dark; --text: #1f2328; --ground: #ffffff; --line: #d1d9e0; --alive: #1a7f37; --suspect: #8a5a00; --failed: #b3202b; }
@@ -55,7 +55,7 @@ span.failed, td.failed { color: var(--failed); font-weight: 600; }
 
 /// What stands behind what is seen. Each two seconds the script asks for the rows, and where they are others, and else each ten
 /// seconds, it takes what is seen from the page anew.
-const TAIL: &str = r#"</div>
+pub(crate) const TAIL: &str = r#"</div>
 </main>
 <p id="lost" role="status"></p>
 <p>For programs: <a href="/metrics">metrics</a>, <a href="/members.json">members</a>, <a href="/health">health</a>.</p>

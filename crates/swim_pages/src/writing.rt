@@ -1,7 +1,7 @@
 //! An answer as it is sent.
 
 ghost use Rattle.std.specs.Prelude.{◌≡◌, ◌++◌, ◌∷◌, [], OnOk, IfOk};
-ghost use Rattle.swim_pages.specs.Answers.{IsBody, IsResponse, allow_text, alone_words, health_line, code_line, content_type, http_head, code_head, phase_in, safety_text, size_text, type_text, wants_head};
+ghost use Rattle.swim_pages.specs.Answers.{IsBody, IsResponse, allow_text, alone_words, health_line, code_line, content_type, http_head, code_head, phase_in, safety_text, sent_text, size_text, type_text, wants_head};
 
 use crate::answer::{Answer, Code, Content, answer_for};
 use crate::metrics::write_metrics;
@@ -92,7 +92,7 @@ fn alone_words(is_alone: bool) -> &'static str
 }
 
 /// Adds the phase and whether the member is alone, or that it does not answer.
-fn write_phase(text: &mut String, seen: &Seen) -> Result<(), AllocError>
+pub(crate) fn write_phase(text: &mut String, seen: &Seen) -> Result<(), AllocError>
     ensures { OnOk result (text.new.bytes.items
         ≡ text.old.bytes.items ++ health_line seen.now) }
 {
@@ -106,7 +106,7 @@ fn write_phase(text: &mut String, seen: &Seen) -> Result<(), AllocError>
 }
 
 /// Adds the line of a code.
-fn write_code(text: &mut String, code: Code) -> Result<(), AllocError>
+pub(crate) fn write_code(text: &mut String, code: Code) -> Result<(), AllocError>
     ensures { OnOk result (text.new.bytes.items
         ≡ text.old.bytes.items ++ (code_line code ++ 10 ∷ [])) }
 {
@@ -142,16 +142,28 @@ fn wants_head(reading: Reading) -> bool
     )
 }
 
+/// An answer with this body, or its head alone where that is wanted.
+pub(crate) fn sent(
+    alloc: Global,
+    reading: Reading,
+    answer: Answer,
+    body: &str,
+) -> Result<String, AllocError>
+    ensures { IfOk result (λ text. text.bytes.items ≡ sent_text reading answer body.now) }
+{
+    let mut text = String::new(alloc);
+    write_head(&mut text, answer, body.len())?;
+    if !wants_head(reading) {
+        text.push_str(body)?;
+    }
+    Ok(text)
+}
+
 /// What is sent on a connection on which this came, as the member was seen.
 pub fn response(alloc: Global, reading: Reading, seen: &Seen) -> Result<String, AllocError>
     ensures { IfOk result (λ text. IsResponse reading seen.now text.bytes.items) }
 {
     let answer = answer_for(reading, seen.phase());
     let body = body_of(alloc, answer, seen)?;
-    let mut text = String::new(alloc);
-    write_head(&mut text, answer, body.len())?;
-    if !wants_head(reading) {
-        text.push_str(&body)?;
-    }
-    Ok(text)
+    sent(alloc, reading, answer, &body)
 }

@@ -1,29 +1,50 @@
-//! What is known of the member.
+//! What is known of the members that are asked.
 
-use std::net::{Net, TcpStream};
-use std::sync::{Mutex, Wait, WaitMethods};
-use std::thread;
+use std::alloc::{AllocError, Global};
+use std::sync::Mutex;
 use std::time::{Clock, Duration, Instant, SystemTime, UNIX_EPOCH};
-use swim_ask::{Addresses, Shown, look};
+use swim_ask::Shown;
 use swim_news::Rows;
-use swim_pages::Seen;
+use swim_pages::{Group, Reading, Seen, directory_response, response};
 use swim_shell::About;
 
-/// How long the member is left alone after it was asked, in milliseconds.
-const EVERY_MILLIS: u64 = 1000;
-
-/// For how long what the member said last is shown as what it says, in milliseconds. Then it counts as one that does not answer.
+/// For how long what a member said last is shown as what it says, in milliseconds. Then it counts as one that does not answer. Where
+/// several groups are shown it is so long for each of them, since they are asked one after the other.
 const FRESH_MILLIS: u64 = 10_000;
 
 /// By how many seconds the begin of one life may seem to move: clocks tick on between what is told and what is read.
 const DRIFT_SECONDS: u64 = 2;
 
-/// What is known of the member, since when it is so, and when that was seen last.
-#[derive(Drop)]
-pub(crate) struct Known {
-    seen: Seen,
+/// Since when what is known of a member is so, and when it was asked last.
+#[derive(Clone, Copy)]
+struct Times {
     since: Option<Instant>,
     asked: Option<Instant>,
+}
+
+/// What is known of one member, or of a member of each of several groups.
+#[derive(Drop)]
+pub(crate) struct Known {
+    one: Seen,
+    times: Times,
+    groups: Vec<Group>,
+    /// Those of the groups, at their places.
+    times_of: Vec<Times>,
+}
+
+/// What is known by both threads: by that which asks, and by that which answers.
+pub(crate) type Shared = Mutex<Known>;
+
+/// Nothing, of a member that was not asked yet.
+fn unseen() -> Seen {
+    Seen {
+        status: None,
+        rows: Rows::new(),
+        counters: None,
+        about: None,
+        since: None,
+        quiet: 0,
+    }
 }
 
 /// How long ago that was; none where it never was, or where the clock fails.
@@ -49,100 +70,126 @@ fn steady(known: Option<u64>, begin: Option<u64>) -> Option<u64> {
     }
 }
 
-impl Known {
-    /// Nothing: it was not asked yet.
-    pub(crate) fn new() -> Known {
-        Known {
-            seen: Seen {
-                status: None,
-                rows: Rows::new(),
-                counters: None,
-                about: None,
-                since: None,
-                quiet: 0,
-            },
+/// Whether a look says something else than what is known. How long an era is says nothing of the group.
+fn is_changed_by(seen: &Seen, look: &Option<Shown>) -> bool {
+    let (Some(status), Some(look)) = (&seen.status, look) else {
+        return seen.status.is_some() || look.is_some();
+    };
+    let has_other_rows = match &look.rows {
+        Some(rows) => rows.as_slice() != seen.rows.as_slice(),
+        None => false,
+    };
+    has_other_rows || status.phase != look.status.phase || status.number != look.status.number
+}
+
+/// Takes what a member said, or that it did not answer. Rows that it did not show stay.
+fn take_look<C: Clock>(seen: &mut Seen, clock: &C, look: Option<Shown>) {
+    let Some(look) = look else {
+        seen.status = None;
+        return;
+    };
+    seen.status = Some(look.status);
+    seen.counters = look.counters;
+    seen.since = match &look.about {
+        Some(about) => steady(seen.since, begin_of(clock, about)),
+        None => None,
+    };
+    seen.about = look.about;
+    if let Some(rows) = look.rows {
+        seen.rows = rows;
+    }
+}
+
+impl Times {
+    /// Of a member that was not asked yet.
+    fn new() -> Times {
+        Times {
             since: None,
             asked: None,
         }
     }
 
-    /// Whether a look says something else than what is known. How long an era is says nothing of the group.
-    fn is_changed_by(&self, look: &Option<Shown>) -> bool {
-        let (Some(status), Some(look)) = (&self.seen.status, look) else {
-            return self.seen.status.is_some() || look.is_some();
-        };
-        let has_other_rows = match &look.rows {
-            Some(rows) => rows.as_slice() != self.seen.rows.as_slice(),
-            None => false,
-        };
-        has_other_rows || status.phase != look.status.phase || status.number != look.status.number
-    }
-
-    /// Takes what the member said, or that it did not answer. Rows that it did not show stay.
-    pub(crate) fn take<C: Clock>(&mut self, clock: &C, look: Option<Shown>) {
+    /// Takes what the member says now.
+    fn take<C: Clock>(&mut self, seen: &mut Seen, clock: &C, look: Option<Shown>) {
         self.asked = Instant::now(clock).ok();
-        if self.is_changed_by(&look) || self.since.is_none() {
+        if is_changed_by(seen, &look) || self.since.is_none() {
             self.since = self.asked;
         }
-        match look {
-            Some(look) => {
-                self.seen.status = Some(look.status);
-                self.seen.counters = look.counters;
-                self.seen.since = match &look.about {
-                    Some(about) => steady(self.seen.since, begin_of(clock, about)),
-                    None => None,
-                };
-                self.seen.about = look.about;
-                if let Some(rows) = look.rows {
-                    self.seen.rows = rows;
-                }
-            }
-            None => self.seen.status = None,
-        }
+        take_look(seen, clock, look);
     }
 
-    /// What is known now, and for how long it is so.
-    pub(crate) fn seen<C: Clock>(&mut self, clock: &C) -> &Seen {
-        let fresh = Duration::from_millis(FRESH_MILLIS);
+    /// Brings what is known to the present: for how long it is so, and that a member does not answer that was not asked for so long.
+    fn refresh<C: Clock>(&self, seen: &mut Seen, clock: &C, fresh: Duration) {
         let is_fresh = match ago(clock, &self.asked) {
             Some(ago) => ago < fresh,
             None => false,
         };
         if !is_fresh {
-            self.seen.status = None;
+            seen.status = None;
         }
-        self.seen.quiet = match ago(clock, &self.since) {
+        seen.quiet = match ago(clock, &self.since) {
             Some(quiet) => quiet.as_secs(),
             None => 0,
         };
-        &self.seen
     }
 }
 
-/// What a member shows: the one that answered last, or else the next one that answers; none where none does.
-fn look_at_any<R: Net<Stream = TcpStream> + Clock + AllocGlobal>(
-    rt: &R,
-    of: &mut Addresses<'_>,
-) -> Option<Shown> {
-    for _ in 0..of.count() {
-        match look(rt, of.word()) {
-            Some(shown) => return Some(shown),
-            None => of.step(),
+impl Known {
+    /// Nothing: nobody was asked yet.
+    pub(crate) fn new(alloc: Global) -> Known {
+        Known {
+            one: unseen(),
+            times: Times::new(),
+            groups: Vec::new(alloc),
+            times_of: Vec::new(alloc),
         }
     }
-    None
-}
 
-/// Asks the member for all that is shown of it, again and again, until the process is ended.
-pub(crate) fn follow<R: Net<Stream = TcpStream> + Clock + AllocGlobal, T: Wait>(
-    rt: &R,
-    wait: &T,
-    mut of: Addresses<'_>,
-    known: &Mutex<Known>,
-) {
-    for _ in wait.forever() {
-        let look = look_at_any(rt, &mut of);
-        known.lock(wait).take(rt, look);
-        thread::sleep(rt, Duration::from_millis(EVERY_MILLIS));
+    /// Takes what the one member said, or that it did not answer.
+    pub(crate) fn take<C: Clock>(&mut self, clock: &C, look: Option<Shown>) {
+        self.times.take(&mut self.one, clock, look);
+    }
+
+    /// The place of a group, which is made if there is none.
+    fn place_of(&mut self, number: u64) -> Result<usize, AllocError> {
+        if let Some(place) = self.groups.iter().position(|group| group.number == number) {
+            return Ok(place);
+        }
+        self.times_of.push(Times::new())?;
+        let seen = unseen();
+        self.groups.push(Group { number, seen })?;
+        Ok(self.groups.len().saturating_sub(1))
+    }
+
+    /// Takes what a member of a group said, or that none of them answered. Without memory a group is taken later.
+    pub(crate) fn take_of<C: Clock>(&mut self, clock: &C, number: u64, look: Option<Shown>) {
+        let Ok(place) = self.place_of(number) else {
+            return;
+        };
+        if let Some(group) = self.groups.get_mut(place)
+            && let Some(times) = self.times_of.get_mut(place)
+        {
+            times.take(&mut group.seen, clock, look);
+        }
+    }
+
+    /// What is sent on a connection on which this came: of the one member, or of the groups where there are several.
+    pub(crate) fn answer<C: Clock>(
+        &mut self,
+        alloc: Global,
+        clock: &C,
+        reading: Reading,
+    ) -> Result<String, AllocError> {
+        let fresh = Duration::from_millis(FRESH_MILLIS);
+        if self.groups.len() < 2 {
+            self.times.refresh(&mut self.one, clock, fresh);
+            return response(alloc, reading, &self.one);
+        }
+        let many = u32::try_from(self.groups.len()).unwrap_or(u32::MAX);
+        let fresh = fresh.saturating_mul(many);
+        for (group, times) in self.groups.iter_mut().zip(&self.times_of) {
+            times.refresh(&mut group.seen, clock, fresh);
+        }
+        directory_response(alloc, reading, self.groups.as_slice())
     }
 }

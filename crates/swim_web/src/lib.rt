@@ -3,6 +3,7 @@
 //! waiting. Nothing is claimed of what the system does.
 #![tactic(auto)]
 
+mod asking;
 mod known;
 mod peer;
 mod server;

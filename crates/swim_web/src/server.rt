@@ -2,16 +2,15 @@
 
 ghost use Rattle.std.specs.Prelude.{◌≡◌, ◌+◌, ◌<◌};
 
-use crate::known::Known;
+use crate::known::Shared;
 use crate::peer::Peer;
 use mio::net::{TcpListener as Listener, TcpStream as Stream};
 use mio::{Events, Interest, Poll, Token};
 use std::alloc::{AllocError, Global};
 use std::net::{Net, TcpListener};
-use std::sync::{Mutex, Wait, WaitMethods};
+use std::sync::{Wait, WaitMethods};
 use std::time::{Clock, Duration};
 use std::{io, thread};
-use swim_pages::response;
 
 /// The most connections at a time. One more takes the place of the one that came so many before it.
 const PEERS_MAX: usize = 256;
@@ -73,11 +72,11 @@ fn turn<C: Clock, T: Wait>(
     alloc: Global,
     clock: &C,
     wait: &T,
-    known: &Mutex<Known>,
+    known: &Shared,
     peer: &mut Peer,
 ) -> io::Result<bool> {
     if let Some(reading) = peer.listen()? {
-        let answer = response(alloc, reading, known.lock(wait).seen(clock))?;
+        let answer = known.lock(wait).answer(alloc, clock, reading)?;
         peer.answer(answer);
     }
     Ok(peer.speak()? || peer.is_late(clock))
@@ -175,7 +174,7 @@ impl Server {
     }
 
     /// Gives each connection a turn. One that has ended leaves its place.
-    fn turns<C: Clock, T: Wait>(&mut self, clock: &C, wait: &T, known: &Mutex<Known>) {
+    fn turns<C: Clock, T: Wait>(&mut self, clock: &C, wait: &T, known: &Shared) {
         for place in self.peers.iter_mut() {
             let has_ended = match place {
                 Some(peer) => turn(self.alloc, clock, wait, known, peer).unwrap_or(true),
@@ -188,7 +187,7 @@ impl Server {
     }
 
     /// Serves what is known until the process is ended.
-    pub(crate) fn serve<C: Clock, T: Wait>(mut self, clock: &C, wait: &T, known: &Mutex<Known>) {
+    pub(crate) fn serve<C: Clock, T: Wait>(mut self, clock: &C, wait: &T, known: &Shared) {
         for _ in wait.forever() {
             self.wait(clock);
             self.take_some(clock);

@@ -1,6 +1,7 @@
 //! `swim web`.
 
-use crate::known::{Known, follow};
+use crate::asking::{Asking, follow};
+use crate::known::Known;
 use crate::server::Server;
 use std::alloc::Global;
 use std::io::Error;
@@ -17,7 +18,7 @@ use swim_words::read_endpoint;
 /// What `swim web` shows, and where. Both are words not yet judged.
 #[derive(Clone, Copy, Debug)]
 pub struct Web<'a> {
-    /// The control sockets of members of one group, of which the next one is shown where one does not answer.
+    /// The control sockets of members. Of one group the next one is shown where one does not answer, and of several groups all.
     pub of: &'a [String],
     /// Where it listens.
     pub listen: &'a str,
@@ -55,8 +56,9 @@ fn announce<R: Print + AllocGlobal>(
     Ok(())
 }
 
-/// Serves what a member says over HTTP until the process is ended, whether it answers or not; where it does not, the next one is asked. An error is a word that is no
-/// endpoint, or the system's: the address is taken or not this machine's.
+/// Serves what a member of each group says over HTTP until the process is ended, whether it answers or not; where it does not, the next
+/// one of its group is asked. An error is a word that is no endpoint, or the system's: the address is taken or not this machine's, or
+/// there is no memory.
 pub fn serve_web<
     R: Net<Listener = TcpListener, Stream = TcpStream> + Clock + AllocGlobal + Print + Sync,
     T: Threads + Wait + Sync,
@@ -69,11 +71,14 @@ pub fn serve_web<
     let bound = TcpListener::bind(rt, address_of(listen));
     let listener = bound.map_err(|error| refused(alloc, listen, &error))?;
     let server = Server::new(rt, listener).map_err(|error| refused(alloc, listen, &error))?;
+    let Ok(asking) = Asking::new(alloc, web.of, of) else {
+        return Err(Failure::from(Ending::Memory));
+    };
     announce(rt, web, listen)?;
-    let known = Mutex::new(Known::new());
+    let known = Mutex::new(Known::new(alloc));
     thread::join(
         threads,
-        || follow(rt, threads, of, &known),
+        || follow(rt, threads, asking, &known),
         || server.serve(rt, threads, &known),
     );
     Ok(())

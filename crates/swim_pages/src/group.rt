@@ -1,0 +1,49 @@
+//! What was read of several groups.
+
+ghost use Rattle.std.specs.Prelude.{◌≡◌};
+ghost use Rattle.swim_pages.specs.Groups.{is_unanswered, is_other, phase_of_all};
+
+use crate::seen::Seen;
+use swim_member::Phase;
+
+/// A group, and what was read of one of its members.
+#[derive(Drop)]
+pub struct Group {
+    /// Its number.
+    pub number: u64,
+    /// What was read of the member.
+    pub seen: Seen,
+}
+
+/// Whether no member of the group answers.
+fn is_unanswered(group: &Group) -> bool
+    ensures { result ≡ is_unanswered group.now }
+{
+    match group.seen.phase() {
+        Some(_) => false,
+        None => true,
+    }
+}
+
+/// Whether a member of the group answers, and is in another phase than Running.
+fn is_other(group: &Group) -> bool
+    ensures { result ≡ is_other group.now }
+{
+    match group.seen.phase() {
+        Some(Phase::Running) | None => false,
+        Some(_) => true,
+    }
+}
+
+/// None where a group has no member that answers. Else the phase of the first member that is in another one than Running, or Running.
+pub(crate) fn phase_of_all(groups: &[Group]) -> Option<Phase>
+    ensures { result ≡ phase_of_all groups.now }
+{
+    if groups.iter().any(|group| is_unanswered(group)) {
+        return None;
+    }
+    match groups.iter().find(|group| is_other(group)) {
+        Some(group) => group.seen.phase(),
+        None => Some(Phase::Running),
+    }
+}
