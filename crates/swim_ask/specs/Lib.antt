@@ -1,3 +1,4 @@
 pub mod Answers
 pub mod Joining
+pub mod Leaving
 pub mod Whole

@@ -1,6 +1,7 @@
 //! Colours of states, for a person at a terminal.
 
 ghost use Rattle.std.specs.Prelude.{◌≡◌, ◌≢◌, [], true, false, None};
+ghost use Rattle.swim_ask.specs.Leaving.{may_have_left};
 ghost use Rattle.swim_ask.specs.declared.paint.Paint.TheVariants as paints;
 
 use std::rt::Env;
@@ -73,6 +74,29 @@ impl fmt::Display for PaintedKind {
     }
 }
 
+/// Whether a member was alive at one look and failed at the next one: no look found it suspected in between, so it may have left. Its row
+/// does not say.
+fn may_have_left(change: &Change) -> bool
+    ensures { result ≡ may_have_left change.now }
+{
+    match change {
+        Change::Changed { was, now } => matches!(
+            (was.kind, now.kind),
+            (UpdateKind::Alive, UpdateKind::Confirm)
+        ),
+        Change::New(_) | Change::Gone(_) => false,
+    }
+}
+
+/// What stands behind a change, where a member may have left.
+fn remark(change: &Change) -> &'static str {
+    if may_have_left(change) {
+        " (it may have left)"
+    } else {
+        ""
+    }
+}
+
 /// A change, in the colour of what the member is now; one that is unknown now has none.
 #[derive(Clone, Copy)]
 pub(crate) struct PaintedChange(pub(crate) Paint, pub(crate) Change);
@@ -83,7 +107,8 @@ impl fmt::Display for PaintedChange {
         match change.now() {
             Some(row) => {
                 let (begin, end) = (paint.begin(row.kind), paint.end());
-                write!(f, "{begin}{change}{end}")
+                let remark = remark(&change);
+                write!(f, "{begin}{change}{remark}{end}")
             }
             None => write!(f, "{change}"),
         }
