@@ -7,6 +7,7 @@ use std::fmt::{self, Display, Formatter};
 use std::io::{self, ErrorKind};
 use swim_input::InputFault;
 use swim_settings::Refusal;
+use swim_words::read_host;
 
 /// Why the program ends, and which thing that is about, where one is known: a file with its path, an address, a line. It prints on
 /// one line.
@@ -14,6 +15,17 @@ use swim_settings::Refusal;
 pub struct Failure {
     ending: Ending,
     about: Option<String>,
+}
+
+/// What is wrong with a word that is not the address that it has to be.
+fn wrong_with(word: &str) -> &'static str {
+    if read_host(word.as_bytes()).is_some() {
+        "it has a host name, where an IPv4 address has to be"
+    } else if word.as_bytes().contains(&b':') {
+        "it is no IPv4 address with a port of 1 to 65535"
+    } else {
+        "it has no port"
+    }
 }
 
 impl Failure {
@@ -70,11 +82,16 @@ impl Failure {
         Failure::of_file(alloc, "state file", path, error)
     }
 
-    /// The ending where a word, which is the one that it is called, is not the address that it has to be.
+    /// The ending where a word, which is the one that it is called, is not the address that it has to be, with what is wrong with it.
     pub fn of_address(alloc: Global, called: &str, word: &str) -> Failure
         ensures { result.ending ≡ Ending.Address }
     {
-        Failure::about(alloc, Ending::Address, format_args!("{called} {word:?}"))
+        let wrong = wrong_with(word);
+        Failure::about(
+            alloc,
+            Ending::Address,
+            format_args!("{called} {word:?}: {wrong}"),
+        )
     }
 
     /// The ending by an error of standard output.

@@ -11,6 +11,9 @@ use swim_ask::{Addresses, Shown, ask_about, find, look};
 /// How long the members are left alone after they were asked, in milliseconds.
 const EVERY_MILLIS: u64 = 1000;
 
+/// For how many turns those are left alone that were not met, once one of them did not answer: that may take seconds.
+const REST_TURNS: u32 = 10;
+
 /// The control socket of a member, by its place among all.
 #[derive(Clone, Copy)]
 struct Place {
@@ -32,6 +35,8 @@ pub(crate) struct Asking<'a> {
     of: Addresses<'a>,
     /// From which place on those are met that were not.
     next: usize,
+    /// For how many turns they are left alone.
+    rest: u32,
 }
 
 /// What a member shows: the one that answered last, or else the next one that answers; none where none does.
@@ -86,6 +91,7 @@ impl<'a> Asking<'a> {
             groups: Vec::new(alloc),
             of,
             next: 0,
+            rest: 0,
         })
     }
 
@@ -105,8 +111,12 @@ impl<'a> Asking<'a> {
         }
     }
 
-    /// Asks the members that were not met for their groups, until one does not answer.
+    /// Asks the members that were not met for their groups, until one does not answer. Then they are left alone for a while.
     fn meet_some<R: Net<Stream = TcpStream> + Clock + AllocGlobal>(&mut self, rt: &R) {
+        if self.rest > 0 {
+            self.rest = self.rest.saturating_sub(1);
+            return;
+        }
         for _ in 0..self.words.len() {
             let at = self.next;
             self.next = self.after(at);
@@ -119,7 +129,10 @@ impl<'a> Asking<'a> {
             };
             match group_at(rt, word.as_str()) {
                 Some(group) => self.meet(at, group),
-                None => return,
+                None => {
+                    self.rest = REST_TURNS;
+                    return;
+                }
             }
         }
     }
