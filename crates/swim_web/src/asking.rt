@@ -14,21 +14,12 @@ const EVERY_MILLIS: u64 = 1000;
 /// For how many turns those are left alone that were not met, once one of them did not answer: that may take seconds.
 const REST_TURNS: u32 = 10;
 
-/// The control socket of a member, by its place among all.
-#[derive(Clone, Copy)]
-struct Place {
-    /// Whether a member answered there.
-    is_met: bool,
-    /// The number of its group, if it told that.
-    group: Option<u64>,
-}
-
 /// The control sockets of members of one group or of several, and which of them is asked for each group.
 #[derive(Drop)]
 pub(crate) struct Asking<'a> {
     words: &'a [String],
-    /// What each of the words is.
-    places: Vec<Place>,
+    /// The group of the member at each of them; none where it was not met.
+    places: Vec<Option<u64>>,
     /// The groups of the members that were met, each with the place that is asked for it.
     groups: Vec<(u64, usize)>,
     /// Those of one group, as long as no second one is known.
@@ -53,14 +44,11 @@ fn look_at_any<R: Net<Stream = TcpStream> + Clock + AllocGlobal>(
     None
 }
 
-/// The group of the member whose control socket a word names, if it tells that. An error is that it does not answer.
-fn group_at<R: Net<Stream = TcpStream> + Clock + AllocGlobal>(
-    rt: &R,
-    word: &str,
-) -> Option<Option<u64>> {
+/// The group of the member whose control socket a word names; none where it does not answer, or does not tell that.
+fn group_at<R: Net<Stream = TcpStream> + Clock + AllocGlobal>(rt: &R, word: &str) -> Option<u64> {
     let to = find(rt, word).ok()?;
-    let about = ask_about(rt, to).ok()?;
-    Some(about.map(|about| about.who.group))
+    let about = ask_about(rt, to).ok()??;
+    Some(about.who.group)
 }
 
 /// Whether a look is of a member of this group.
@@ -80,10 +68,7 @@ impl<'a> Asking<'a> {
     ) -> Result<Asking<'a>, AllocError> {
         let mut places = Vec::new(alloc);
         for _ in words {
-            places.push(Place {
-                is_met: false,
-                group: None,
-            })?;
+            places.push(None)?;
         }
         Ok(Asking {
             words,
@@ -96,22 +81,18 @@ impl<'a> Asking<'a> {
     }
 
     /// Notes that a member of this group was met at a place. Without memory it is met again later.
-    fn meet(&mut self, at: usize, group: Option<u64>) {
-        if let Some(number) = group
-            && !self.groups.iter().any(|known| known.0 == number)
-            && self.groups.push((number, at)).is_err()
+    fn meet(&mut self, at: usize, group: u64) {
+        if !self.groups.iter().any(|known| known.0 == group)
+            && self.groups.push((group, at)).is_err()
         {
             return;
         }
         if let Some(place) = self.places.get_mut(at) {
-            *place = Place {
-                is_met: true,
-                group,
-            };
+            *place = Some(group);
         }
     }
 
-    /// Asks the members that were not met for their groups, until one does not answer. Then they are left alone for a while.
+    /// Asks the members that were not met for their groups, until one does not tell. Then they are left alone for a while.
     fn meet_some<R: Net<Stream = TcpStream> + Clock + AllocGlobal>(&mut self, rt: &R) {
         if self.rest > 0 {
             self.rest = self.rest.saturating_sub(1);
@@ -120,8 +101,7 @@ impl<'a> Asking<'a> {
         for _ in 0..self.words.len() {
             let at = self.next;
             self.next = self.after(at);
-            let is_met = self.places.get(at).is_none_or(|place| place.is_met);
-            if is_met {
+            if self.places.get(at).is_none_or(|place| place.is_some()) {
                 continue;
             }
             let Some(word) = self.words.get(at) else {
@@ -148,11 +128,7 @@ impl<'a> Asking<'a> {
         let mut next = at;
         for _ in 0..self.words.len() {
             next = self.after(next);
-            if self
-                .places
-                .get(next)
-                .is_some_and(|place| place.group == Some(group))
-            {
+            if self.places.get(next) == Some(&Some(group)) {
                 return next;
             }
         }
@@ -172,8 +148,7 @@ impl<'a> Asking<'a> {
             return Some(shown);
         }
         if let Some(place) = self.places.get_mut(at) {
-            place.is_met = false;
-            place.group = None;
+            *place = None;
         }
         None
     }
