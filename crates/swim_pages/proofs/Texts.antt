@@ -10,7 +10,7 @@ and_then old a middle b new one other =
 
 -- what one more of a list adds, behind what was added for those before it
 pub more_written : {X : Type 0} (f : X → List ℕ) (old text new : List ℕ) (xs more : List X) (x : X) → text ≡ old ++ flat_map f xs → new ≡ text ++ f x → more ≡ xs ++ x ∷ [] → new ≡ old ++ flat_map f more
-more_written f old text new xs more x so_far is next =
+more_written {X = X} f old text new xs more x so_far is next =
     is
     ∙ ap (λ (w : List ℕ). w ++ f x) so_far
     ∙ flat_map_more f old xs x

@@ -69,11 +69,15 @@ unfoldable pub group_sample : List ℕ → ℕ → ℕ → List ℕ
 group_sample name group n =
     name ++ (codes "{group=\"" ++ (decimal group ++ (codes "\"} " ++ (decimal n ++ codes "\n"))))
 
--- how many rows of a group are of a kind
-unfoldable pub group_kind : ℕ → UpdateKind → List Update → List ℕ
-group_kind group kind rows =
-    codes "swim_members{group=\"" ++ (decimal group ++ (codes "\",state=\"" ++ (kind_word kind
-    ++ (codes "\"} " ++ (decimal (count_kind kind rows) ++ codes "\n")))))
+-- how many members of a group are in a state
+unfoldable pub group_count : ℕ → List ℕ → ℕ → List ℕ
+group_count group state count =
+    codes "swim_members{group=\"" ++ (decimal group ++ (codes "\",state=\"" ++ (state
+    ++ (codes "\"} " ++ (decimal count ++ codes "\n")))))
+
+-- how many rows of a group are of a kind, and of each kind
+abbrev pub group_kind : ℕ → UpdateKind → List Update → List ℕ
+group_kind group kind rows = group_count group (kind_word kind) (count_kind kind rows)
 
 abbrev pub group_kinds : ℕ → List Update → List ℕ
 group_kinds group rows =

@@ -1,6 +1,7 @@
 //! What was read of several groups.
 
-ghost use Rattle.std.specs.Prelude.{◌≡◌};
+ghost use Rattle.std.specs.Prelude.{◌≡◌, find, option_map};
+ghost use Rattle.std.specs.List.{list_any};
 ghost use Rattle.swim_pages.specs.Groups.{is_unanswered, is_other, phase_of_all};
 
 use crate::seen::Seen;
@@ -35,14 +36,28 @@ fn is_other(group: &Group) -> bool
     }
 }
 
+/// Whether a group has no member that answers.
+fn has_unanswered(groups: &[Group]) -> bool
+    ensures { result ≡ list_any is_unanswered groups.now }
+{
+    groups.iter().any(|group| is_unanswered(group))
+}
+
+/// The first group whose member is in another phase than Running.
+fn first_other(groups: &[Group]) -> Option<&Group>
+    ensures { option_map (λ group. group.now) result ≡ find is_other groups.now }
+{
+    groups.iter().find(|group| is_other(group))
+}
+
 /// None where a group has no member that answers. Else the phase of the first member that is in another one than Running, or Running.
 pub(crate) fn phase_of_all(groups: &[Group]) -> Option<Phase>
     ensures { result ≡ phase_of_all groups.now }
 {
-    if groups.iter().any(|group| is_unanswered(group)) {
+    if has_unanswered(groups) {
         return None;
     }
-    match groups.iter().find(|group| is_other(group)) {
+    match first_other(groups) {
         Some(group) => group.seen.phase(),
         None => Some(Phase::Running),
     }

@@ -1,7 +1,7 @@
 //! The numbers of several groups, as Prometheus reads them: each with its group.
 
 ghost use Rattle.std.specs.Prelude.{◌≡◌, ◌++◌, OnOk, flat_map};
-ghost use Rattle.swim_pages.specs.Groups.{alone_of, directory_text, family_help, family_name, family_sample, family_text, group_kind, group_kinds, group_sample, group_state, group_states, info_of, rows_of};
+ghost use Rattle.swim_pages.specs.Groups.{alone_of, directory_text, family_help, family_name, family_sample, family_text, group_count, group_kind, group_kinds, group_sample, group_state, group_states, info_of, rows_of};
 
 use crate::gauges::write_head;
 use crate::group::Group;
@@ -67,8 +67,19 @@ fn write_number(text: &mut String, name: &str, group: u64, number: u64) -> Resul
     write!(text, "{name}{{group=\"{group}\"}} {number}\n")
 }
 
+/// Adds how many members of a group are in a state.
+#[tactic(auto, unfolding(crate::specs::Groups::group_count))]
+fn write_count(text: &mut String, group: u64, state: &str, count: u64) -> Result<(), AllocError>
+    ensures { OnOk result (text.new.bytes.items
+        ≡ text.old.bytes.items ++ group_count group state.now count) }
+{
+    write!(
+        text,
+        "swim_members{{group=\"{group}\",state=\"{state}\"}} {count}\n"
+    )
+}
+
 /// Adds how many rows of a group are of a kind.
-#[tactic(auto, unfolding(crate::specs::Groups::group_kind))]
 fn write_kind(
     text: &mut String,
     group: u64,
@@ -78,11 +89,8 @@ fn write_kind(
     ensures { OnOk result (text.new.bytes.items
         ≡ text.old.bytes.items ++ group_kind group kind rows.now) }
 {
-    let (state, count) = (kind.name(), count_kind(kind, rows));
-    write!(
-        text,
-        "swim_members{{group=\"{group}\",state=\"{state}\"}} {count}\n"
-    )
+    let count = count_kind(kind, rows) as u64;
+    write_count(text, group, kind.name(), count)
 }
 
 /// Adds how many rows of a group are of each kind.
