@@ -94,8 +94,9 @@ fn known_by(before: Option<Update>, after: Option<Update>, is_silent: bool) -> O
         ↔ (after ≡ Some row) × (before ≡ Some row) × (is_silent ≢ true) }
 {
     let row = after?;
-    if before != Some(row) {
-        return Some(Joined::New(row));
+    match before {
+        Some(before) if before == row => {}
+        _ => return Some(Joined::New(row)),
     }
     if is_silent {
         return None;
