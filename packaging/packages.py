@@ -5,6 +5,7 @@ import os
 import re
 import shutil
 import subprocess
+import sys
 from pathlib import Path
 
 ROOT = Path(__file__).resolve().parent.parent
@@ -52,6 +53,8 @@ def put_licences(tree, crate, documents):
 def c_library(*binaries):
     """The version of the C library that these ask for, as a dependence."""
     found = [version for path in binaries for version in re.findall(rb"GLIBC_([0-9]+)\.([0-9]+)", path.read_bytes())]
+    if not found:
+        sys.exit(f"{' '.join(map(str, binaries))}: no program of this system's C library. What .ci/tried leaves is a script for this tree alone")
     newest = max(found, key=lambda version: tuple(map(int, version)))
     return f"libc6 (>= {b'.'.join(newest).decode()})"
 
