@@ -68,17 +68,14 @@ fn a_refused_start_gives_the_disk_back(rt: HostRuntime) -> Result<(), Fail> {
     let disk = MemDisk::new(rt.alloc(), 5, Vec::new(rt.alloc()));
     let control = TcpListener::bind(&rt, free_address())?;
     let settings = Settings::usual(7, me);
-    match run_over_udp(&rt, &rt, disk, control, OverUdp::usual(settings)) {
-        Ok(_) => Err("a life without a state file")?,
-        Err((disk, why)) => {
-            let is_refused = matches!(
-                &why,
-                StartFault::Open(OpenFault::Refused(RecoverFault::NotState))
-            );
-            assert!(&rt; is_refused, "{why:?}");
-            assert!(&rt; disk.bytes()?.is_empty());
-        }
-    }
+    let started = run_over_udp(&rt, &rt, disk, control, OverUdp::usual(settings));
+    let (disk, why) = started.err().ok_or("a life without a state file")?;
+    let is_refused = matches!(
+        &why,
+        StartFault::Open(OpenFault::Refused(RecoverFault::NotState))
+    );
+    assert!(&rt; is_refused, "{why:?}");
+    assert!(&rt; disk.bytes()?.is_empty());
     Ok(())
 }
 
