@@ -5,8 +5,8 @@ use Rattle.swim_member.specs.Checks.{fault_of}
 use Rattle.swim_member.specs.declared.settings.Settings.{Settings}
 use Rattle.swim_node.specs.Lives.{BeginsAbove, IsLiving, Unopened, life_of}
 use Rattle.swim_node.specs.Node.{NodeView, owner_of}
-use Rattle.swim_serve.specs.declared.serving.Fault.{Fault}
-use Rattle.swim_serve.specs.declared.serving.MemberEnd.{MemberEnd}
+use Rattle.swim_serve.specs.declared.fault.Fault.{Fault}
+use Rattle.swim_serve.specs.declared.grace.MemberEnd.{MemberEnd}
 use Rattle.swim_serve.specs.Eras.{OutsideView}
 use Rattle.swim_serve.specs.Members.{Lived}
 use Rattle.swim_state.specs.Held.{Covers, Held, Through}

@@ -2,7 +2,7 @@
 
 ghost use Rattle.std.specs.Prelude.{◌≡◌, ◌≢◌, ◌↔◌, IsOk, Ok, Err};
 ghost use Rattle.swim_ending.specs.declared.ending.Ending.TheVariants as endings;
-ghost use Rattle.swim_serve.specs.declared.serving.MemberEnd.TheVariants as member_ends;
+ghost use Rattle.swim_serve.specs.declared.grace.MemberEnd.TheVariants as member_ends;
 
 use swim_ending::Ending;
 use swim_serve::{Fault, MemberEnd};

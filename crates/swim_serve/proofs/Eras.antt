@@ -15,9 +15,10 @@ use Rattle.swim_shared.specs.Taken.{taken_of}
 use Rattle.swim_shell.specs.declared.caller.Refusal.{Refusal}
 use Rattle.swim_shell.specs.Calls.{CallerView}
 use Rattle.swim_serve.specs.Eras.{HasCalls, Knows, ByPass, OutsideView, Served, Serves, SendsBy, Sends, outgoing_of}
-use Rattle.swim_serve.specs.Views.{HasCalledBy, LinkView, link_of, view_of}
-use Rattle.swim_serve.specs.Works.{EraEnds, Sent}
-use Rattle.swim_serve.specs.declared.logs.EraCounts.{EraCounts}
+use Rattle.swim_handle.specs.Views.{HasParts, view_of}
+use Rattle.swim_serve.specs.Views.{LinkView, link_of}
+use Rattle.swim_serve.specs.Works.{EraEnds, LeftBy, Sent}
+use Rattle.swim_serve.specs.declared.era_counts.EraCounts.{EraCounts}
 use Rattle.swim_serve.proofs.Fitting.{Fits}
 
 both : (a b : Bool) → (a && b) ≡ true → b ≡ true
@@ -62,19 +63,18 @@ knows base p s a journal ok (steps, begins) =
 
 module _ {S E : Type 0} (does : S → CallerView → S → CallerView → Option E → Type 0) where
   -- a worker did so by a caller, which gave its pass back
-  pub by_pass : (base : Base) (a b c : S) (o p q : CallerView) (pass : PassView) (end ends : Option E) → does a o b q end → o ≡ p → c ≡ b → HasCalledBy pass q → ends ≡ end → IsPass base pass → ByPass does base a p c pass ends
-  by_pass base a b c o p q pass end ends did begun is called ended ok = record {
-    known = q;
-    did = subst (λ w. does a w c q ends) begun (subst (λ w. does a o w q ends) (sym is) (subst (λ w. does a o b q w) (sym ended) did));
-    called = called;
-    is_pass = ok;
+  pub by_pass : {P : Type 0} (base : Base) (pass_of : P → PassView) (a b c : S) (o p : CallerView) (parts : P) (pass : PassView) (end ends : Option E) → LeftBy does (λ known parts. HasParts base known (pass_of parts)) a o b parts end → o ≡ p → c ≡ b → pass ≡ pass_of parts → ends ≡ end → ByPass does base a p c pass ends
+  by_pass base pass_of a b c o p parts pass end ends l begun is passed ended = record {
+    known = l.known;
+    did = subst (λ w. does a w c l.known ends) begun (subst (λ w. does a o w l.known ends) (sym is) (subst (λ w. does a o b l.known w) (sym ended) l.did));
+    left = subst (HasParts base l.known) (sym passed) l.left;
   }
 
   pub served : (base : Base) (a b : S) (p : CallerView) (pass : PassView) (end : Option E) (journal : List Entry) → ByPass does base a p b pass end → Fits journal pass → Served does a p b end journal
   served base a b p pass end journal by fits = record {
     then = by.known;
     did = by.did;
-    knows = subst (Knows journal) (sym by.called.known_is) (knows base pass by.called.spent by.called.asked journal by.is_pass fits);
+    knows = subst (Knows journal) (sym by.left.0.known_is) (knows base pass by.left.0.spent by.left.0.asked journal by.left.1 fits);
   }
 
 -- what was counted of the eras is no matter

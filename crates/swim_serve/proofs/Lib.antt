@@ -4,7 +4,5 @@ mod Fitting
 mod Handing
 mod Keeping
 mod Lives
-mod Notes
-mod Passing
 mod Tending
 mod Working

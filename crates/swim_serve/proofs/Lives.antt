@@ -18,7 +18,7 @@ use Rattle.swim_shared.specs.Moments.{CoversEra}
 use Rattle.swim_shared.specs.Outboxes.{OutboxView, SenderView}
 use Rattle.swim_shared.specs.Parts.{PartsView}
 use Rattle.swim_shared.proofs.Moments.{begins_node, goes_on}
-use Rattle.swim_serve.specs.declared.serving.Fault.{Fault}
+use Rattle.swim_serve.specs.declared.fault.Fault.{Fault}
 use Rattle.swim_serve.specs.Eras.{EraOf, LivesThrough, NamesParts, OutsideView, ServesAnew, StaysIn}
 use Rattle.swim_serve.specs.Members.{Eras, Here, Hosts, IsGiven, MemberView, Next, ServesEra, member_of}
 use Rattle.swim_serve.specs.Faults.{fault_of}

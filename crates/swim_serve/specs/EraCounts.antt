@@ -8,7 +8,7 @@ use Rattle.swim_shell.specs.Counts.{more}
 use Rattle.swim_serve.specs.declared.era_saves.EraSaves.{EraSaves}
 use Rattle.swim_serve.specs.declared.era_saves.PeersSave.{PeersSave}
 use Rattle.swim_serve.specs.declared.era_saves.PeersSave.TheVariants as peers
-use Rattle.swim_serve.specs.declared.logs.EraCounts.{EraCounts}
+use Rattle.swim_serve.specs.declared.era_counts.EraCounts.{EraCounts}
 
 -- the save was made
 abbrev pub is_done : Save → Bool

@@ -16,17 +16,18 @@ use Rattle.swim_state.specs.declared.owner.Owner.{Owner}
 use Rattle.swim_shared.specs.Moments.{CoversEra}
 use Rattle.swim_shared.specs.Outboxes.{OutboxView, SenderView, owed_after}
 use Rattle.swim_shared.specs.Parts.{PartsView}
-use Rattle.swim_shared.specs.Passes.{PassView, IsPass}
+use Rattle.swim_shared.specs.Passes.{PassView}
 use Rattle.swim_shared.specs.Taken.{taken_of}
 use Rattle.swim_shell.specs.declared.caller.Refusal.{Refusal}
 use Rattle.swim_shell.specs.Calls.{CallerView, NewCalls, calls_of}
 use Rattle.swim_shell.specs.Inbounds.{ReceiverView}
 use Rattle.swim_shell.specs.Losses.{OutgoingView, Handed}
 use Rattle.swim_serve.specs.declared.era.TheConstants.{CALLERS}
-use Rattle.swim_serve.specs.declared.logs.EraCounts.{EraCounts}
+use Rattle.swim_serve.specs.declared.era_counts.EraCounts.{EraCounts}
 use Rattle.swim_serve.specs.Desks.{DeskView, Tended}
-use Rattle.swim_serve.specs.Views.{HasCalledBy, LinkView, RingView, new_caller}
-use Rattle.swim_serve.specs.Works.{EraEnds, Received, Sent, Ticked}
+use Rattle.swim_handle.specs.Views.{HasParts, new_caller}
+use Rattle.swim_serve.specs.Views.{LinkView, RingView}
+use Rattle.swim_serve.specs.Works.{EraEnds, LeftBy, Received, Sent, Ticked}
 
 -- the parts of an era that begins, and the sender of its ring, are those that these ghost members
 -- of a name tell of
@@ -78,13 +79,8 @@ Knows journal q = IsPrefix q.seen journal × HasCalls journal q
 -- what a worker does between two of its states, with what its caller knows then, and how it ends
 module _ {S E : Type 0} (does : S → CallerView → S → CallerView → Option E → Type 0) where
   -- a worker did so, and its calls are those of this pass
-  pub record ByPass (base : Base) (a : S) (p : CallerView) (b : S) (pass : PassView)
-      (end : Option E)
-      : Type 0 where
-    pub known : CallerView
-    pub did : does a p b known end
-    pub called : HasCalledBy pass known
-    pub is_pass : IsPass base pass
+  abbrev pub ByPass : Base → S → CallerView → S → PassView → Option E → Type 0
+  ByPass base = LeftBy does (HasParts base)
 
   -- a worker did so in an era that left this journal, which has its calls
   pub record Served (a : S) (p : CallerView) (b : S) (end : Option E) (journal : List Entry)

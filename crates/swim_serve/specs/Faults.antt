@@ -6,8 +6,8 @@ use Rattle.swim_shell.specs.declared.conversation.ControlEnd.{ControlEnd}
 use Rattle.swim_shell.specs.declared.conversation.ControlEnd.TheVariants as control
 use Rattle.swim_shell.specs.declared.worker.WorkerEnd.{WorkerEnd}
 use Rattle.swim_shell.specs.declared.worker.WorkerEnd.TheVariants as worker
-use Rattle.swim_serve.specs.declared.serving.Fault.{Fault}
-use Rattle.swim_serve.specs.declared.serving.Fault.TheVariants as fault
+use Rattle.swim_serve.specs.declared.fault.Fault.{Fault}
+use Rattle.swim_serve.specs.declared.fault.Fault.TheVariants as fault
 use Rattle.swim_serve.specs.declared.era.EraFault.{EraFault}
 use Rattle.swim_serve.specs.declared.era.EraFault.TheVariants as era
 use Rattle.swim_serve.specs.Works.{EraEnds}
@@ -16,16 +16,14 @@ use Rattle.swim_serve.specs.Works.{EraEnds}
 -- not have the calls of a worker as that one knows them
 abbrev pub fault_by : EraFault → Fault
 fault_by (era.Refused refusal.Memory) = fault.Memory
-fault_by (era.Refused refusal.EraFull) = fault.Worker (worker.Refused refusal.EraFull)
-fault_by (era.Refused refusal.Unread) = fault.Worker (worker.Refused refusal.Unread)
+fault_by (era.Refused why) = fault.Worker (worker.Refused why)
 fault_by era.Odd = fault.Odd
 
 -- a refused call ends the member, but where the era is full
 abbrev pub by_refusal : Option Refusal → Option Fault
 by_refusal None = None
 by_refusal (Some refusal.EraFull) = None
-by_refusal (Some refusal.Memory) = Some (fault.Worker (worker.Refused refusal.Memory))
-by_refusal (Some refusal.Unread) = Some (fault.Worker (worker.Refused refusal.Unread))
+by_refusal (Some why) = Some (fault.Worker (worker.Refused why))
 
 -- the receiver ends the member by its own fault too
 abbrev pub by_receiver : Option WorkerEnd → Option Fault
@@ -35,14 +33,8 @@ by_receiver (Some (worker.Refused why)) = by_refusal (Some why)
 
 -- and the desk by no end of a connection, nor by `stop`, `record` or `reload`
 abbrev pub by_desk : Option ControlEnd → Option Fault
-by_desk None = None
-by_desk (Some control.Closed) = None
-by_desk (Some control.Asked) = None
-by_desk (Some control.Renewed) = None
-by_desk (Some control.Reloading) = None
-by_desk (Some control.ReadFault) = None
-by_desk (Some control.WriteFault) = None
 by_desk (Some (control.Refused why)) = by_refusal (Some why)
+by_desk _ = None
 
 -- the first fault there is
 abbrev pub first_of : Option Fault → Option Fault → Option Fault

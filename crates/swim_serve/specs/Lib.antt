@@ -1,12 +1,8 @@
-pub mod Companies
 pub mod Desks
 pub mod EraCounts
 pub mod Eras
 pub mod Faults
-pub mod Identities
 pub mod Members
-pub mod Notes
-pub mod Numbers
 pub mod Peers
 pub mod Views
 pub mod Works

@@ -10,10 +10,10 @@ use Rattle.swim_recorder.specs.Handing.{recorded}
 use Rattle.swim_shell.specs.declared.conversation.ControlEnd.{ControlEnd}
 use Rattle.swim_shell.specs.declared.conversation.ControlEnd.TheVariants as control
 use Rattle.swim_serve.specs.declared.era.EraFault.{EraFault}
-use Rattle.swim_serve.specs.declared.serving.Fault.{Fault}
-use Rattle.swim_serve.specs.declared.serving.Fault.TheVariants as fault
-use Rattle.swim_serve.specs.declared.serving.MemberEnd.{MemberEnd}
-use Rattle.swim_serve.specs.declared.serving.MemberEnd.TheVariants as member
+use Rattle.swim_serve.specs.declared.fault.Fault.{Fault}
+use Rattle.swim_serve.specs.declared.fault.Fault.TheVariants as fault
+use Rattle.swim_serve.specs.declared.grace.MemberEnd.{MemberEnd}
+use Rattle.swim_serve.specs.declared.grace.MemberEnd.TheVariants as member
 use Rattle.swim_serve.specs.Desks.{IsHosted}
 use Rattle.swim_serve.specs.Eras.{EraOf, LivesThrough, OutsideView, ServesAnew, StaysIn}
 use Rattle.swim_serve.specs.Faults.{fault_by, fault_of}

@@ -9,7 +9,7 @@ use Rattle.swim_shell.specs.declared.caller.Refusal.{Refusal}
 use Rattle.swim_shell.specs.declared.worker.WorkerEnd.{WorkerEnd}
 use Rattle.swim_shell.specs.declared.conversation.ControlEnd.{ControlEnd}
 use Rattle.rand_chacha.specs.ChaCha.{ChaCha}
-use Rattle.swim_serve.specs.declared.crew.Crew.{Crew}
+use Rattle.swim_handle.specs.declared.crew.Crew.{Crew}
 
 -- the worker had some turns, and the last of them ended it so, if one did
 pub record Worked {S E : Type 0} (worked : S → CallerView → S → CallerView → ℕ → Type 0)
@@ -18,6 +18,15 @@ pub record Worked {S E : Type 0} (worked : S → CallerView → S → CallerView
     : Type 0 where
   pub turns : ℕ
   pub done : DoneBy worked ended a p b q turns end
+
+-- a worker did so by a caller that knew so much at first, and these parts are left of that
+pub record LeftBy {S E P : Type 0} (does : S → CallerView → S → CallerView → Option E → Type 0)
+    (parted : CallerView → P → Type 0) (a : S) (p : CallerView) (b : S) (parts : P)
+    (end : Option E)
+    : Type 0 where
+  pub known : CallerView
+  pub did : does a p b known end
+  pub left : parted known parts
 
 -- a receiver entered what came, as long as the caller was answered
 abbrev pub Received : Type 0 → ℕ → ReceiverView → CallerView → ReceiverView → CallerView

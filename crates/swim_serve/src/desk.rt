@@ -12,12 +12,12 @@ ghost use Rattle.swim_serve.specs.Desks.{HasAnswer, OfConnection, OfMember, Open
 
 use crate::aside::{Aside, OPEN_MAX};
 use crate::chores::Chores;
-use crate::identity::Identity;
 use arrayvec::ArrayVec;
 use log::Log;
 use std::alloc::{AllocError, Global};
 use std::marker::Model;
 use std::time::Clock;
+use swim_handle::Identity;
 use swim_shell::{
     Answer, ControlEnd, Conversation, Doors, Joiner, LIST_MAX, Observer, Paces, Refusal, Worker,
 };

@@ -1,6 +1,6 @@
 //! The end of an era, as each worker is told of it.
 
-use crate::gates::Pace;
+use swim_handle::Pace;
 use swim_shell::Alarm;
 
 /// Ends all workers of an era, wherever they wait.

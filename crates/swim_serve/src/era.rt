@@ -1,43 +1,36 @@
 //! One era of a running member: its workers over one shared node, from its beginning to its end.
 
 ghost use Rattle.std.specs.Prelude.{◌≡◌, ◌∷◌, [], IfErr, IfOk, IfSome};
+ghost use Rattle.swim_handle.specs.Views.{new_caller};
 ghost use Rattle.swim_node.specs.History.{IsLegal};
 ghost use Rattle.swim_shared.specs.Moments.{CoversEra};
-ghost use Rattle.swim_shared.specs.Passes.{IsPass, new_pass, new_passes};
+ghost use Rattle.swim_shared.specs.Passes.{new_pass, new_passes};
 ghost use Rattle.swim_shell.specs.Calls.{NewCalls};
 ghost use Rattle.swim_serve.specs.Desks.{Tended};
-ghost use Rattle.swim_serve.specs.Eras.{ByPass, NamesParts, SendsBy, Serves, StaysIn, handed_by};
-ghost use Rattle.swim_serve.specs.Eras.{owed_first};
-ghost use Rattle.swim_serve.specs.Works.{Received, Sent, Ticked};
-ghost use Rattle.swim_serve.specs.Views.{HasCalledBy, new_caller};
+ghost use Rattle.swim_serve.specs.Eras.{ByPass, NamesParts, SendsBy, Serves, StaysIn, owed_first};
+ghost use Rattle.swim_serve.specs.Works.{Received, Ticked};
 
-use crate::attending::{Attended, Workers, attend};
+use crate::attending::{Attended, attend};
 use crate::beat::Beat;
-use crate::board::Board;
 use crate::chores::Chores;
-use crate::crew::{Back, Crew, Work};
 use crate::desk::Desk;
 use crate::ending::Ending;
-use crate::gates::{Pace, Ringing};
-use crate::handle::{Handle, Observing};
+use crate::era_counts::EraCounts;
+use crate::gates::Ringing;
 use crate::job::{Job, Left, Manned};
-use crate::logs::{CallLogs, EraCounts, Logs};
-use crate::minding::Minding;
-use crate::number_log::NumberLog;
 use crate::outgoing::RingLink;
-use crate::outside::Outside;
+use crate::outside::{CallLogs, Outside};
 use log::Log;
 use std::alloc::Global;
 use std::sync::Wait;
 use std::thread::Threads;
 use std::time::Clock;
 use swim_disk::Disk;
+use swim_handle::{Board, CallerParts, Crew, Handle, Observing, Pace};
 use swim_member::Event;
 use swim_node::{Link, Node};
 use swim_shared::{Name, Outbox, Parts, Pass, Sender as Ring, Shared, Watch};
-use swim_shell::{
-    Alarmed, Caller, ControlEnd, Doors, Inbound, Receiver, Refusal, Sender, Ticker, WorkerEnd,
-};
+use swim_shell::{Alarmed, Caller, ControlEnd, Doors, Inbound, Refusal, Sender, WorkerEnd};
 
 /// The workers of an era, each with a pass of its own.
 pub const CALLERS: u8 = 4;
@@ -53,7 +46,7 @@ type Shown<'x, N, D, R> = Observing<'x, N, D, Outbox, R, R>;
 
 /// What the workers of a shared member call by.
 type Callers<'x, N, D, R> = Crew<
-    Minding<'x, Share<'x, N, D, R>, R>,
+    Share<'x, N, D, R>,
     Share<'x, N, D, R>,
     Share<'x, N, D, R>,
     Shown<'x, N, D, R>,
@@ -66,7 +59,12 @@ type Passes<N> = Crew<Pass<N>, Pass<N>, Pass<N>, Pass<N>>;
 pub type EraEnds = Crew<Option<WorkerEnd>, Option<Refusal>, Option<Refusal>, Option<ControlEnd>>;
 
 /// What comes back of the workers of a shared member, and of control.
-type SharedEnds<'x, N, D, R, I, M, E> = Attended<'x, Share<'x, N, D, R>, R, I, RingLink<N, M>, E>;
+type Came<N, I, M, R, O> = Attended<
+    CallerParts<N>,
+    I,
+    RingLink<N, M>,
+    Left<Desk<R, O>, CallerParts<N>, ControlEnd>,
+>;
 
 /// The new passes, out of their list; none where it has too few.
 fn passes_of<N: Name>(list: &mut Vec<Pass<N>>) -> Option<Passes<N>>
@@ -125,33 +123,53 @@ struct Held<N: Name> {
 fn callers_of<'x, N: Name, D: Disk, R: Wait + Log + Clock + Drop>(
     rt: &'x R,
     shared: &'x Shared<N, D, Outbox, R>,
-    held: &mut Held<N>,
-    logs: &Logs,
-    board: &'x Board,
     pace: &'x Pace,
+    held: &mut Held<N>,
+    logs: CallLogs,
+    board: &'x Board,
 ) -> Option<Callers<'x, N, D, R>>
     requires { held.old.passes.items ≡ new_passes CALLERS }
-    ensures receiver { IfSome result (λ c. c.receiver.caller.known ≡ new_caller 0) }
-    ensures ticker { IfSome result (λ c. c.ticker.known ≡ new_caller 1) }
-    ensures sender { IfSome result (λ c. c.sender.known ≡ new_caller 2) }
-    ensures control { IfSome result (λ c. c.control.handle.known ≡ new_caller 3) }
+    ensures receiver { IfSome result (λ c. c.receiver ≡ record {
+      known = new_caller 0;
+      log = logs.receiver;
+    }) }
+    ensures ticker { IfSome result (λ c. c.ticker ≡ record {
+      known = new_caller 1;
+      log = logs.ticker;
+    }) }
+    ensures sender { IfSome result (λ c. c.sender ≡ record {
+      known = new_caller 2;
+      log = logs.sender;
+    }) }
+    ensures control { IfSome result (λ c. c.control.handle ≡ record {
+      known = new_caller 3;
+      log = logs.control;
+    }) }
     ensures all { IfSome result (λ _. (held.new.passes.items ≡ [])
         × (held.new.ring ≡ held.old.ring)) }
-    ensures logs { IfSome result (λ c. (c.receiver.numbers ≡ logs.now.numbers)
-        × (c.receiver.caller.log ≡ logs.now.calls.receiver)
-        × (c.ticker.log ≡ logs.now.calls.ticker) × (c.sender.log ≡ logs.now.calls.sender)
-        × (c.control.handle.log ≡ logs.now.calls.control)) }
 {
     let passes = passes_of(&mut held.passes)?;
     let watch = held.watches.pop()?;
-    let rows = &board.rows;
-    let calls = logs.calls;
-    let receiver = Handle::new(rt, shared, passes.receiver, &rows.receiver, calls.receiver);
-    let control = Handle::new(rt, shared, passes.control, &rows.control, calls.control);
+    let rows = board.rows();
+    let control = Handle::new(
+        rt,
+        shared,
+        pace,
+        passes.control,
+        &rows.control,
+        logs.control,
+    );
     Some(Crew {
-        receiver: Minding::new(rt, pace, receiver, logs.numbers),
-        ticker: Handle::new(rt, shared, passes.ticker, &rows.ticker, calls.ticker),
-        sender: Handle::new(rt, shared, passes.sender, &rows.sender, calls.sender),
+        receiver: Handle::new(
+            rt,
+            shared,
+            pace,
+            passes.receiver,
+            &rows.receiver,
+            logs.receiver,
+        ),
+        ticker: Handle::new(rt, shared, pace, passes.ticker, &rows.ticker, logs.ticker),
+        sender: Handle::new(rt, shared, pace, passes.sender, &rows.sender, logs.sender),
         control: Observing::new(control, watch, board),
     })
 }
@@ -186,156 +204,78 @@ struct Returned<
     had_threads: bool,
 }
 
-/// The passes by which these have called, and what they have logged and counted.
-fn taken_back<'x, N: Name, D: Disk, R: Wait + Log + Clock + Drop>(
-    callers: Callers<'x, N, D, R>,
-) -> (Passes<N>, CallLogs, NumberLog)
-    ensures receiver { HasCalledBy result.0.receiver callers.entry.receiver.caller.known
-        × IsPass N.base result.0.receiver }
-    ensures ticker { HasCalledBy result.0.ticker callers.entry.ticker.known
-        × IsPass N.base result.0.ticker }
-    ensures sender { HasCalledBy result.0.sender callers.entry.sender.known
-        × IsPass N.base result.0.sender }
-    ensures control { HasCalledBy result.0.control callers.entry.control.handle.known
-        × IsPass N.base result.0.control }
-    ensures logs { result.1 ≡ record {
-      receiver = callers.entry.receiver.caller.log;
-      ticker = callers.entry.ticker.log;
-      sender = callers.entry.sender.log;
-      control = callers.entry.control.handle.log;
-    } }
-    ensures numbers { result.2 ≡ callers.entry.receiver.numbers }
-{
-    let (receiver, numbers) = callers.receiver.into_parts();
-    let receiver = receiver.into_parts();
-    let ticker = callers.ticker.into_parts();
-    let sender = callers.sender.into_parts();
-    let control = callers.control.into_handle().into_parts();
-    let passes = Crew {
-        receiver: receiver.0,
-        ticker: ticker.0,
-        sender: sender.0,
-        control: control.0,
-    };
-    let logs = Crew {
-        receiver: receiver.1,
-        ticker: ticker.1,
-        sender: sender.1,
-        control: control.1,
-    };
-    (passes, logs, numbers)
-}
-
-/// What comes back of a shared member's control.
-type DeskLeft<'x, N, D, R, O> = Left<Shown<'x, N, D, R>, Desk<R, O>>;
-
 /// Takes apart what came back of each worker.
 fn take_apart<
-    'x,
     N: Name,
-    D: Disk,
-    R: Wait + Log + Clock + Drop,
+    R: Log + Clock + Drop,
     I: Inbound + Drop,
     M: Link + Drop,
     O: Doors + Chores + Drop,
 >(
-    back: SharedEnds<'x, N, D, R, I, M, DeskLeft<'x, N, D, R, O>>,
+    back: Came<N, I, M, R, O>,
     room: Vec<Pass<N>>,
     eras: EraCounts,
     beat: Beat,
     expelled_ends: Option<u64>,
 ) -> Returned<N, I, M, R, O>
-    ensures receiver { (result.outside.receiver ≡ back.entry.crew.receiver.worker)
-        × HasCalledBy result.passes.receiver back.entry.crew.receiver.caller.caller.known
-        × (result.ends.receiver ≡ back.entry.crew.receiver.end)
-        × IsPass N.base result.passes.receiver }
-    ensures ticker { (result.outside.ticker ≡ back.entry.crew.ticker.worker)
-        × HasCalledBy result.passes.ticker back.entry.crew.ticker.caller.known
-        × (result.ends.ticker ≡ back.entry.crew.ticker.end)
-        × IsPass N.base result.passes.ticker }
-    ensures sender { (result.ring ≡ back.entry.crew.sender.worker.outgoing.ring)
-        × (result.outside.link ≡ back.entry.crew.sender.worker.outgoing.link)
-        × HasCalledBy result.passes.sender back.entry.crew.sender.caller.known
-        × (result.ends.sender ≡ back.entry.crew.sender.end)
-        × IsPass N.base result.passes.sender × (N.link ≡ result.ring.ring) }
-    ensures control { (result.outside.desk ≡ back.entry.crew.control.worker)
-        × HasCalledBy result.passes.control back.entry.crew.control.caller.handle.known
-        × (result.ends.control ≡ back.entry.crew.control.end)
-        × IsPass N.base result.passes.control }
-    ensures rest { (result.room ≡ room) × (result.had_threads ≡ back.entry.had_threads)
+    ensures receiver { (result.outside.receiver ≡ back.crew.receiver.worker)
+        × (result.passes.receiver ≡ back.crew.receiver.parts.pass)
+        × (result.ends.receiver ≡ back.crew.receiver.end) }
+    ensures ticker { (result.outside.ticker ≡ back.crew.ticker.worker)
+        × (result.passes.ticker ≡ back.crew.ticker.parts.pass)
+        × (result.ends.ticker ≡ back.crew.ticker.end) }
+    ensures sender { (result.outside.link ≡ back.crew.sender.worker.outgoing.link)
+        × (result.passes.sender ≡ back.crew.sender.parts.pass)
+        × (result.ends.sender ≡ back.crew.sender.end) }
+    ensures control { (result.outside.desk ≡ back.crew.control.worker)
+        × (result.passes.control ≡ back.crew.control.parts.pass)
+        × (result.ends.control ≡ back.crew.control.end) }
+    ensures ring { (result.ring ≡ back.crew.sender.worker.outgoing.ring)
+        × (N.link ≡ result.ring.ring) }
+    ensures rest { (result.room ≡ room) × (result.had_threads ≡ back.had_threads)
         × (result.outside.eras ≡ eras) }
 {
-    let Back { crew, had_threads } = back;
     let Crew {
         receiver,
         ticker,
         sender,
         control,
-    } = crew;
-    let ends = Crew {
-        receiver: receiver.end,
-        ticker: ticker.end,
-        sender: sender.end,
-        control: control.end,
-    };
-    let (passes, calls, numbers) = taken_back(Crew {
-        receiver: receiver.caller,
-        ticker: ticker.caller,
-        sender: sender.caller,
-        control: control.caller,
-    });
+    } = back.crew;
     let (ring, link) = sender.worker.outgoing.into_parts();
     let outside = Outside {
         receiver: receiver.worker,
         ticker: ticker.worker,
         desk: control.worker,
         link,
-        logs: Logs {
-            numbers,
-            calls,
-            eras,
+        logs: Crew {
+            receiver: receiver.parts.log,
+            ticker: ticker.parts.log,
+            sender: sender.parts.log,
+            control: control.parts.log,
         },
+        eras,
         owed: 0,
         beat,
         expelled_ends,
     };
     Returned {
-        passes,
+        passes: Crew {
+            receiver: receiver.parts.pass,
+            ticker: ticker.parts.pass,
+            sender: sender.parts.pass,
+            control: control.parts.pass,
+        },
         room,
         ring,
         outside,
-        ends,
-        had_threads,
+        ends: Crew {
+            receiver: receiver.end,
+            ticker: ticker.end,
+            sender: sender.end,
+            control: control.end,
+        },
+        had_threads: back.had_threads,
     }
-}
-
-/// Runs the workers of a shared member, and control beside them.
-fn attend_shared<
-    'x,
-    N: Name + Send + Sync,
-    D: Disk + Send,
-    R: Threads + Wait + Log + Clock + Send + Sync + Drop,
-    I: Alarmed<Alarm: Sync> + Send + Drop,
-    M: Link + Send + Drop,
-    J: Work<Done: Drop> + Drop,
->(
-    rt: &'x R,
-    ending: &'x Ending<'x, I::Alarm>,
-    beat: &mut Beat,
-    workers: Workers<'x, Share<'x, N, D, R>, R, I, RingLink<N, M>, J>,
-) -> SharedEnds<'x, N, D, R, I, M, J::Done>
-    ensures receiver { Received I.tells N.base.limit workers.entry.receiver.worker
-        workers.entry.receiver.caller.caller.known result.crew.receiver.worker
-        result.crew.receiver.caller.caller.known result.crew.receiver.end }
-    ensures ticker { Ticked N.base.limit workers.entry.ticker.worker
-        workers.entry.ticker.caller.known result.crew.ticker.worker
-        result.crew.ticker.caller.known result.crew.ticker.end }
-    ensures sender { Sent M.tells N.base.limit (handed_by workers.entry.sender.worker.outgoing)
-        workers.entry.sender.caller.known (handed_by result.crew.sender.worker.outgoing)
-        result.crew.sender.caller.known result.crew.sender.end }
-    ensures control { J.does workers.entry.control result.crew.control }
-{
-    attend(rt, ending, beat, workers)
 }
 
 /// Runs the workers of a shared member until one of them ends. An error is that there are too few passes, or that the call for
@@ -377,12 +317,13 @@ fn work<
         desk,
         link,
         logs,
+        eras,
         owed,
         mut beat,
         expelled_ends,
     } = outside;
     let pace = ending.pace();
-    let Some(mut callers) = callers_of(rt, shared, &mut held, &logs, board, pace) else {
+    let Some(mut callers) = callers_of(rt, shared, pace, &mut held, logs, board) else {
         return Err(Refusal::Memory);
     };
     tell(&mut callers.sender, owed)?;
@@ -409,8 +350,8 @@ fn work<
             ending,
         },
     };
-    let back = attend_shared(rt, ending, &mut beat, workers);
-    Ok(take_apart(back, held.passes, logs.eras, beat, expelled_ends))
+    let back = attend(rt, ending, &mut beat, workers);
+    Ok(take_apart(back, held.passes, eras, beat, expelled_ends))
 }
 
 /// What is left of an era.
@@ -534,10 +475,12 @@ pub fn run_era<
     };
     let pace = Pace::new();
     let ending = Ending::new(&pace, alarms);
+    let desk = &outside.desk;
     let board = Board::new(
+        outside.eras.counts(),
         &outside.logs,
-        outside.desk.identity(),
-        outside.desk.listed(),
+        desk.identity(),
+        desk.listed(),
     );
     let back = match work(rt, &shared, held, outside, &board, &ending) {
         Ok(back) => back,

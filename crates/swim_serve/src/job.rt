@@ -1,13 +1,14 @@
 //! A worker with all that it works with.
 
-use crate::crew::Work;
 use crate::ending::Ending;
+use crate::threads::Work;
 use std::sync::Wait;
-use swim_shell::{Alarm, Caller, Gate, Worker, run};
+use swim_handle::IntoParts;
+use swim_shell::{Alarm, Gate, Worker, run};
 
 /// A worker with its caller and its gate. Its end is the end of all.
 #[derive(Drop)]
-pub struct Job<'a, W: Wait, C: Caller + Drop, K: Worker<C> + Drop, G: Gate + Drop, M: Alarm> {
+pub struct Job<'a, W: Wait, C: IntoParts + Drop, K: Worker<C> + Drop, G: Gate + Drop, M: Alarm> {
     /// By which it waits.
     pub rt: &'a W,
     /// The worker.
@@ -22,35 +23,41 @@ pub struct Job<'a, W: Wait, C: Caller + Drop, K: Worker<C> + Drop, G: Gate + Dro
 
 /// A worker, and by whom it calls.
 #[derive(Drop)]
-pub struct Manned<C: Caller + Drop, K: Worker<C> + Drop> {
+pub struct Manned<C: IntoParts + Drop, K: Worker<C> + Drop> {
     /// The worker.
     pub worker: K,
     /// By whom it calls.
     pub caller: C,
 }
 
-/// What is left of a job.
+/// What is left of a job: a worker, for the next era, and parts of its caller.
 #[derive(Drop)]
-pub struct Left<C: Caller + Drop, K: Worker<C> + Drop> {
-    /// The worker, for the next era.
+pub struct Left<K: Drop, P: Drop, E: Drop> {
+    /// The worker.
     pub worker: K,
-    /// Its caller, which has seen all calls of the worker.
-    pub caller: C,
+    /// What is left of its caller, which has seen all calls of the worker.
+    pub parts: P,
     /// How the worker ended itself; none if its gate stopped it.
-    pub end: Option<K::End>,
+    pub end: Option<E>,
 }
 
-impl<'a, W: Wait, C: Caller + Drop, K: Worker<C> + Drop, G: Gate + Drop, M: Alarm> Work
-    for Job<'a, W, C, K, G, M> {
-    ghost use Rattle.swim_serve.specs.Works.{Worked};
+impl<
+    'a,
+    W: Wait,
+    C: IntoParts<Parts: Drop> + Drop,
+    K: Worker<C, End: Drop> + Drop,
+    G: Gate + Drop,
+    M: Alarm,
+> Work for Job<'a, W, C, K, G, M> {
+    ghost use Rattle.swim_serve.specs.Works.{LeftBy, Worked};
 
-    type Done = Left<C, K>;
+    type Done = Left<K, C::Parts, K::End>;
 
-    ghost does = { λ job left. Worked K.worked K.ended job.worker (C.known job.caller) left.worker
-        (C.known left.caller) left.end };
+    ghost does = { λ job left. LeftBy (Worked K.worked K.ended) C.parted job.worker
+        (C.known job.caller) left.worker left.parts left.end };
 
-    #[tactic(auto, using(crate::proofs::Working::runs_worked))]
-    fn work(self) -> Left<C, K> {
+    #[tactic(auto, using(crate::proofs::Working::runs_left))]
+    fn work(self) -> Left<K, C::Parts, K::End> {
         let Job {
             rt,
             mut worker,
@@ -62,7 +69,7 @@ impl<'a, W: Wait, C: Caller + Drop, K: Worker<C> + Drop, G: Gate + Drop, M: Alar
         ending.end();
         Left {
             worker,
-            caller,
+            parts: caller.into_parts(),
             end,
         }
     }

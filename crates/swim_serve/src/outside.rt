@@ -9,25 +9,29 @@ ghost use Rattle.swim_serve.specs.Views.{link_of};
 use crate::beat::Beat;
 use crate::chores::Chores;
 use crate::desk::Desk;
+use crate::era_counts::EraCounts;
 use crate::era_saves::EraSaves;
 use crate::host::Joins;
-use crate::identity::Identity;
-use crate::logs::Logs;
 use log::Log;
 use rand_chacha::ChaCha20Rng;
 use rand_core::SeedableRng;
 use std::alloc::{AllocError, Global};
 use std::marker::Model;
 use std::time::{Clock, Duration};
+use swim_handle::{CallLog, Crew, Identity};
 use swim_member::Settings;
 use swim_node::Link;
 use swim_shell::{Doors, Inbound, Joiner, Receiver, Ticker};
+use swim_wire::{Endpoint, Rules};
 
 /// The stream of the generator that draws the members to join.
 const DRAWS: u64 = 1;
 
 /// After how many periods of a life its first era ends at the latest. The peers that the member has met by then are kept.
 const FIRST_ERA_PERIODS: u64 = 2;
+
+/// What each worker has logged and counted.
+pub(crate) type CallLogs = Crew<CallLog, CallLog, CallLog, CallLog>;
 
 /// What a member works with from one era to the next.
 #[derive(Drop)]
@@ -46,7 +50,9 @@ pub struct Outside<
     /// Where datagrams go.
     pub(crate) link: M,
     /// What each worker has logged and counted.
-    pub(crate) logs: Logs,
+    pub(crate) logs: CallLogs,
+    /// What became of the eras.
+    pub(crate) eras: EraCounts,
     /// The losses that no call has told.
     pub(crate) owed: u32,
     /// When ticks are due.
@@ -68,9 +74,19 @@ impl<I: Inbound + Drop, M: Link + Drop, R: Log + Clock + Drop, O: Doors + Chores
       desk = o.desk;
       link = link_of (M.took o.link) (M.failures o.link);
       owed = o.owed;
-      eras = o.logs.eras;
+      eras = o.eras;
       expelled_ends = o.expelled_ends;
     } };
+}
+
+/// Nothing was logged or counted yet of this member, which lives by these rules, and whose life begins with this number.
+fn new_logs(me: Endpoint, rules: Rules, number: u64) -> CallLogs {
+    Crew {
+        receiver: CallLog::new(me, rules, number),
+        ticker: CallLog::new(me, rules, number),
+        sender: CallLog::new(me, rules, number),
+        control: CallLog::new(me, rules, number),
+    }
 }
 
 /// By what a life of a member goes that begins.
@@ -108,7 +124,7 @@ impl<I: Inbound + Drop, M: Link + Drop, R: Log + Clock + Drop, O: Doors + Chores
     pub(crate) fn end_era(&mut self, saves: EraSaves, was_full: bool)
         ensures { self.new ≡ record self.old { eras = with_era saves self.old.eras } }
     {
-        self.logs.end_era(saves);
+        self.eras.add(saves);
         self.beat.repeat_if(was_full);
     }
 
@@ -157,7 +173,8 @@ impl<I: Inbound + Drop, M: Link + Drop, R: Log + Clock + Drop, O: Doors + Chores
             ticker: Ticker::new(ChaCha20Rng::from_seed(key)),
             desk,
             link,
-            logs: Logs::new(me, rules, number),
+            logs: new_logs(me, rules, number),
+            eras: EraCounts::new(),
             owed: 0,
             beat: Beat::new(tick, first_end),
             expelled_ends,

@@ -5,6 +5,7 @@ ghost use Rattle.std.specs.Prelude.{◌≡◌};
 use std::sync::Wait;
 use std::thread::{self, Parker};
 use std::time::{Clock, Duration, Instant};
+use swim_handle::IntoParts;
 use swim_member::Event;
 use swim_node::Reply;
 use swim_shell::{Alarm, Caller, Refusal, Worker};
@@ -39,6 +40,16 @@ impl Caller for Nobody {
         self.asked = self.asked.and(&event);
         Err(Refusal::Memory)
     }
+}
+
+impl IntoParts for Nobody {
+    ghost use Rattle.std.specs.Prelude.{⊤};
+
+    type Parts = ();
+
+    ghost parted = { λ _ _. ⊤ };
+
+    fn into_parts(self) {}
 }
 
 /// An alarm that one thread waits for.

@@ -10,10 +10,10 @@ use std::fmt::Display;
 use std::io;
 use std::test::Fail;
 use std::time::{Clock, Duration};
+use swim_handle::{LOGGED_MAX, NoteLog};
 use swim_member::{Note, Phase};
 use swim_node::{Reply, Status};
 use swim_scenes::endpoint;
-use swim_serve::{LOGGED_MAX, NoteLog};
 use swim_wire::{Rules, WireFault};
 
 /// A clock that stands, beside a log in memory.

@@ -6,9 +6,9 @@ use arrayvec::ArrayVec;
 use log::sink::Memory;
 use std::process::Abort;
 use std::test::Fail;
+use swim_handle::NumberLog;
 use swim_member::{Note, Phase};
 use swim_scenes::{endpoint, text, update};
-use swim_serve::NumberLog;
 use swim_wire::{Cursor, Kind, Update, UpdateKind};
 
 /// What the receiver of a new member, 10.0.0.1:7000 with number 1, logs of its number.
@@ -39,7 +39,7 @@ fn called(said: u64, note: Option<Note>, number: u64, logged: Option<&'static st
 }
 
 const KEEPS_1: &str =
-    "ERROR swim_serve::number_log] the group knows this member by number 4, above its own 1, and it keeps its own: the state file is older than a life of this member, or a second member has its address, or the datagram is forged";
+    "ERROR swim_handle::number_log] the group knows this member by number 4, above its own 1, and it keeps its own: the state file is older than a life of this member, or a second member has its address, or the datagram is forged";
 
 const RAISED_TO_6: &str =
     "by number 5, above its own 1, and it goes on with a greater one: the state file is older than a life of this member, or a second member has its address, or the datagram is forged";
@@ -48,7 +48,7 @@ const EXPELLED: &str =
     "by number 9, above its own 6, and it takes no part any more: the state file is older than a life of this member, or a second member has its address, or the datagram is forged";
 
 const FAILING_6: &str =
-    "ERROR swim_serve::number_log] the state file cannot be written: this member goes on with number 6, and can refute no suspicion until it can be; look at the disk";
+    "ERROR swim_handle::number_log] the state file cannot be written: this member goes on with number 6, and can refute no suspicion until it can be; look at the disk";
 
 const FAILING_7: &str =
     "this member goes on with number 7, and can refute no suspicion until it can be; look at the disk";

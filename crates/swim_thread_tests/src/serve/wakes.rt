@@ -6,7 +6,8 @@ use std::sync::Wait;
 use std::test::Fail;
 use std::thread::Threads;
 use std::time::{Clock, Duration, Instant};
-use swim_serve::{Beat, Crew, Ending, Job, Pace, Pacing, Resting, Ringing, serve};
+use swim_handle::{Crew, Pace};
+use swim_serve::{Beat, Ending, Job, Pacing, Resting, Ringing, serve};
 
 /// How often each test tries.
 const ROUNDS: u32 = 20;

@@ -2,7 +2,8 @@ use Rattle.std.proofs.Common.{◌≡◌, ◌∙◌, [], ◌∷◌, ap, subst, sy
 use Rattle.swim_shared.specs.Odd.{odd_of}
 use Rattle.swim_serve.specs.Desks.{Tended}
 use Rattle.swim_serve.specs.Eras.{ByPass, SendsBy}
-use Rattle.swim_serve.specs.Views.{link_of, new_caller}
+use Rattle.swim_handle.specs.Views.{new_caller}
+use Rattle.swim_serve.specs.Views.{link_of}
 use Rattle.swim_serve.specs.Works.{Received, Ticked}
 use Rattle.swim_serve.proofs.Eras.{served, sends}
 use Rattle.swim_serve.proofs.Fitting.{all_fit}

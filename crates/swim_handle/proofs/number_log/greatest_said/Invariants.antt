@@ -1,6 +1,6 @@
 use Rattle.std.proofs.Common.{◌≡◌, max, drop}
-use Rattle.swim_serve.specs.Numbers.{greatest_said}
-use Rattle.swim_serve.proofs.number_log.greatest_said.Given as goal
+use Rattle.swim_handle.specs.Numbers.{greatest_said}
+use Rattle.swim_handle.proofs.number_log.greatest_said.Given as goal
 
 -- the greatest so far, and of what is left
 abbrev pub invariant-loop-update : goal.invariant-loop-update

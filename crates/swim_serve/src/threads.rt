@@ -6,6 +6,7 @@ use crate::ending::Ending;
 use std::snapshot::Snapshot;
 use std::sync::Wait;
 use std::thread::{self, Promise, PromisedHandle, Scope, Threads};
+use swim_handle::Crew;
 use swim_shell::Alarm;
 
 /// What is done from a beginning to an end.
@@ -29,19 +30,6 @@ struct Does<K: Work> {
 
 impl<K: Work> Promise<K::Done> for Does<K> {
     ghost kept_by = { λ promise done. K.does promise.work.value done };
-}
-
-/// One of each of the four workers of an era, in the order of their passes.
-#[derive(Clone, Copy, Debug, Drop, PartialEq, Eq)]
-pub struct Crew<R, T, S, C> {
-    /// Of the worker that hands datagrams in.
-    pub receiver: R,
-    /// Of the worker that counts the ticks.
-    pub ticker: T,
-    /// Of the worker that sends what the outbox took.
-    pub sender: S,
-    /// Of the worker that answers control lines, and joins members.
-    pub control: C,
 }
 
 /// What came back of the workers of an era.

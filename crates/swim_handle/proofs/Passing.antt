@@ -8,7 +8,7 @@ use Rattle.swim_node.specs.History.{Base, calls_by}
 use Rattle.swim_shared.specs.Passes.{PassView, Called, FullFor, Unseen}
 use Rattle.swim_shell.specs.declared.caller.Refusal.TheVariants as refusal
 use Rattle.swim_shell.specs.Calls.{Gains, NewCall, Refuses}
-use Rattle.swim_serve.specs.Views.{view_of}
+use Rattle.swim_handle.specs.Views.{view_of}
 
 assoc : {A : Type 0} (xs ys zs : List A) → (xs ++ ys) ++ zs ≡ xs ++ (ys ++ zs)
 assoc [] ys zs = refl

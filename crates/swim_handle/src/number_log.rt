@@ -3,8 +3,8 @@
 ghost use Rattle.std.specs.Prelude.{◌≡◌, ◌≢◌, ◌+◌, ◌↔◌, IsTrue, false};
 ghost use Rattle.swim_member.specs.declared.note.Note.TheVariants as noted;
 ghost use Rattle.swim_wire.specs.Decoding.{decoded};
-ghost use Rattle.swim_serve.specs.Notes.{has_note};
-ghost use Rattle.swim_serve.specs.Numbers.{number_of, greatest_said, number_said, is_refusal, is_refused, IsOtherLife};
+ghost use Rattle.swim_handle.specs.Notes.{has_note};
+ghost use Rattle.swim_handle.specs.Numbers.{number_of, greatest_said, number_said, is_refusal, is_refused, IsOtherLife};
 
 use crate::note_log::has_note;
 use log::{Log, error};

@@ -1,20 +1,18 @@
 //! What the workers write to the log: the notes of their calls, and how many they left out.
 
 ghost use Rattle.std.specs.Prelude.{◌≡◌, ◌<◌, ◌+◌, ◌↔◌, min, IsTrue, false};
-ghost use Rattle.swim_serve.specs.Notes.{has_note};
+ghost use Rattle.swim_handle.specs.Notes.{has_note};
 
 use crate::note_words::{NoteLine, note_level};
 use log::{Log, log};
 use std::time::Clock;
 use swim_member::Note;
 use swim_node::Reply;
+use swim_shell::NOTE_KINDS;
 use swim_wire::{Endpoint, Rules};
 
 /// The most notes of one kind that a worker logs in one second.
 pub const LOGGED_MAX: u8 = 5;
-
-/// How many kinds of notes there are.
-const KINDS: usize = 18;
 
 /// What became of the notes of one kind in the second that goes on.
 #[derive(Clone, Copy, Debug, PartialEq, Eq)]
@@ -61,7 +59,7 @@ pub struct NoteLog {
     second: u64,
     has_left_out: bool,
     has_stopped: bool,
-    kinds: [Kind; KINDS],
+    kinds: [Kind; NOTE_KINDS],
 }
 
 /// Whether one of the notes has the number of this one.
@@ -85,7 +83,7 @@ impl NoteLog {
             second: 0,
             has_left_out: false,
             has_stopped: false,
-            kinds: [NOTHING; KINDS],
+            kinds: [NOTHING; NOTE_KINDS],
         }
     }
 
@@ -98,7 +96,7 @@ impl NoteLog {
                 log!(rt; note_level(note), "{count} more of this kind in the same second (note {note})");
             }
         }
-        self.kinds = [NOTHING; KINDS];
+        self.kinds = [NOTHING; NOTE_KINDS];
         self.has_left_out = false;
         self.second = second;
     }

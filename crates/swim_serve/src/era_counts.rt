@@ -1,14 +1,10 @@
-//! What the workers of a member have logged and counted.
+//! What is counted of the eras of a member.
 
 ghost use Rattle.std.specs.Prelude.{◌≡◌, ◌∷◌, []};
 ghost use Rattle.swim_serve.specs.EraCounts.{with_era, with_peers};
 
-use crate::call_log::CallLog;
-use crate::crew::Crew;
 use crate::era_saves::{EraSaves, PeersSave};
-use crate::number_log::NumberLog;
 use swim_shell::ERA_COUNTS;
-use swim_wire::{Endpoint, Rules};
 
 /// What became of the eras of a member. A count stays at the greatest number.
 #[derive(Clone, Copy, Debug, PartialEq, Eq)]
@@ -25,7 +21,7 @@ pub(crate) struct EraCounts {
 
 impl EraCounts {
     /// None ended yet.
-    fn new() -> EraCounts {
+    pub(crate) fn new() -> EraCounts {
         EraCounts {
             ended: 0,
             numbers: 0,
@@ -47,7 +43,7 @@ impl EraCounts {
     }
 
     /// Adds an era that ended, with what was saved.
-    fn add(&mut self, saves: EraSaves)
+    pub(crate) fn add(&mut self, saves: EraSaves)
         ensures { self.new ≡ with_era saves self.old }
     {
         self.end_with(saves.peers);
@@ -60,41 +56,5 @@ impl EraCounts {
             ∷ [] }
     {
         [self.ended, self.numbers, self.saved, self.unsaved]
-    }
-}
-
-/// What each worker has logged and counted.
-pub(crate) type CallLogs = Crew<CallLog, CallLog, CallLog, CallLog>;
-
-/// What each worker has logged and counted, and what became of the eras, from one era to the next.
-#[derive(Clone, Copy, Debug, PartialEq, Eq)]
-pub struct Logs {
-    /// What datagrams said of the own number.
-    pub(crate) numbers: NumberLog,
-    pub(crate) calls: CallLogs,
-    pub(crate) eras: EraCounts,
-}
-
-impl Logs {
-    /// Nothing was logged or counted yet of this member, which lives by these rules, and whose life begins with this number.
-    pub fn new(me: Endpoint, rules: Rules, number: u64) -> Logs {
-        let none = CallLog::new(rules, number);
-        Logs {
-            numbers: NumberLog::new(me, number),
-            calls: Crew {
-                receiver: none,
-                ticker: none,
-                sender: none,
-                control: none,
-            },
-            eras: EraCounts::new(),
-        }
-    }
-
-    /// Counts an era that ended, with what was saved.
-    pub(crate) fn end_era(&mut self, saves: EraSaves)
-        ensures { self.new ≡ record self.old { eras = with_era saves self.old.eras } }
-    {
-        self.eras.add(saves);
     }
 }

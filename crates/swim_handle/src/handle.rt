@@ -2,30 +2,35 @@
 
 ghost use Rattle.std.specs.Prelude.{◌≡◌, [], false};
 ghost use Rattle.swim_node.specs.History.{IsLegal};
-ghost use Rattle.swim_shared.specs.Passes.{IsPass};
-ghost use Rattle.swim_serve.specs.Identities.{Tells};
-ghost use Rattle.swim_serve.specs.Numbers.{origin_of};
-ghost use Rattle.swim_serve.specs.Views.{HasCalledBy, view_of};
+ghost use Rattle.swim_member.specs.declared.note.Note.TheVariants as noted;
+ghost use Rattle.swim_handle.specs.Identities.{Tells};
+ghost use Rattle.swim_handle.specs.Notes.{has_note};
+ghost use Rattle.swim_handle.specs.Views.{view_of};
 
 use crate::board::{Board, Row};
 use crate::call_log::CallLog;
+use crate::note_log::has_note;
+use crate::pace::Pace;
+use crate::parts::{CallerParts, IntoParts};
 use log::Log;
 use std::marker::Model;
 use std::sync::Wait;
 use std::time::Clock;
 use swim_disk::Disk;
-use swim_member::Event;
+use swim_member::{Event, Note};
 use swim_node::{Link, Reply, Status};
 use swim_shared::{CallFault, Name, Pass, Shared, Watch};
-use swim_shell::{Caller, Counters, EventKind, Observer, Refusal, Who};
+use swim_shell::{Caller, Counters, Observer, Refusal, Who};
 use swim_trace::Trace;
-use swim_wire::Endpoint;
 
-/// Calls a shared member by a pass of its own. It logs the notes of each reply, and counts and shows each answered call.
+/// Calls a shared member by a pass of its own. It logs the notes of each reply and what each datagram shows of the own number, counts
+/// and shows each answered call, and ends the era in which a call expels the member.
 #[derive(Drop)]
 pub struct Handle<'a, N: Name, D: Disk, L: Link, R: Wait + Drop, W: Wait + Log + Clock> {
     rt: &'a W,
     shared: &'a Shared<N, D, L, R>,
+    /// By which the era is ended.
+    pace: &'a Pace,
     pass: Pass<N>,
     /// Where it shows what it counts.
     row: &'a Row,
@@ -38,21 +43,18 @@ pub struct Handle<'a, N: Name, D: Disk, L: Link, R: Wait + Drop, W: Wait + Log +
 
 impl<'a, N: Name, D: Disk, L: Link, R: Wait + Drop, W: Wait + Log + Clock> Model
     for Handle<'a, N, D, L, R, W> {
-    ghost use Rattle.swim_serve.specs.Views.{HandleView, view_of};
+    ghost use Rattle.swim_handle.specs.Views.{HandleView, view_of};
 
     ghost Value = { HandleView };
 
     ghost view = { λ h. record { known = view_of h.pass h.is_spent h.asked; log = h.log } };
 }
 
-/// Whence the bytes came that the event is about.
-fn origin_of(event: &Event) -> Option<Endpoint>
-    ensures { result ≡ origin_of event.now }
+/// Whether the call that was answered so expelled the member.
+fn is_expulsion(reply: &Reply) -> bool
+    ensures { result ≡ has_note noted.Expelled reply.now.notes.items }
 {
-    match event {
-        Event::Datagram { from, .. } => Some(*from),
-        _ => None,
-    }
+    has_note(reply.notes.as_slice(), Note::Expelled)
 }
 
 impl<'a, N: Name, D: Disk, L: Link, R: Wait + Drop, W: Wait + Log + Clock> Handle<
@@ -63,10 +65,11 @@ impl<'a, N: Name, D: Disk, L: Link, R: Wait + Drop, W: Wait + Log + Clock> Handl
     R,
     W,
 > {
-    /// Calls by this pass, goes on with what was logged and counted, and shows that in this row.
+    /// Calls by this pass in the era of this pace, goes on with what was logged and counted, and shows that in this row.
     pub fn new(
         rt: &'a W,
         shared: &'a Shared<N, D, L, R>,
+        pace: &'a Pace,
         pass: Pass<N>,
         row: &'a Row,
         log: CallLog,
@@ -76,6 +79,7 @@ impl<'a, N: Name, D: Disk, L: Link, R: Wait + Drop, W: Wait + Log + Clock> Handl
         Handle {
             rt,
             shared,
+            pace,
             pass,
             row,
             log,
@@ -90,32 +94,43 @@ impl<'a, N: Name, D: Disk, L: Link, R: Wait + Drop, W: Wait + Log + Clock> Handl
     {
         let _ = self.pass.calls();
     }
+}
 
-    /// The pass, for the end of the shared member, and what was logged and counted.
-    pub fn into_parts(self) -> (Pass<N>, CallLog)
-        ensures pass { HasCalledBy result.0 self.entry.known }
-        ensures is_pass { IsPass N.base result.0 }
-        ensures log { result.1 ≡ self.entry.log }
+impl<'a, N: Name, D: Disk, L: Link, R: Wait + Drop, W: Wait + Log + Clock> IntoParts
+    for Handle<'a, N, D, L, R, W> {
+    ghost use Rattle.std.specs.Prelude.{◌≡◌};
+    ghost use Rattle.swim_handle.specs.Views.{HasParts};
+
+    type Parts = CallerParts<N>;
+
+    ghost parted = { λ known parts. HasParts N.base known parts.pass };
+
+    fn into_parts(self) -> CallerParts<N>
+        ensures parted { HasParts N.base self.entry.known result.pass }
+        // beside what every caller does
+        ensures log { result.log ≡ self.entry.log }
     {
         let _ = self.pass.calls();
         let Handle {
             rt: _,
             shared: _,
+            pace: _,
             pass,
             row: _,
             log,
             is_spent: _,
             asked: _,
         } = self;
-        (pass, log)
+        CallerParts { pass, log }
     }
 }
 
 impl<'a, N: Name, D: Disk, L: Link, R: Wait + Drop, W: Wait + Log + Clock> Caller
     for Handle<'a, N, D, L, R, W> {
-    ghost use Rattle.std.specs.Prelude.{◌≡◌, IfErr, IfOk, OnErr};
+    ghost use Rattle.std.specs.Prelude.{◌≡◌, IfErr, IfOk, IfSome, OnErr};
     ghost use Rattle.swim_shell.specs.Calls.{NewCall, Refuses};
     ghost use Rattle.swim_shell.specs.Counts.{counts_after, event_kind};
+    ghost use Rattle.swim_handle.specs.Numbers.{said_in};
 
     ghost known = { λ h. h.known };
 
@@ -130,17 +145,22 @@ impl<'a, N: Name, D: Disk, L: Link, R: Wait + Drop, W: Wait + Log + Clock> Calle
         ensures counted { IfOk result (λ reply. self.new.log.counts
             ≡ counts_after (event_kind event) reply self.old.log.counts) }
         ensures uncounted { OnErr result (self.new.log ≡ self.old.log) }
+        // and what its datagram says of the member is minded
+        ensures minded { IfOk result (λ reply. IfSome (said_in self.old.log.numbers.me event)
+            (λ _. self.new.log.numbers.number ≡ reply.status.number)) }
     {
         self.asked = self.asked.and(&event);
         if self.is_spent {
             return Err(Refusal::Unread);
         }
-        let from = origin_of(&event);
-        let kind = EventKind::of(&event);
+        let heard = self.log.hear(&event);
         match self.shared.call(self.rt, &mut self.pass, event) {
             Ok(reply) => {
-                self.log.take(self.rt, kind, &from, &reply);
+                self.log.take(self.rt, &heard, &reply);
                 self.row.show(self.log.counts(), !reply.notes.is_empty());
+                if is_expulsion(&reply) {
+                    self.pace.end();
+                }
                 Ok(reply)
             }
             Err(CallFault::NoMemory) => Err(Refusal::Memory),
@@ -179,17 +199,26 @@ impl<'a, N: Name, D: Disk, L: Link, R: Wait + Drop, W: Wait + Log + Clock> Obser
             board,
         }
     }
+}
 
-    /// The caller.
-    pub fn into_handle(self) -> Handle<'a, N, D, L, R, W>
-        ensures { result ≡ self.entry.handle }
+impl<'a, N: Name, D: Disk, L: Link, R: Wait + Drop, W: Wait + Log + Clock> IntoParts
+    for Observing<'a, N, D, L, R, W> {
+    ghost use Rattle.swim_handle.specs.Views.{HasParts};
+
+    type Parts = CallerParts<N>;
+
+    ghost parted = { λ known parts. HasParts N.base known parts.pass };
+
+    fn into_parts(self) -> CallerParts<N>
+        ensures parted { HasParts N.base self.entry.handle.known result.pass }
+        ensures log { result.log ≡ self.entry.handle.log }
     {
         let Observing {
             handle,
             watch: _,
             board: _,
         } = self;
-        handle
+        handle.into_parts()
     }
 }
 

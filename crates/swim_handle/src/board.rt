@@ -1,11 +1,11 @@
 //! What the workers of an era show of what they count, for the one that answers control lines.
 
 ghost use Rattle.std.specs.Prelude.{◌≡◌};
-ghost use Rattle.swim_serve.specs.Identities.{Tells};
+ghost use Rattle.swim_handle.specs.Identities.{Tells};
 
+use crate::call_log::CallLog;
 use crate::crew::Crew;
 use crate::identity::Identity;
-use crate::logs::Logs;
 use std::sync::atomic::{AtomicU64, Ordering};
 use std::time::Clock;
 use swim_shell::{
@@ -69,25 +69,35 @@ pub struct Board {
     identity: Identity,
     /// How many others it has to join.
     listed: usize,
-    pub(crate) rows: Crew<Row, Row, Row, Row>,
+    rows: Crew<Row, Row, Row, Row>,
 }
 
 impl Board {
-    /// Of an era of this member that begins, after those in which this was counted; the member has so many others to join.
-    pub fn new(logs: &Logs, identity: Identity, listed: usize) -> Board
+    /// Of an era of this member that begins, after so many others, and after those calls of its workers; it has so many others to join.
+    pub fn new(
+        eras: [u64; ERA_COUNTS],
+        logs: &Crew<CallLog, CallLog, CallLog, CallLog>,
+        identity: Identity,
+        listed: usize,
+    ) -> Board
         ensures { (result.identity ≡ identity) × (result.listed ≡ listed) }
     {
         Board {
-            eras: logs.eras.counts(),
+            eras,
             identity,
             listed,
             rows: Crew {
-                receiver: Row::new(logs.calls.receiver.counts()),
-                ticker: Row::new(logs.calls.ticker.counts()),
-                sender: Row::new(logs.calls.sender.counts()),
-                control: Row::new(logs.calls.control.counts()),
+                receiver: Row::new(logs.receiver.counts()),
+                ticker: Row::new(logs.ticker.counts()),
+                sender: Row::new(logs.sender.counts()),
+                control: Row::new(logs.control.counts()),
             },
         }
+    }
+
+    /// Where each worker shows what it counts.
+    pub fn rows(&self) -> &Crew<Row, Row, Row, Row> {
+        &self.rows
     }
 
     /// What the member tells of itself.

@@ -1,7 +1,7 @@
 //! Whether a member knows anybody, and by whom it came to know somebody.
 
 ghost use Rattle.std.specs.Prelude.{◌≡◌, true};
-ghost use Rattle.swim_serve.specs.Companies.{holds_nobody, joined_by};
+ghost use Rattle.swim_handle.specs.Companies.{holds_nobody, joined_by};
 
 use log::{Log, info};
 use swim_node::Status;

@@ -10,8 +10,8 @@ use Rattle.swim_wire.specs.Decoding.{decoded}
 use Rattle.swim_wire.specs.declared.datagram.Datagram.{Datagram}
 use Rattle.swim_wire.specs.declared.fault.WireFault.{WireFault}
 use Rattle.swim_wire.specs.declared.update.Update.{Update}
-use Rattle.swim_serve.specs.declared.number_log.NumberLog.{NumberLog}
-use Rattle.swim_serve.specs.declared.number_log.TheConstants.{LIVES_MAX}
+use Rattle.swim_handle.specs.declared.number_log.NumberLog.{NumberLog}
+use Rattle.swim_handle.specs.declared.number_log.TheConstants.{LIVES_MAX}
 
 -- the number that an update says of a member, or 0
 abbrev pub number_of : ℕ → Update → ℕ

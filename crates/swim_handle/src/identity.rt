@@ -2,7 +2,7 @@
 
 ghost use Rattle.std.specs.Prelude.{◌≡◌};
 ghost use Rattle.swim_member.specs.Checks.{rules_of};
-ghost use Rattle.swim_serve.specs.Identities.{Tells};
+ghost use Rattle.swim_handle.specs.Identities.{Tells};
 
 use arrayvec::ArrayString;
 use std::time::{Clock, Instant};

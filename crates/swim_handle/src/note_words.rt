@@ -1,7 +1,7 @@
 //! What the log says of a note: who, what and what to do, and its number and name at the end.
 
 ghost use Rattle.std.specs.Prelude.{◌≡◌};
-ghost use Rattle.swim_serve.specs.Notes.{is_usual, note_level};
+ghost use Rattle.swim_handle.specs.Notes.{is_usual, note_level};
 
 use log::Level;
 use std::fmt::{self, Display, Formatter};

@@ -1,0 +1,5 @@
+pub mod Companies
+pub mod Identities
+pub mod Notes
+pub mod Numbers
+pub mod Views

@@ -1,0 +1,26 @@
+//! How the workers of a running member call it: what they log, count and show of each call, and what wakes them.
+#![tactic(auto)]
+
+mod bell;
+mod board;
+mod call_log;
+mod company;
+mod crew;
+mod handle;
+mod heard;
+mod identity;
+mod note_log;
+mod note_words;
+mod number_log;
+mod pace;
+mod parts;
+
+pub use board::{Board, Row};
+pub use call_log::CallLog;
+pub use crew::Crew;
+pub use handle::{Handle, Observing};
+pub use identity::Identity;
+pub use note_log::{LOGGED_MAX, NoteLog};
+pub use number_log::NumberLog;
+pub use pace::Pace;
+pub use parts::{CallerParts, IntoParts};
