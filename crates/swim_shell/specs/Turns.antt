@@ -15,6 +15,8 @@ use Rattle.swim_member.specs.declared.event.Event.TheVariants.{Join}
 use Rattle.swim_node.specs.declared.entry.Reply.{Reply}
 use Rattle.swim_node.specs.declared.entry.Status.{Status}
 use Rattle.swim_shell.specs.declared.caller.Refusal.{Refusal}
+use Rattle.swim_shell.specs.declared.joiner.Due.{Due}
+use Rattle.swim_shell.specs.declared.joiner.Due.TheVariants.{Listed, Drawn, Look, Nothing}
 use Rattle.swim_shell.specs.declared.paces.Moment.{Moment}
 use Rattle.swim_shell.specs.Calls.{CallerView, NewCall, Refuses}
 use Rattle.swim_shell.specs.Moments.{NewsView, TellsNews, has_passed}
@@ -241,47 +243,56 @@ abbrev pub LooksRoundInVain : ℕ → Refusal → JoinerView → Moment → Call
 LooksRoundInVain limit why j at p k q =
     CutsOff limit why j p k q ⊎ JoinsInVain limit why j at p k q
 
--- the drawn member whose join is due is joined; else all rows are read, if that is due; else
--- nothing
-abbrev pub DoesRest : Option ℕ → Bool → JoinerView → Moment → CallerView → JoinerView → CallerView
-    → Type 0
-DoesRest (Some drawn) due j at p k q = JoinsPeer p q drawn × (k ≡ joined_drawn at.now j)
-DoesRest None true j at p k q = LooksRound j at p k q
-DoesRest None false j at p k q = (q ≡ p) × (k ≡ j)
-
 -- a draw or news are due, or a look was cut off
 abbrev pub is_look_due : JoinerView → Moment → Bool
 is_look_due j at =
     is_draw_due (draw_rest j at) j.joined at.now
     || (are_news_due j at || not (length j.looked == 0))
 
--- the peer of the list that is due is joined, or else the rest is done
-abbrev pub DoesDue : Option ℕ → JoinerView → Moment → CallerView → JoinerView → CallerView → Type 0
-DoesDue (Some peer) j at p k q = JoinsPeer p q peer × (k ≡ joined_listed at.now j)
-DoesDue None j at p k q = let i = with_start at.now j in
-    DoesRest i.drawn (is_look_due i at) i at p k q
+-- what a turn is to do that joins no peer of the list: to join the drawn member whose join is due;
+-- else to read all rows, if that is due
+abbrev pub due_rest : Option ℕ → Bool → Due
+due_rest (Some peer) look = Drawn peer
+due_rest None true = Look
+due_rest None false = Nothing
+
+-- what a turn is to do, and the joiner then: to join the peer of the list that is due; or else the
+-- rest, once the time is noted from which the first draw is due
+abbrev pub due_after_list : Option ℕ → JoinerView → Moment → Due
+due_after_list (Some peer) j at = Listed peer
+due_after_list None j at = let i = with_start at.now j in due_rest i.drawn (is_look_due i at)
+
+abbrev pub turning_after_list : Option ℕ → JoinerView → Moment → JoinerView
+turning_after_list (Some peer) j at = j
+turning_after_list None j at = with_start at.now j
+
+abbrev pub due_in : JoinerView → Moment → Due
+due_in j at = let i = with_answer at j in due_after_list (due_peer i at) i at
+
+abbrev pub turning : JoinerView → Moment → JoinerView
+turning j at = let i = with_answer at j in turning_after_list (due_peer i at) i at
+
+-- that is done
+abbrev pub DoesDue : Due → JoinerView → Moment → CallerView → JoinerView → CallerView → Type 0
+DoesDue (Listed peer) j at p k q = JoinsPeer p q peer × (k ≡ joined_listed at.now j)
+DoesDue (Drawn peer) j at p k q = JoinsPeer p q peer × (k ≡ joined_drawn at.now j)
+DoesDue Look j at p k q = LooksRound j at p k q
+DoesDue Nothing j at p k q = (q ≡ p) × (k ≡ j)
 
 abbrev pub DoesTurn : JoinerView → Moment → CallerView → JoinerView → CallerView → Type 0
-DoesTurn j at p k q = let i = with_answer at j in DoesDue (due_peer i at) i at p k q
+DoesTurn j at p k q = DoesDue (due_in j at) (turning j at) at p k q
 
--- the join that was due was refused, or a call of a look
-abbrev pub RestInVain : ℕ → Refusal → Option ℕ → Bool → JoinerView → Moment → CallerView
-    → JoinerView → CallerView → Type 0
-RestInVain limit why (Some drawn) due j at p k q = Refuses limit why p q (Join drawn) × (k ≡ j)
-RestInVain limit why None true j at p k q = LooksRoundInVain limit why j at p k q
-RestInVain limit why None false j at p k q = ⊥
-
--- the call for the peer of the list that is due was refused, or one of the rest
-abbrev pub DueInVain : ℕ → Refusal → Option ℕ → JoinerView → Moment → CallerView → JoinerView
+-- the join was refused, or a call of the look
+abbrev pub DoesInVain : ℕ → Refusal → Due → JoinerView → Moment → CallerView → JoinerView
     → CallerView → Type 0
-DueInVain limit why (Some peer) j at p k q = Refuses limit why p q (Join peer) × (k ≡ j)
-DueInVain limit why None j at p k q = let i = with_start at.now j in
-    RestInVain limit why i.drawn (is_look_due i at) i at p k q
+DoesInVain limit why (Listed peer) j at p k q = Refuses limit why p q (Join peer) × (k ≡ j)
+DoesInVain limit why (Drawn peer) j at p k q = Refuses limit why p q (Join peer) × (k ≡ j)
+DoesInVain limit why Look j at p k q = LooksRoundInVain limit why j at p k q
+DoesInVain limit why Nothing j at p k q = ⊥
 
 abbrev pub DoesTurnInVain : ℕ → Refusal → JoinerView → Moment → CallerView → JoinerView → CallerView
     → Type 0
-DoesTurnInVain limit why j at p k q =
-    let i = with_answer at j in DueInVain limit why (due_peer i at) i at p k q
+DoesTurnInVain limit why j at p k q = DoesInVain limit why (due_in j at) (turning j at) at p k q
 
 -- a turn did what was due by what was read as it began
 pub record Turned (j : JoinerView) (p : CallerView) (k : JoinerView) (q : CallerView)

@@ -1,7 +1,7 @@
 //! The worker that joins, and logs the news of members.
 
-ghost use Rattle.std.specs.Prelude.{◌≡◌, ◌⊎◌, ◌↔◌, [], Some, None, true, false};
-ghost use Rattle.std.specs.Prelude.{IsTrue, IfSome, IfOk, IfErr, OnOk, OnErr, length};
+ghost use Rattle.std.specs.Prelude.{◌≡◌, ◌⊎◌, ◌↔◌, [], ℕ, Some, None, true, false};
+ghost use Rattle.std.specs.Prelude.{is_some, IsTrue, IfSome, IfOk, IfErr, OnOk, OnErr, length};
 ghost use Rattle.std.specs.Duration.{as_nanos};
 ghost use Rattle.std.specs.Option.{option_map};
 ghost use Rattle.swim_member.specs.declared.event.Event.TheVariants.{Join};
@@ -9,7 +9,8 @@ ghost use Rattle.swim_shell.specs.Calls.{Refuses};
 ghost use Rattle.swim_shell.specs.Introductions.{introductions_of};
 ghost use Rattle.swim_shell.specs.Joins.{Asks, AsksInVain, IsDrawnFrom, IsNext, IsRelisted, LooksAll, LooksInVain, chosen, may_ask, next_draw};
 ghost use Rattle.swim_shell.specs.Silences.{heard_nobody};
-ghost use Rattle.swim_shell.specs.Turns.{DoesRest, DoesTurn, DoesTurnInVain, JoinsPeer, LooksRound, LooksRoundInVain, RestInVain, TellsDue, Turned, TurnedInVain, after_draw, after_look, are_news_due, draw_rest, drawn_for, due_peer, idle_rest, introduced, is_alone, is_draw_due, is_introducing, is_look_due, joined_drawn, joined_listed, list_turn, told_missing, with_answer, with_draw, with_introduction, with_start};
+ghost use Rattle.swim_shell.specs.Turns.{DoesTurn, DoesTurnInVain, JoinsPeer, LooksRound, LooksRoundInVain, TellsDue, Turned, TurnedInVain, after_draw, after_look, are_news_due, draw_rest, drawn_for, due_in, due_peer, due_rest, idle_rest, introduced, is_alone, is_draw_due, is_introducing, is_look_due, joined_drawn, joined_listed, list_turn, told_missing, turning, with_answer, with_draw, with_introduction, with_start};
+ghost use Rattle.swim_shell.specs.declared.joiner.Due.TheVariants.{Listed, Drawn};
 
 use crate::caller::{Caller, Observer, Refusal};
 use crate::draw::{draw, next_draw};
@@ -30,6 +31,19 @@ use swim_news::Rows;
 use swim_node::Status;
 use swim_trace::Trace;
 use swim_wire::{Endpoint, Rules};
+
+/// What a turn of a joiner is to do.
+#[derive(Clone, Copy, Debug, PartialEq, Eq)]
+pub enum Due {
+    /// This peer of the list is to be joined.
+    Listed(Endpoint),
+    /// The drawn member, whose join is due, is to be joined.
+    Drawn(Endpoint),
+    /// All rows are to be read.
+    Look,
+    /// Nothing.
+    Nothing,
+}
 
 /// Whom a member joins, and when: all peers of its list in order, one after the other; one of them every few periods while
 /// it holds nobody for alive or suspected, since a lost join would leave it alone for ever; those to whom it introduces itself, once
@@ -88,7 +102,7 @@ impl Model for Joiner {
 }
 
 /// Whether the member takes part, and holds nobody for alive or suspected. One whose status is not shown does not say so.
-pub(crate) fn is_alone(status: Option<Status>) -> bool
+pub fn is_alone(status: Option<Status>) -> bool
     ensures { result ≡ is_alone status }
 {
     match status {
@@ -166,6 +180,13 @@ impl Joiner {
         ensures { result ≡ length self.now.peers.list }
     {
         self.peers.listed()
+    }
+
+    /// Whether the join of a drawn member is due.
+    pub fn is_join_due(&self) -> bool
+        ensures { result ≡ is_some self.now.drawn }
+    {
+        self.drawn.is_some()
     }
 
     /// How long its thread may wait for something else, before the next turn: until the next introduction, while the member makes them.
@@ -357,6 +378,27 @@ impl Joiner {
         }
     }
 
+    /// The peer of the list that came next was joined. It is said now and then that none of it answers.
+    pub fn note_listed<W: Log>(&mut self, rt: &W, now: Option<Instant>)
+        ensures { self.new ≡ joined_listed now self.old }
+    {
+        self.joined = now;
+        self.silence.ask(rt, now, self.peers.list(), self.rules);
+        self.peers.step();
+        self.joins = self.joins.saturating_add(1);
+        self.unanswered = self.unanswered.saturating_add(1);
+    }
+
+    /// The drawn member was joined, if there was one.
+    pub fn note_drawn(&mut self, now: Option<Instant>)
+        ensures { self.new ≡ joined_drawn now self.old }
+    {
+        if self.drawn.is_some() {
+            self.drawn = None;
+            self.joined = now;
+        }
+    }
+
     /// Joins the next peer of the list, and says now and then that none of it answers.
     #[tactic(auto, using(crate::proofs::Asking::asks_next, crate::proofs::Asking::asks_next_in_vain))]
     fn join_listed<C: Caller, W: Log>(
@@ -379,11 +421,7 @@ impl Joiner {
         ensures same { OnErr result (self.new ≡ self.old) }
     {
         caller.call(Event::Join { peer })?;
-        self.joined = now;
-        self.silence.ask(rt, now, self.peers.list(), self.rules);
-        self.peers.step();
-        self.joins = self.joins.saturating_add(1);
-        self.unanswered = self.unanswered.saturating_add(1);
+        self.note_listed(rt, now);
         Ok(())
     }
 
@@ -410,8 +448,7 @@ impl Joiner {
         ensures same { OnErr result (self.new ≡ self.old) }
     {
         caller.call(Event::Join { peer })?;
-        self.drawn = None;
-        self.joined = now;
+        self.note_drawn(now);
         Ok(())
     }
 
@@ -468,38 +505,51 @@ impl Joiner {
         }
     }
 
-    /// What a turn does that joins no peer of the list.
-    #[tactic(auto, using(crate::proofs::Asking::asks_nothing))]
-    fn do_rest<C: Caller, W: Log>(
-        &mut self,
-        rt: &W,
-        caller: &mut C,
-        at: Moment,
-    ) -> Result<(), Refusal>
-        ensures asks { IfOk result (λ _. Asks self.old (C.known caller.old)
-            (C.known caller.new)) }
-        ensures in_vain { IfErr result (λ why. AsksInVain C.limit why self.old
-            (C.known caller.old) (C.known caller.new)) }
-        ensures me { self.new.me ≡ self.old.me }
-        ensures list { self.new.peers.list ≡ self.old.peers.list }
-
-        ensures does { OnOk result (DoesRest self.old.drawn (is_look_due self.old at) self.old at
-            (C.known caller.old) self.new (C.known caller.new)) }
-        ensures refused { IfErr result (λ why. RestInVain C.limit why self.old.drawn
-            (is_look_due self.old at) self.old at (C.known caller.old) self.new
-            (C.known caller.new)) }
+    /// What a turn is to do that joins no peer of the list.
+    fn due_rest(&self, at: Moment) -> Due
+        ensures { result ≡ due_rest self.now.drawn (is_look_due self.now at) }
     {
         if let Some(peer) = self.drawn {
-            return self.join_drawn(caller, at.now, peer);
+            return Due::Drawn(peer);
         }
         let is_cut = !self.looked.as_slice().is_empty();
         if self.is_draw_due(at) || self.are_news_due(at) || is_cut {
-            return self.look_round(rt, caller, at);
+            return Due::Look;
         }
-        Ok(())
+        Due::Nothing
+    }
+
+    /// A turn begins, by what was read then. Gives what it is to do.
+    pub fn begin_turn(&mut self, at: Moment) -> Due
+        ensures due { result ≡ due_in self.old at }
+        ensures then { self.new ≡ turning self.old at }
+        ensures listed { (peer : ℕ) → result ≡ Listed peer → IsNext self.new.peers peer }
+        ensures drawn { (peer : ℕ) → result ≡ Drawn peer → self.new.drawn ≡ Some peer }
+        ensures me { self.new.me ≡ self.old.me }
+        ensures list { self.new.peers.list ≡ self.old.peers.list }
+        ensures looked { (self.new.looked ≡ self.old.looked)
+            × (self.new.drawn ≡ self.old.drawn) }
+    {
+        self.hear(at);
+        if let Some(peer) = self.due_peer(at) {
+            return Due::Listed(peer);
+        }
+        self.begin(at.now);
+        self.due_rest(at)
+    }
+
+    /// These are all rows: a member is drawn and the news are told, if these are due. Gives the drawn member, whose join is due.
+    pub fn see<W: Log>(&mut self, rt: &W, at: Moment, rows: Rows) -> Option<Endpoint>
+        ensures told { TellsDue (after_look self.old at rows) at rows self.new }
+        ensures drawn { result ≡ self.new.drawn }
+    {
+        self.looked = rows;
+        self.end_look(rt, at);
+        self.drawn
     }
 
     /// One turn, by what was read as it began.
+    #[tactic(auto, using(crate::proofs::Asking::asks_nothing))]
     fn turn_at<C: Caller, W: Log>(
         &mut self,
         rt: &W,
@@ -518,12 +568,12 @@ impl Joiner {
         ensures refused { IfErr result (λ why. DoesTurnInVain C.limit why self.old at
             (C.known caller.old) self.new (C.known caller.new)) }
     {
-        self.hear(at);
-        if let Some(peer) = self.due_peer(at) {
-            return self.join_listed(rt, caller, at.now, peer);
+        match self.begin_turn(at) {
+            Due::Listed(peer) => self.join_listed(rt, caller, at.now, peer),
+            Due::Drawn(peer) => self.join_drawn(caller, at.now, peer),
+            Due::Look => self.look_round(rt, caller, at),
+            Due::Nothing => Ok(()),
         }
-        self.begin(at.now);
-        self.do_rest(rt, caller, at)
     }
 
     /// One turn. Joins a peer of the list or a drawn member, if one is due, and logs at level info what changed of the rows

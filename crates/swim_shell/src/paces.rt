@@ -22,7 +22,7 @@ pub(crate) const QUICK_JOINS: u32 = 3;
 
 /// How many introductions a member makes in the time that an answer takes at most. Each join ends the pages of the one before, which have
 /// come by then in a network that is as fast as the settings take it for.
-const INTRODUCTIONS_AN_ANSWER: u32 = 8;
+const INTRODUCTIONS_AN_ANSWER: u32 = 16;
 
 /// How often a joiner does what.
 #[derive(Clone, Copy, Debug, PartialEq, Eq)]
@@ -114,13 +114,13 @@ impl Paces {
 
 /// What a turn of a joiner goes by.
 #[derive(Clone, Copy)]
-pub(crate) struct Moment {
+pub struct Moment {
     /// What the clock reads; none where it cannot be read.
-    pub(crate) now: Option<Instant>,
+    pub now: Option<Instant>,
     /// Whether the member takes part, and holds nobody for alive or suspected.
-    pub(crate) is_alone: bool,
+    pub is_alone: bool,
     /// Whether lines at level info are shown.
-    pub(crate) is_shown: bool,
+    pub is_shown: bool,
 }
 
 /// Whether it is so long from the one time to the other.

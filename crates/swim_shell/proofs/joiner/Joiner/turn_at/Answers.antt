@@ -1,9 +1,11 @@
-use Rattle.std.proofs.Common.{rules}
 use Rattle.swim_shell.proofs.Asking.{asks_same, in_vain_same}
 use Rattle.swim_shell.proofs.joiner.Joiner.turn_at.Goals as goal
 
-pub returns-clause-asks : goal.returns-clause-asks
-returns-clause-asks g c = asks_same c.do_rest.result c.args.self.now c.begin.new.self _ _ (record { me = search rules; list = search rules; looked = search rules; drawn = search rules }) c.do_rest.ensures.asks
+pub returns-in-Look-clause-asks : goal.returns-in-Look-clause-asks
+returns-in-Look-clause-asks g c = let begun = c.begin_turn.ensures in asks_same c.look_round.result c.args.self.now c.begin_turn.new.self _ _ (record { me = begun.me; list = begun.list; looked = begun.looked.0; drawn = begun.looked.1 }) c.look_round.ensures.asks
 
-pub returns-clause-in_vain : goal.returns-clause-in_vain
-returns-clause-in_vain g c = in_vain_same c.do_rest.result _ c.args.self.now c.begin.new.self _ _ (record { me = search rules; list = search rules; looked = search rules; drawn = search rules }) c.do_rest.ensures.in_vain
+pub returns-in-Look-clause-in_vain : goal.returns-in-Look-clause-in_vain
+returns-in-Look-clause-in_vain g c = let begun = c.begin_turn.ensures in in_vain_same c.look_round.result _ c.args.self.now c.begin_turn.new.self _ _ (record { me = begun.me; list = begun.list; looked = begun.looked.0; drawn = begun.looked.1 }) c.look_round.ensures.in_vain
+
+pub returns-in-Drawn-clause-in_vain : goal.returns-in-Drawn-clause-in_vain
+returns-in-Drawn-clause-in_vain g c = let begun = c.begin_turn.ensures in in_vain_same c.join_drawn.result _ c.args.self.now c.begin_turn.new.self _ _ (record { me = begun.me; list = begun.list; looked = begun.looked.0; drawn = begun.looked.1 }) c.join_drawn.ensures.in_vain
