@@ -167,7 +167,7 @@ fn a_sweep_has_a_line_for_each_choice(rt: HostRuntime) -> Result<(), Fail> {
     )?;
     let mut lines = table.as_str().lines();
     let head =
-        "suspect,loss,suspected_s,confirmed_s,agreed_failed_s,agreed_alive_s,false_suspicions_by_hour,false_confirms_by_hour,datagrams_by_second,bytes_by_second,saves_by_hour";
+        "suspect,loss,started_s,suspected_s,confirmed_s,agreed_failed_s,agreed_alive_s,false_suspicions_by_hour,false_confirms_by_hour,datagrams_by_second,bytes_by_second,saves_by_hour";
     same(&rt, lines.next(), Some(head));
     for begin in ["20,0,", "20,10,", "40,0,", "40,10,"] {
         let line = lines.next().unwrap_or("");
@@ -248,7 +248,7 @@ fn pictures_end_as_they_begin(rt: HostRuntime) -> Result<(), Fail> {
         picture.as_str().starts_with("<svg ") && picture.as_str().ends_with("</svg>\n"),
     );
     let sweep = given(&rt, Sweep::read(alloc, "loss=0..1"));
-    let picture = given(&rt, draw_sweep(alloc, &sweep, &[Some(1); 18]));
+    let picture = given(&rt, draw_sweep(alloc, &sweep, &[Some(1); 20]));
     holds_at(&rt, &picture, picture.as_str().contains(">loss 1</text>"));
     Ok(())
 }

@@ -1,3 +1,4 @@
 pub mod Planning
 mod Detecting
 pub mod Watching
+pub mod Asking

@@ -9,7 +9,7 @@ use Rattle.toml.specs.Data.{Data, Members as Table, as_integer}
 use Rattle.swim_settings.specs.Says.{natural_of}
 use Rattle.swim_simulate.specs.declared.key.Key.{Key}
 use Rattle.swim_simulate.specs.declared.key.Key.TheVariants.{Members, Minutes, TickMs, Lambda, Period, Direct, Suspect, Forget, Helpers}
-use Rattle.swim_simulate.specs.declared.key.Key.TheVariants.{Limit, Block, Rules, Listed, Rejoin, Loss, Repeats, Delay, Jitter}
+use Rattle.swim_simulate.specs.declared.key.Key.TheVariants.{Limit, Block, Rules, Listed, Rejoin, Introduce, BeginWithin, Loss, Repeats, Delay, Jitter}
 use Rattle.swim_simulate.specs.declared.key.Key.TheVariants.{Kills, RestartAfter, Dropped, Filled, OddClocks, ClockRate, CutMembers, CutAt, CutFor, Deaf, Mute, Pauses, PauseFor, FailingSyncs}
 use Rattle.swim_simulate.specs.declared.key.Range.{Range}
 use Rattle.swim_simulate.specs.Keys.{plan_keys, rank_of, range_of}
@@ -34,6 +34,8 @@ key_in-rank_of Block = refl
 key_in-rank_of Rules = refl
 key_in-rank_of Listed = refl
 key_in-rank_of Rejoin = refl
+key_in-rank_of Introduce = refl
+key_in-rank_of BeginWithin = refl
 key_in-rank_of Loss = refl
 key_in-rank_of Repeats = refl
 key_in-rank_of Delay = refl
@@ -53,8 +55,8 @@ key_in-rank_of Pauses = refl
 key_in-rank_of PauseFor = refl
 key_in-rank_of FailingSyncs = refl
 
-pub rank_of-key_in : (n : ℕ) → n < 32 → rank_of (key_in n) ≡ n
-rank_of-key_in n l = sym (get_or-map rank_of plan_keys n Members 0 l) ∙ (get_or-range_with_len 0 32 n 0 l ∙ zero-add n)
+pub rank_of-key_in : (n : ℕ) → n < 34 → rank_of (key_in n) ≡ n
+rank_of-key_in n l = sym (get_or-map rank_of plan_keys n Members 0 l) ∙ (get_or-range_with_len 0 34 n 0 l ∙ zero-add n)
 
 -- each key that has one of the first places has a number of which this holds
 abbrev pub AreFilled : (Key → ℕ → Type 0) → ℕ → List ℕ → Type 0
@@ -62,7 +64,7 @@ AreFilled P n numbers = (key : Key) → rank_of key < n → P key (number_at key
 
 -- and there is a place for each key
 pub record IsFilled (P : Key → ℕ → Type 0) (n : ℕ) (numbers : List ℕ) : Type 0 where
-  pub len : length numbers ≡ 32
+  pub len : length numbers ≡ 34
   pub filled : AreFilled P n numbers
 
 fill-one : (P : Key → ℕ → Type 0) (n : ℕ) (numbers : List ℕ) (v : ℕ) → n < length numbers → P (key_in n) v → AreFilled P n numbers → AreFilled P (n + 1) (slice_set numbers n v)
@@ -82,7 +84,7 @@ fill-one P n numbers v l p filled key below = below_more Q n before here (rank_o
         let is : number_at j (slice_set numbers n v) ≡ v = ap (λ k. slice_index_or (slice_set numbers n v) k 0) e ∙ get_or-set_same numbers n v 0 l in
         subst (P j) (sym is) (subst (λ k. P k v) (sym same) p)
 
-pub fill-next : (P : Key → ℕ → Type 0) (n : ℕ) (numbers : List ℕ) (v : ℕ) → n < 32 → P (key_in n) v → IsFilled P n numbers → IsFilled P (n + 1) (slice_set numbers n v)
+pub fill-next : (P : Key → ℕ → Type 0) (n : ℕ) (numbers : List ℕ) (v : ℕ) → n < 34 → P (key_in n) v → IsFilled P n numbers → IsFilled P (n + 1) (slice_set numbers n v)
 fill-next P n numbers v l p h = record {
   len = length-set numbers n v ∙ h.len;
   filled = fill-one P n numbers v (let len = h.len in omega arith) p h.filled;

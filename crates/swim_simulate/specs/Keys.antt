@@ -5,7 +5,8 @@ use Rattle.swim_simulate.specs.declared.key.Range.{Range}
 use Rattle.swim_simulate.specs.declared.key.Key.TheVariants.{Members, Minutes, TickMs, Lambda}
 use Rattle.swim_simulate.specs.declared.key.Key.TheVariants.{Period, Direct, Suspect, Forget}
 use Rattle.swim_simulate.specs.declared.key.Key.TheVariants.{Helpers, Limit, Block, Rules}
-use Rattle.swim_simulate.specs.declared.key.Key.TheVariants.{Listed, Rejoin, Loss, Repeats}
+use Rattle.swim_simulate.specs.declared.key.Key.TheVariants.{Listed, Rejoin, Introduce}
+use Rattle.swim_simulate.specs.declared.key.Key.TheVariants.{BeginWithin, Loss, Repeats}
 use Rattle.swim_simulate.specs.declared.key.Key.TheVariants.{Delay, Jitter, Kills, RestartAfter}
 use Rattle.swim_simulate.specs.declared.key.Key.TheVariants.{Dropped, Filled, OddClocks, ClockRate}
 use Rattle.swim_simulate.specs.declared.key.Key.TheVariants.{CutMembers, CutAt, CutFor, Deaf, Mute}
@@ -30,6 +31,8 @@ plan_key Block = codes "block"
 plan_key Rules = codes "rules"
 plan_key Listed = codes "listed"
 plan_key Rejoin = codes "rejoin"
+plan_key Introduce = codes "introduce"
+plan_key BeginWithin = codes "begin_within"
 plan_key Loss = codes "loss"
 plan_key Repeats = codes "repeats"
 plan_key Delay = codes "delay"
@@ -52,9 +55,9 @@ plan_key FailingSyncs = codes "failing_syncs"
 -- all keys, in the order in which a refused one is looked for
 abbrev pub plan_keys : List Key
 plan_keys = Members ∷ Minutes ∷ TickMs ∷ Lambda ∷ Period ∷ Direct ∷ Suspect ∷ Forget ∷ Helpers
-    ∷ Limit ∷ Block ∷ Rules ∷ Listed ∷ Rejoin ∷ Loss ∷ Repeats ∷ Delay ∷ Jitter ∷ Kills
-    ∷ RestartAfter ∷ Dropped ∷ Filled ∷ OddClocks ∷ ClockRate ∷ CutMembers ∷ CutAt ∷ CutFor
-    ∷ Deaf ∷ Mute ∷ Pauses ∷ PauseFor ∷ FailingSyncs ∷ []
+    ∷ Limit ∷ Block ∷ Rules ∷ Listed ∷ Rejoin ∷ Introduce ∷ BeginWithin ∷ Loss ∷ Repeats
+    ∷ Delay ∷ Jitter ∷ Kills ∷ RestartAfter ∷ Dropped ∷ Filled ∷ OddClocks ∷ ClockRate
+    ∷ CutMembers ∷ CutAt ∷ CutFor ∷ Deaf ∷ Mute ∷ Pauses ∷ PauseFor ∷ FailingSyncs ∷ []
 
 -- a default, the least and the greatest
 abbrev pub within : ℕ → ℕ → ℕ → Range
@@ -76,6 +79,8 @@ range_of Block = within 1 1 BLOCK_MAX
 range_of Rules = within 1 1 2
 range_of Listed = within 3 1 8
 range_of Rejoin = within 300 0 1000000
+range_of Introduce = within 64 0 256
+range_of BeginWithin = within 10 1 1000000
 range_of Loss = within 2 0 100
 range_of Repeats = within 0 0 100
 range_of Delay = within 1 1 1000
@@ -111,21 +116,23 @@ rank_of Block = 10
 rank_of Rules = 11
 rank_of Listed = 12
 rank_of Rejoin = 13
-rank_of Loss = 14
-rank_of Repeats = 15
-rank_of Delay = 16
-rank_of Jitter = 17
-rank_of Kills = 18
-rank_of RestartAfter = 19
-rank_of Dropped = 20
-rank_of Filled = 21
-rank_of OddClocks = 22
-rank_of ClockRate = 23
-rank_of CutMembers = 24
-rank_of CutAt = 25
-rank_of CutFor = 26
-rank_of Deaf = 27
-rank_of Mute = 28
-rank_of Pauses = 29
-rank_of PauseFor = 30
-rank_of FailingSyncs = 31
+rank_of Introduce = 14
+rank_of BeginWithin = 15
+rank_of Loss = 16
+rank_of Repeats = 17
+rank_of Delay = 18
+rank_of Jitter = 19
+rank_of Kills = 20
+rank_of RestartAfter = 21
+rank_of Dropped = 22
+rank_of Filled = 23
+rank_of OddClocks = 24
+rank_of ClockRate = 25
+rank_of CutMembers = 26
+rank_of CutAt = 27
+rank_of CutFor = 28
+rank_of Deaf = 29
+rank_of Mute = 30
+rank_of Pauses = 31
+rank_of PauseFor = 32
+rank_of FailingSyncs = 33

@@ -4,3 +4,4 @@ pub mod Network
 pub mod Detection
 pub mod Laws
 pub mod Running
+pub mod Joining

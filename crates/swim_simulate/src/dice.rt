@@ -28,6 +28,15 @@ impl Dice {
         }
     }
 
+    /// Another generator, with a key that is drawn.
+    pub(crate) fn generator(&mut self) -> ChaCha20Rng {
+        let mut key = [0; 32];
+        for part in key.chunks_mut(4) {
+            part.copy_from_slice(&self.word().to_be_bytes());
+        }
+        ChaCha20Rng::from_seed(key)
+    }
+
     /// A number.
     pub(crate) fn word(&mut self) -> u32 {
         self.rng.next_word()

@@ -1,62 +1,172 @@
-//! Whom a member joins, and when, as `swim run` does: each member of its list, one after the other, one of them again while
-//! it holds nobody for alive or suspected, and now and then a member that is drawn.
+//! Whom a member joins, and when. Its joiner says so, which is that of `swim run`: it asks for the rows that the member has, by the
+//! member's own clock.
+
+ghost use Rattle.std.specs.Prelude.{◌≡◌, None, [], IfOk};
+ghost use Rattle.swim_simulate.specs.Joining.{HasTurn, joined_after, last_joined};
 
 use crate::key::Key;
+use crate::place::endpoint_of;
 use crate::plan::Plan;
+use crate::views::Views;
+use arrayvec::{ArrayString, ArrayVec};
+use rand_chacha::ChaCha20Rng;
+use swim_member::{Event, Settings};
+use swim_node::{Entry, Reply, Save, Status, Tag};
+use swim_shell::{
+    COUNTERS, Caller, Counters, Joiner, LIST_MAX, Observer, Paces, QuietClock, Refusal, Who,
+};
+use swim_trace::Trace;
+use swim_wire::{Endpoint, Rules, UPDATES_MAX, Update};
 
-/// How many periods a member that has been alone for long waits before it joins the next of its list.
-const ALONE_PERIODS: u64 = 3;
-
-/// How many joins of its list a member makes before a lone one waits so long.
-const EARLY_JOINS: u64 = 10;
-
-/// What is to be joined now.
-#[derive(Clone, Copy, Debug, PartialEq, Eq)]
-pub(crate) enum Due {
-    /// Nobody.
-    Nobody,
-    /// The next of the list.
-    Listed,
-    /// A drawn member.
-    Drawn,
-}
-
-/// How far a member is with its joins.
-#[derive(Clone, Copy, Debug)]
-pub(crate) struct Joins {
-    /// How many of its list it joined, over and over.
-    pub(crate) count: u64,
-    /// Ticks since it joined, or since it began.
-    pub(crate) since: u64,
-}
-
-impl Joins {
-    /// No join yet.
-    pub(crate) fn none() -> Joins {
-        Joins { count: 0, since: 0 }
+/// Whom a member is to join once it is asked this too.
+fn joined_after(peer: Option<Endpoint>, event: &Event) -> Option<Endpoint>
+    ensures { result ≡ joined_after peer event.now }
+{
+    match event {
+        Event::Join { peer } => Some(*peer),
+        _ => peer,
     }
+}
 
-    /// Ticks from the last join to the next of the list; none for no more.
-    fn rest(&self, plan: &Plan, is_alone: bool) -> Option<u64> {
-        let period = plan.get(Key::Period);
-        let were_all = self.count >= plan.get(Key::Listed);
-        match (were_all, is_alone) {
-            _ if self.count == 0 => Some(0),
-            (false, true) => Some(plan.get(Key::Direct)),
-            (false, false) => Some(period),
-            (true, true) if self.count < EARLY_JOINS => Some(period),
-            (true, true) => Some(period * ALONE_PERIODS),
-            (true, false) => None,
+/// A member that its joiner asks: it shows its rows, and whom it is to join is kept.
+#[derive(Drop)]
+pub(crate) struct Asked<'a> {
+    who: usize,
+    status: Status,
+    views: &'a Views,
+    /// Whom it is to join.
+    peer: Option<Endpoint>,
+    /// What it was asked, for proofs.
+    asked: Trace<Event>,
+    /// With what it answered, for proofs.
+    entries: Trace<Entry>,
+    ghost last: { peer ≡ last_joined asked },
+}
+
+impl Asked<'_> {
+    /// The member with this place, which shows this status, before it is asked.
+    pub(crate) fn new(who: usize, status: Status, views: &Views) -> Asked<'_>
+        ensures { result.asked ≡ [] }
+    {
+        Asked {
+            who,
+            status,
+            views,
+            peer: None,
+            asked: Trace::new(),
+            entries: Trace::new(),
         }
     }
 
-    /// What is to be joined now.
-    pub(crate) fn due(&self, plan: &Plan, is_alone: bool) -> Due {
-        let rejoin = plan.get(Key::Rejoin);
-        match self.rest(plan, is_alone) {
-            Some(rest) if rest <= self.since => Due::Listed,
-            None if rejoin > 0 && rejoin <= self.since => Due::Drawn,
-            _ => Due::Nobody,
+    /// What it shows.
+    fn page_for(&self, event: &Event) -> ArrayVec<Update, UPDATES_MAX> {
+        match event {
+            Event::Members { after } => self.views.page(self.who, *after),
+            _ => ArrayVec::new(),
         }
     }
+}
+
+impl Caller for Asked<'_> {
+    ghost use Rattle.std.specs.Prelude.{ℕ, false};
+
+    ghost known = { λ a. record { caller = 0; seen = a.entries; spent = false; asked = a.asked } };
+
+    ghost limit = { 1 };
+
+    #[tactic(auto, using(crate::proofs::Asking::joined_more))]
+    fn call(&mut self, event: Event) -> Result<Reply, Refusal> {
+        let page = self.page_for(&event);
+        self.peer = joined_after(self.peer, &event);
+        self.asked = self.asked.and(&event);
+        let entry = Entry {
+            tag: Tag { caller: 0, turn: 1 },
+            event,
+            granted: 0,
+            save: Save::Kept,
+            outs: ArrayVec::new(),
+            outcomes: ArrayVec::new(),
+            reply: Reply {
+                status: self.status,
+                notes: ArrayVec::new(),
+                page,
+                sent: 0,
+                lost: 0,
+            },
+        };
+        self.entries = self.entries.and(&entry);
+        Ok(entry.reply)
+    }
+}
+
+impl Observer for Asked<'_> {
+    fn status(&mut self) -> Option<Status> {
+        Some(self.status)
+    }
+
+    fn who(&mut self) -> Who {
+        Who {
+            me: endpoint_of(self.who.min(LIST_MAX)),
+            group: 1,
+            rules: Rules::Two,
+            version: ArrayString::new(),
+            uptime: 0,
+            listed: 0,
+        }
+    }
+
+    fn counters(&mut self) -> Counters {
+        Counters {
+            values: [0; COUNTERS],
+        }
+    }
+}
+
+/// A turn of a joiner, in which it asks a member. Gives whom that one is to join now, if anybody.
+pub(crate) fn turn(
+    joiner: &mut Joiner,
+    clock: &QuietClock,
+    mut asked: Asked<'_>,
+) -> Result<Option<Endpoint>, Refusal>
+    requires { asked.asked ≡ [] }
+    ensures { IfOk result (HasTurn joiner.old joiner.new) }
+{
+    joiner.turn(clock, &mut asked)?;
+    Ok(asked.peer)
+}
+
+/// The members that are on the list of the one with this place: the first ones, without itself.
+fn listed_by(plan: &Plan, who: usize) -> ArrayVec<Endpoint, LIST_MAX> {
+    let mut peers = ArrayVec::new();
+    let listed = plan.get(Key::Listed).min(plan.get(Key::Members));
+    for place in 0..listed as usize {
+        if place != who {
+            let _ = peers.try_push(endpoint_of(place));
+        }
+    }
+    peers
+}
+
+/// The joiner of the member with this place and these settings; none where these are not sound.
+pub(crate) fn joiner_of(
+    plan: &Plan,
+    who: usize,
+    settings: &Settings,
+    rng: ChaCha20Rng,
+) -> Option<Joiner> {
+    settings.check().ok()?;
+    let introduce = plan.get(Key::Introduce) as u32;
+    let paces = Paces::of(
+        settings,
+        introduce,
+        plan.get(Key::Rejoin),
+        plan.get(Key::TickMs),
+    );
+    Some(Joiner::new(
+        settings.me,
+        settings.rules_of(),
+        listed_by(plan, who),
+        paces,
+        rng,
+    ))
 }

@@ -7,7 +7,7 @@ use std::fmt;
 use swim_words::{Word, named};
 
 /// How many keys there are.
-pub const KEYS: usize = 32;
+pub const KEYS: usize = 34;
 
 /// A key of a plan.
 #[derive(Clone, Copy, Debug, PartialEq, Eq)]
@@ -40,6 +40,10 @@ pub enum Key {
     Listed,
     /// Ticks from one join of a drawn member to the next; 0 for never.
     Rejoin,
+    /// Members to whom each introduces itself at most, once somebody has answered it.
+    Introduce,
+    /// Ticks in which all members begin.
+    BeginWithin,
     /// Of 100 datagrams, how many are lost.
     Loss,
     /// Of 100 datagrams, how many come twice.
@@ -117,6 +121,8 @@ impl Key {
         Key::Rules,
         Key::Listed,
         Key::Rejoin,
+        Key::Introduce,
+        Key::BeginWithin,
         Key::Loss,
         Key::Repeats,
         Key::Delay,
@@ -156,6 +162,8 @@ impl Key {
             Key::Rules => within(1, 1, 2),
             Key::Listed => within(3, 1, 8),
             Key::Rejoin => within(300, 0, 1_000_000),
+            Key::Introduce => within(64, 0, 256),
+            Key::BeginWithin => within(10, 1, 1_000_000),
             Key::Loss => within(2, 0, 100),
             Key::Repeats => within(0, 0, 100),
             Key::Delay => within(1, 1, 1000),
@@ -197,24 +205,26 @@ impl Key {
             Key::Rules => 11,
             Key::Listed => 12,
             Key::Rejoin => 13,
-            Key::Loss => 14,
-            Key::Repeats => 15,
-            Key::Delay => 16,
-            Key::Jitter => 17,
-            Key::Kills => 18,
-            Key::RestartAfter => 19,
-            Key::Dropped => 20,
-            Key::Filled => 21,
-            Key::OddClocks => 22,
-            Key::ClockRate => 23,
-            Key::CutMembers => 24,
-            Key::CutAt => 25,
-            Key::CutFor => 26,
-            Key::Deaf => 27,
-            Key::Mute => 28,
-            Key::Pauses => 29,
-            Key::PauseFor => 30,
-            Key::FailingSyncs => 31,
+            Key::Introduce => 14,
+            Key::BeginWithin => 15,
+            Key::Loss => 16,
+            Key::Repeats => 17,
+            Key::Delay => 18,
+            Key::Jitter => 19,
+            Key::Kills => 20,
+            Key::RestartAfter => 21,
+            Key::Dropped => 22,
+            Key::Filled => 23,
+            Key::OddClocks => 24,
+            Key::ClockRate => 25,
+            Key::CutMembers => 26,
+            Key::CutAt => 27,
+            Key::CutFor => 28,
+            Key::Deaf => 29,
+            Key::Mute => 30,
+            Key::Pauses => 31,
+            Key::PauseFor => 32,
+            Key::FailingSyncs => 33,
         }
     }
 
@@ -247,6 +257,8 @@ impl Word for Key {
             Key::Rules => "rules",
             Key::Listed => "listed",
             Key::Rejoin => "rejoin",
+            Key::Introduce => "introduce",
+            Key::BeginWithin => "begin_within",
             Key::Loss => "loss",
             Key::Repeats => "repeats",
             Key::Delay => "delay",

@@ -132,6 +132,8 @@ pub(crate) fn count(counter: &mut u64)
 /// What is measured of a run.
 #[derive(Drop)]
 pub struct Measures {
+    /// When each member held each other for alive first, in ticks from the begin.
+    pub whole: Option<u64>,
     /// The kills, in order.
     pub kills: Vec<Kill>,
     /// What was counted.
@@ -142,6 +144,7 @@ impl Measures {
     /// Nothing happened yet.
     pub(crate) fn new(alloc: Global) -> Measures {
         Measures {
+            whole: None,
             kills: Vec::new(alloc),
             counts: Counts::zero(),
         }

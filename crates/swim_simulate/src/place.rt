@@ -4,7 +4,6 @@ ghost use Rattle.std.specs.Prelude.{◌≡◌, ◌+◌, ◌*◌, ◌<◌};
 ghost use Rattle.swim_simulate.specs.Network.{endpoint_of};
 ghost use Rattle.swim_simulate.specs.Running.{is_awake};
 
-use crate::joining::Joins;
 use crate::key::Key;
 use crate::plan::Plan;
 use swim_member::{Deal, Settings};
@@ -65,8 +64,8 @@ pub(crate) struct Place {
     pub(crate) until_deal: u64,
     /// The order for the next turn list.
     pub(crate) deal: Deal,
-    /// How far it is with its joins.
-    pub(crate) joins: Joins,
+    /// How many ticks its clock has made since it began.
+    pub(crate) ticks: u64,
     /// How many rows of each kind it has: alive, suspected, and the rest.
     pub(crate) rows: [usize; 3],
 }
@@ -81,7 +80,7 @@ impl Place {
             clock: 0,
             until_deal: 0,
             deal: Deal::from_first(0),
-            joins: Joins::none(),
+            ticks: 0,
             rows: [0; 3],
         }
     }
@@ -91,10 +90,5 @@ impl Place {
         ensures { result ≡ is_awake now self.now }
     {
         self.is_up && self.sleeps_until <= now
-    }
-
-    /// Whether it holds nobody for alive or suspected.
-    pub(crate) fn is_alone(&self) -> bool {
-        self.rows[0] == 0 && self.rows[1] == 0
     }
 }

@@ -15,9 +15,9 @@ use crate::handed::{Clock, Handed};
 use crate::key::Key;
 use crate::law::Stop;
 use crate::measures::{Measures, count};
-use crate::place::{Place, endpoint_of, place_of, settings_of};
+use crate::place::{Place, place_of, settings_of};
 use crate::plan::Plan;
-use crate::scene::{Scene, shadows_of};
+use crate::scene::{Scene, joiners_of, shadows_of};
 use crate::script::{Given, Script};
 use crate::views::Views;
 use crate::watched::Watched;
@@ -27,7 +27,7 @@ use swim_group::{Failure, Nodes, NodesFault};
 use swim_member::{Event, Phase};
 use swim_node::{Save, Status};
 use swim_trace::Trace;
-use swim_wire::{Cursor, Endpoint, MEMBERS_MAX, UPDATES_MAX, Update};
+use swim_wire::{Cursor, Endpoint, UPDATES_MAX, Update};
 
 /// The most pages of rows that a member has.
 const PAGES_MAX: usize = 10;
@@ -51,18 +51,20 @@ impl Run {
         let mut places = Vec::new(alloc);
         for place in 0..members {
             settings.push(settings_of(plan, place))?;
-            let begins = dice.below(plan.get(Key::Period) as usize);
+            let begins = dice.below(plan.get(Key::BeginWithin) as usize);
             places.push(Place::new(begins as u64))?;
         }
         let limit = plan.get(Key::Limit) as u32;
         let watched = Watched::new(alloc, settings.as_slice(), limit)?;
         let shadows = shadows_of(alloc, watched.nodes().seats())?;
+        let joiners = joiners_of(alloc, plan, &mut dice, watched.nodes().seats())?;
         let scene = Scene {
             plan: *plan,
             dice,
             flights: Vec::new(alloc),
             places,
             shadows,
+            joiners,
             views: Views::new(alloc, members)?,
             measures: Measures::new(alloc),
             history: Vec::new(alloc),
@@ -282,17 +284,13 @@ impl Run {
         }
     }
 
-    /// A member joins another, if it is time.
-    fn join(&mut self, who: usize) -> Result<(), SimulateFault>
+    /// A member with this status joins another, if it is time.
+    fn join(&mut self, who: usize, status: &Status) -> Result<(), SimulateFault>
         ensures { OnOk result (HandsNothing self.old.watched self.new.watched) }
     {
-        let Some(peer) = self.scene.peer(who) else {
+        let Some(peer) = self.scene.peer(who, status) else {
             return Ok(());
         };
-        if peer >= MEMBERS_MAX {
-            return Ok(());
-        }
-        let peer = endpoint_of(peer);
         self.scene
             .script
             .note(who, Given::Event(&Event::Join { peer }))?;
@@ -316,7 +314,7 @@ impl Run {
         let reply = self.watched.tick(who, deal)?;
         self.settle(who, &reply.status)?;
         self.look(who, &reply.status, false)?;
-        self.join(who)
+        self.join(who, &reply.status)
     }
 
     /// A member that was killed is opened again. It knows nobody.

@@ -6,7 +6,7 @@ ghost use Rattle.swim_simulate.specs.Running.{beats_of, comes, hears, rate_of};
 use crate::dice::Dice;
 use crate::fault::SimulateFault;
 use crate::flight::Flight;
-use crate::joining::Due;
+use crate::joining::{Asked, joiner_of, turn};
 use crate::key::Key;
 use crate::measures::{Awaited, Measures, count};
 use crate::network::{fate_by, is_cut, size_of_datagram};
@@ -20,8 +20,9 @@ use swim_charts::Tally;
 use swim_disk::Choice;
 use swim_group::Seat;
 use swim_member::{Deal, Out};
-use swim_node::Save;
-use swim_wire::{MEMBERS_MAX, Update};
+use swim_node::{Save, Status};
+use swim_shell::{Joiner, QuietClock};
+use swim_wire::{Endpoint, MEMBERS_MAX, Update};
 
 /// A member that does what the node does that sits there, in a group of so many.
 fn shadow_of(alloc: Global, seat: &Seat, members: usize) -> Result<Option<Shadow>, SimulateFault> {
@@ -43,6 +44,20 @@ pub(crate) fn shadows_of(
     Ok(shadows)
 }
 
+/// A joiner for each node, which knows nobody.
+pub(crate) fn joiners_of(
+    alloc: Global,
+    plan: &Plan,
+    dice: &mut Dice,
+    seats: &[Seat],
+) -> Result<Vec<Option<Joiner>>, SimulateFault> {
+    let mut joiners = Vec::new(alloc);
+    for (who, seat) in seats.iter().enumerate() {
+        joiners.push(joiner_of(plan, who, &seat.settings, dice.generator()))?;
+    }
+    Ok(joiners)
+}
+
 /// What there is of a run beside its nodes.
 #[derive(Drop)]
 pub(crate) struct Scene {
@@ -51,6 +66,7 @@ pub(crate) struct Scene {
     pub(crate) flights: Vec<Flight>,
     pub(crate) places: Vec<Place>,
     pub(crate) shadows: Vec<Option<Shadow>>,
+    pub(crate) joiners: Vec<Option<Joiner>>,
     pub(crate) views: Views,
     pub(crate) measures: Measures,
     pub(crate) history: Vec<Tally>,
@@ -175,6 +191,9 @@ impl Scene {
         if was == view || observer == who {
             return;
         }
+        if self.measures.whole.is_none() && self.views.are_whole() {
+            self.measures.whole = Some(now);
+        }
         self.measures.see(who, view, now);
         self.compare(now, who);
     }
@@ -287,57 +306,22 @@ impl Scene {
         news > 1
     }
 
-    /// The member that a member joins: one that is drawn from its rows, itself left out.
-    fn drawn(&mut self, who: usize) -> Option<usize> {
-        let mut eligible = 0usize;
-        for other in 0..self.places.len() {
-            if self.is_eligible(who, other) {
-                eligible = eligible.saturating_add(1);
-            }
+    /// What the clock of a member reads.
+    fn clock(&self, who: usize) -> QuietClock {
+        let ticks = self.places.get(who).map_or(0, |place| place.ticks);
+        QuietClock {
+            millis: ticks.saturating_mul(self.plan.get(Key::TickMs)),
         }
-        if eligible == 0 {
-            return None;
-        }
-        let mut left = self.dice.below(eligible);
-        for other in 0..self.places.len() {
-            if self.is_eligible(who, other) {
-                if left == 0 {
-                    return Some(other);
-                }
-                left -= 1;
-            }
-        }
-        None
     }
 
-    /// Whether a member holds another for alive or suspected.
-    fn is_eligible(&self, who: usize, other: usize) -> bool {
-        let view = self.views.get(who, other);
-        other != who && (view == View::Alive || view == View::Suspect)
-    }
-
-    /// Whom a member joins now.
-    pub(crate) fn peer(&mut self, who: usize) -> Option<usize> {
-        let plan = self.plan;
-        let place = self.places.get_mut(who)?;
-        let due = place.joins.due(&plan, place.is_alone());
-        if due == Due::Nobody {
-            return None;
+    /// Whom a member with this status joins now: its joiner has a turn. A turn that finds no memory is made up for by the next.
+    pub(crate) fn peer(&mut self, who: usize, status: &Status) -> Option<Endpoint> {
+        let clock = self.clock(who);
+        let asked = Asked::new(who, *status, &self.views);
+        match self.joiners.get_mut(who) {
+            Some(Some(joiner)) => turn(joiner, &clock, asked).unwrap_or(None),
+            _ => None,
         }
-        let listed = plan.get(Key::Listed).min(plan.get(Key::Members));
-        let next = (place.joins.count % listed) as usize;
-        place.joins.count = place.joins.count.saturating_add(1);
-        place.joins.since = 0;
-        let is_lists = due == Due::Listed
-            || plan.get(Key::Rules) == 2 && self.dice.word() % 2 == 1
-            || self.views.get(who, next) == View::Unknown;
-        if is_lists && next != who {
-            return Some(next);
-        }
-        if due == Due::Listed {
-            return None;
-        }
-        self.drawn(who)
     }
 
     /// The order of a member's next turn list, which is drawn once in a period.
@@ -350,7 +334,7 @@ impl Scene {
             place.until_deal = self.plan.get(Key::Period);
         }
         place.until_deal -= 1;
-        place.joins.since = place.joins.since.saturating_add(1);
+        place.ticks = place.ticks.saturating_add(1);
         place.deal
     }
 
@@ -395,6 +379,14 @@ impl Scene {
         }
     }
 
+    /// A member that is opened again has a new joiner.
+    fn join_again(&mut self, who: usize, seat: &Seat) {
+        let rng = self.dice.generator();
+        if let Some(joiner) = self.joiners.get_mut(who) {
+            *joiner = joiner_of(&self.plan, who, &seat.settings, rng);
+        }
+    }
+
     /// What a member does from its new beginning on is held against the law of detection.
     fn shadow_again(&mut self, who: usize, seat: &Seat) -> Result<(), SimulateFault> {
         let members = self.places.len();
@@ -416,6 +408,7 @@ impl Scene {
             let _ = self.views.set(who, other, View::Unknown);
         }
         self.shadow_again(who, seat)?;
+        self.join_again(who, seat);
         if let Some(place) = self.places.get_mut(who) {
             *place = Place::new(0);
             place.begins = None;

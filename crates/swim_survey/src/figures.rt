@@ -6,11 +6,13 @@ use std::alloc::{AllocError, Global};
 use swim_charts::of_hundred;
 
 /// How many figures there are.
-pub(crate) const FIGURES: usize = 9;
+pub(crate) const FIGURES: usize = 10;
 
 /// A figure of a table.
 #[derive(Clone, Copy, Debug, PartialEq, Eq)]
 pub(crate) enum Figure {
+    /// The median of the seconds from the start until each knows all.
+    Start,
     /// The median of the seconds until a stage.
     Median(Stage),
     /// How often a member began to suspect one that was never killed.
@@ -34,6 +36,7 @@ fn rate(count: u64, each_ms: u64, member_ms: u64) -> u64 {
 impl Figure {
     /// All of them, in order.
     pub(crate) const ALL: [Figure; FIGURES] = [
+        Figure::Start,
         Figure::Median(Stage::Suspected),
         Figure::Median(Stage::Confirmed),
         Figure::Median(Stage::Failed),
@@ -57,6 +60,7 @@ impl Figure {
     /// Its name.
     pub(crate) fn text(self) -> &'static str {
         match self {
+            Figure::Start => "each knows all",
             Figure::Median(stage) => stage.text(),
             Figure::Suspicions => "false suspicions by member and hour",
             Figure::Confirms => "false confirms by member and hour",
@@ -69,6 +73,7 @@ impl Figure {
     /// Its name with its unit.
     pub(crate) fn heading(self) -> &'static str {
         match self {
+            Figure::Start => "seconds from the start until each knows all",
             Figure::Median(Stage::Suspected) => "seconds until one suspects who was killed",
             Figure::Median(Stage::Confirmed) => "seconds until one holds for failed who was killed",
             Figure::Median(Stage::Failed) => "seconds until all agree on a kill",
@@ -80,6 +85,7 @@ impl Figure {
     /// Its name as a column.
     pub(crate) fn column(self) -> &'static str {
         match self {
+            Figure::Start => "started_s",
             Figure::Median(Stage::Suspected) => "suspected_s",
             Figure::Median(Stage::Confirmed) => "confirmed_s",
             Figure::Median(Stage::Failed) => "agreed_failed_s",
@@ -96,6 +102,7 @@ impl Figure {
     pub(crate) fn of(self, alloc: Global, of: &Gathered) -> Result<Option<u64>, AllocError> {
         let time = of.time;
         Ok(match self {
+            Figure::Start => of_hundred(of.sorted_starts(alloc)?.as_slice(), 50),
             Figure::Median(stage) => of_hundred(of.sorted(alloc, stage)?.as_slice(), 50),
             Figure::Suspicions => Some(rate(of.counts.suspicions, 3_600_000, time)),
             Figure::Confirms => Some(rate(of.counts.confirms, 3_600_000, time)),

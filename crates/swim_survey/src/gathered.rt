@@ -13,6 +13,7 @@ pub struct Gathered {
     pub(crate) counts: Counts,
     /// Milliseconds of members, all together.
     pub(crate) time: u64,
+    started: Vec<u64>,
     suspected: Vec<u64>,
     confirmed: Vec<u64>,
     failed: Vec<u64>,
@@ -35,6 +36,23 @@ fn times(
     Ok(times)
 }
 
+/// How long it took until each knew all, if that came.
+fn start_of(alloc: Global, whole: Option<u64>, tick_ms: u64) -> Result<Vec<u64>, AllocError> {
+    let mut started = Vec::new(alloc);
+    if let Some(ticks) = whole {
+        started.push(ticks.saturating_mul(tick_ms))?;
+    }
+    Ok(started)
+}
+
+/// The same times, the shortest first.
+fn sorted(alloc: Global, times: &[u64]) -> Result<Vec<u64>, AllocError> {
+    let mut sorted = Vec::new(alloc);
+    sorted.extend_from_slice(times)?;
+    sorted.sort()?;
+    Ok(sorted)
+}
+
 impl Gathered {
     /// No run yet.
     pub fn none(alloc: Global) -> Gathered {
@@ -42,6 +60,7 @@ impl Gathered {
             kills: 0,
             counts: Counts::zero(),
             time: 0,
+            started: Vec::new(alloc),
             suspected: Vec::new(alloc),
             confirmed: Vec::new(alloc),
             failed: Vec::new(alloc),
@@ -56,6 +75,7 @@ impl Gathered {
             kills: kills.len() as u64,
             counts: measures.counts,
             time: measures.counts.ticks.saturating_mul(tick_ms),
+            started: start_of(alloc, measures.whole, tick_ms)?,
             suspected: times(alloc, kills, Stage::Suspected, tick_ms)?,
             confirmed: times(alloc, kills, Stage::Confirmed, tick_ms)?,
             failed: times(alloc, kills, Stage::Failed, tick_ms)?,
@@ -68,6 +88,7 @@ impl Gathered {
         self.kills = self.kills.saturating_add(other.kills);
         self.counts.add(&other.counts);
         self.time = self.time.saturating_add(other.time);
+        self.started.extend_from_slice(other.started.as_slice())?;
         self.suspected
             .extend_from_slice(other.suspected.as_slice())?;
         self.confirmed
@@ -88,9 +109,11 @@ impl Gathered {
 
     /// How long a stage took, the shortest first.
     pub fn sorted(&self, alloc: Global, stage: Stage) -> Result<Vec<u64>, AllocError> {
-        let mut sorted = Vec::new(alloc);
-        sorted.extend_from_slice(self.times(stage))?;
-        sorted.sort()?;
-        Ok(sorted)
+        sorted(alloc, self.times(stage))
+    }
+
+    /// How long it took from the start until each held each other for alive, the shortest first.
+    pub fn sorted_starts(&self, alloc: Global) -> Result<Vec<u64>, AllocError> {
+        sorted(alloc, self.started.as_slice())
     }
 }

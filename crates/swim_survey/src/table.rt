@@ -50,6 +50,14 @@ fn write_head(text: &mut String) -> Result<(), AllocError> {
     )
 }
 
+/// The lines of the start.
+fn write_start(alloc: Global, text: &mut String, all: &Gathered) -> Result<(), AllocError> {
+    writeln!(text, "seconds from the start until")?;
+    write_head(text)?;
+    let sorted = all.sorted_starts(alloc)?;
+    write_times(alloc, text, "each knows all", sorted.as_slice())
+}
+
 /// The lines of the kills.
 fn write_kills(alloc: Global, text: &mut String, all: &Gathered) -> Result<(), AllocError> {
     let count = all.kills;
@@ -163,6 +171,7 @@ pub fn report(alloc: Global, plan: &Plan, seed: u64, runs: &Runs) -> Result<Stri
     let mut text = String::new(alloc);
     write_subject(&mut text, plan, seed, runs.count)?;
     writeln!(text)?;
+    write_start(alloc, &mut text, &runs.all)?;
     write_kills(alloc, &mut text, &runs.all)?;
     write_law(alloc, &mut text, plan)?;
     write_rates(alloc, &mut text, &runs.all)?;

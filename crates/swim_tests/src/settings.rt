@@ -212,7 +212,7 @@ fn defaults(rt: HostRuntime) -> Result<(), Fail> {
     holds(&rt, random_key.is_none());
     same(&rt, join.len(), 0);
     same(&rt, rejoin, 300);
-    same(&rt, introduce, 16);
+    same(&rt, introduce, 64);
     holds(&rt, !ends_expelled);
     holds(&rt, record_folder.is_none());
     same(&rt, record_eras, 8);
@@ -261,10 +261,10 @@ random_key = '000102030405060708090a0b0c0d0e0f101112131415161718191A1B1C1D1E1F'\
     Ok(())
 }
 
-/// The times of each preset, after its name: `tick_ms`, `lambda`, `period`, `direct`, `suspect`, `forget`, `rejoin`.
-const PRESETS: &str = "local 20 3 10 3 50 3000 100
-lan 100 3 10 3 100 6000 30
-wan 200 4 15 5 150 6000 50";
+/// The times of each preset, after its name: `tick_ms`, `lambda`, `period`, `direct`, `suspect`, `forget`, `helpers`, `rejoin`.
+const PRESETS: &str = "local 20 3 10 3 50 3000 3 100
+lan 50 3 10 2 80 12000 5 600
+wan 200 4 15 5 150 6000 3 50";
 
 /// The times of settings, as a row of that table has them.
 fn times_in(alloc: Global, run: &RunSettings) -> Result<String, AllocError> {
@@ -275,6 +275,7 @@ fn times_in(alloc: Global, run: &RunSettings) -> Result<String, AllocError> {
         direct,
         suspect,
         forget,
+        helpers,
         rejoin,
     } = Times {
         tick_ms: run.tick_ms,
@@ -283,9 +284,10 @@ fn times_in(alloc: Global, run: &RunSettings) -> Result<String, AllocError> {
         direct: run.settings.direct,
         suspect: run.settings.suspect,
         forget: run.settings.forget,
+        helpers: run.settings.helpers as u64,
         rejoin: run.rejoin,
     };
-    format!(in alloc; "{tick_ms} {lambda} {period} {direct} {suspect} {forget} {rejoin}")
+    format!(in alloc; "{tick_ms} {lambda} {period} {direct} {suspect} {forget} {helpers} {rejoin}")
 }
 
 #[test]
@@ -303,7 +305,7 @@ fn presets(rt: HostRuntime) -> Result<(), Fail> {
     let text = given(&rt, file_with(rt.alloc(), "preset", lines));
     let run = given(&rt, read_settings(rt.alloc(), text.as_bytes()));
     let found = given(&rt, times_in(rt.alloc(), &run));
-    same(&rt, found.as_str(), "1000 9 9 8 6 5 7");
+    same(&rt, found.as_str(), "1000 9 9 8 6 5 3 7");
     Ok(())
 }
 
@@ -312,7 +314,7 @@ const RELOADED: &str = "# nothing:
 join = ['10.0.0.2:7000']; rejoin = 7; introduce = 0; record = 'eras'; record_eras = 3:
 period = 9; rejoin = 7: period
 record_eras = 3; rules = 2; limit = 20: limit rules
-preset = 'lan': preset suspect
+preset = 'lan': preset tick_ms direct suspect forget helpers
 preset = 'local': preset tick_ms forget
 tick_ms = 20; lambda = 5; period = 8; direct = 7; suspect = 90; forget = 400: tick_ms lambda period direct suspect forget
 helpers = 0; limit = 20; block = 64; expelled = 'end': helpers limit block expelled
@@ -397,29 +399,29 @@ group = 7
 me = \"10.0.0.1:7000\"
 control = \"127.0.0.1:8000\"
 preset = \"lan\"
-tick_ms = 100
+tick_ms = 50
 lambda = 3
 period = 10
-direct = 3
-suspect = 100
-forget = 6000
-helpers = 3
+direct = 2
+suspect = 80
+forget = 12000
+helpers = 5
 limit = 4096
 block = 1
 rules = 1
 join = [\"10.0.0.2:7000\"]
-rejoin = 30
-introduce = 16
+rejoin = 600
+introduce = 64
 expelled = \"stay\"
 record_eras = 8
 # A member that stops, in seconds: when the first of the others suspects it, on the mean; when each of them suspects it,
 # at the latest; and when each confirms it, at the latest. For the mean targets are drawn at random. The latest times are
 # those of a member that nobody tells anything, and are longer where its ticks are late.
 # members      first       each  confirmed
-#       4      1.421      6.000     16.000
-#      10      1.530     18.000     28.000
-#      50      1.572     98.000    108.000
-#     257      1.580    512.000    522.000
+#       4      0.710      3.000      7.000
+#      10      0.765      9.000     13.000
+#      50      0.786     49.000     53.000
+#     257      0.790    256.000    260.000
 ";
 
 #[test]

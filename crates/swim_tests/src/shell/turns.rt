@@ -246,11 +246,11 @@ fn introduced_at<R: Wait>(
     Ok(joined)
 }
 
-/// A member that was answered introduces itself to each that it was told of, once, eight in the time of an answer, or to fewer if it
+/// A member that was answered introduces itself to each that it was told of, once, sixteen in the time of an answer, or to fewer if it
 /// shall. Then a member is drawn after ten seconds.
 #[test]
 fn introductions_by_the_clock(rt: HostRuntime) -> Result<(), Fail> {
-    let millis = [37, 38, 75, 76, 114, 152, 190, 10_152];
+    let millis = [18, 19, 37, 38, 57, 76, 95, 10_076];
     for (introduce, when) in [
         (0, [false, false, false, false, false, false, false, true]),
         (2, [false, true, false, true, false, false, false, true]),

@@ -10,7 +10,7 @@ use Rattle.swim_simulate.proofs.plan.read_keys.Goals as goal
 pub returns-in-None-clause-refused : goal.returns-in-None-clause-refused
 returns-in-None-clause-refused c = record {
   earlier = λ before l.
-      let there : c.loop-place.place < 32 = c.loop-place-test.true in
+      let there : c.loop-place.place < 34 = c.loop-place-test.true in
       let place : rank_of (key_in c.loop-place.place) ≡ c.loop-place.place = rank_of-key_in c.loop-place.place there in
       let below : rank_of before < c.loop-place.place = subst (λ n. rank_of before < n) place l in
       subst IsSome (sym (c.loop-place.invariant.filled before below)) (search rules);
