@@ -19,6 +19,7 @@ times_of None = record {
   direct = 3;
   suspect = 50;
   forget = 6000;
+  helpers = 3;
   rejoin = 300;
 }
 times_of (Some Local) = record {
@@ -28,16 +29,18 @@ times_of (Some Local) = record {
   direct = 3;
   suspect = 50;
   forget = 3000;
+  helpers = 3;
   rejoin = 100;
 }
 times_of (Some Lan) = record {
-  tick_ms = 100;
+  tick_ms = 50;
   lambda = 3;
   period = 10;
-  direct = 3;
-  suspect = 100;
-  forget = 6000;
-  rejoin = 30;
+  direct = 2;
+  suspect = 80;
+  forget = 12000;
+  helpers = 5;
+  rejoin = 600;
 }
 times_of (Some Wan) = record {
   tick_ms = 200;
@@ -46,5 +49,6 @@ times_of (Some Wan) = record {
   direct = 5;
   suspect = 150;
   forget = 6000;
+  helpers = 3;
   rejoin = 50;
 }

@@ -130,7 +130,7 @@ pub record SaysMember (times : Times) (table : Members) (settings : Settings) : 
   pub direct : IsNumber Direct times.direct table settings.direct
   pub suspect : IsNumber Suspect times.suspect table settings.suspect
   pub forget : IsNumber Forget times.forget table settings.forget
-  pub helpers : IsNumber Helpers 3 table settings.helpers
+  pub helpers : IsNumber Helpers times.helpers table settings.helpers
 
 -- the table says these settings
 pub record Says (table : Members) (run : RunSettings) : Type 0 where
@@ -148,7 +148,7 @@ pub record Says (table : Members) (run : RunSettings) : Type 0 where
   pub random_key : AreBytes RandomKey table run.random_key
   pub join : ArePlaces JOIN_MAX Join table run.join.items
   pub rejoin : IsNumber Rejoin (times_of run.preset).rejoin table run.rejoin
-  pub introduce : IsNumber Introduce 16 table run.introduce
+  pub introduce : IsNumber Introduce 64 table run.introduce
   pub expelled : EndsExpelled table run.ends_expelled
   pub record_folder : IsFolder Record table (option_map string_bytes run.record_folder)
   pub record_eras : IsNumber RecordEras 8 table run.record_eras
@@ -188,14 +188,14 @@ IsRefused Direct table =
     × No (IsWithin Direct times.direct 1 (period - 1) table)
 IsRefused Suspect table = IsNoTime Suspect (λ times. times.suspect) 1 100000 table
 IsRefused Forget table = IsNoTime Forget (λ times. times.forget) 1 1000000 table
-IsRefused Helpers table = No (IsWithin Helpers 3 0 HELPERS_MAX table)
+IsRefused Helpers table = IsNoTime Helpers (λ times. times.helpers) 0 HELPERS_MAX table
 IsRefused Limit table = No (IsWithin Limit 4096 1 65536 table)
 IsRefused Block table = No (IsWithin Block 1 1 BLOCK_MAX table)
 IsRefused Rules table = No (IsWithin Rules 1 1 2 table)
 IsRefused RandomKey table = No (AreBytes RandomKey table)
 IsRefused Join table = No (ArePlaces JOIN_MAX Join table)
 IsRefused Rejoin table = IsNoTime Rejoin (λ times. times.rejoin) 0 1000000 table
-IsRefused Introduce table = No (IsWithin Introduce 16 0 256 table)
+IsRefused Introduce table = No (IsWithin Introduce 64 0 256 table)
 IsRefused Expelled table = No (EndsExpelled table)
 IsRefused Record table = No (IsFolder Record table)
 IsRefused RecordEras table = No (IsWithin RecordEras 8 1 1000 table)
@@ -223,14 +223,14 @@ IsTaken Direct table =
     × IsWithin Direct times.direct 1 (period - 1) table n
 IsTaken Suspect table = IsTime Suspect (λ times. times.suspect) 1 100000 table
 IsTaken Forget table = IsTime Forget (λ times. times.forget) 1 1000000 table
-IsTaken Helpers table = (n : ℕ) × IsWithin Helpers 3 0 HELPERS_MAX table n
+IsTaken Helpers table = IsTime Helpers (λ times. times.helpers) 0 HELPERS_MAX table
 IsTaken Limit table = (n : ℕ) × IsWithin Limit 4096 1 65536 table n
 IsTaken Block table = (n : ℕ) × IsWithin Block 1 1 BLOCK_MAX table n
 IsTaken Rules table = (n : ℕ) × IsWithin Rules 1 1 2 table n
 IsTaken RandomKey table = (bytes : Option (List ℕ)) × AreBytes RandomKey table bytes
 IsTaken Join table = (ps : List Place) × ArePlaces JOIN_MAX Join table ps
 IsTaken Rejoin table = IsTime Rejoin (λ times. times.rejoin) 0 1000000 table
-IsTaken Introduce table = (n : ℕ) × IsWithin Introduce 16 0 256 table n
+IsTaken Introduce table = (n : ℕ) × IsWithin Introduce 64 0 256 table n
 IsTaken Expelled table = (is_end : Bool) × EndsExpelled table is_end
 IsTaken Record table = (folder : Option (List ℕ)) × IsFolder Record table folder
 IsTaken RecordEras table = (n : ℕ) × IsWithin RecordEras 8 1 1000 table n

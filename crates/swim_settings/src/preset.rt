@@ -41,7 +41,7 @@ pub struct Times {
     pub tick_ms: u64,
     /// `lambda`.
     pub lambda: u64,
-    /// `period`, in ticks, as all that follow.
+    /// `period`, in ticks, as all that follow but `helpers`.
     pub period: u64,
     /// `direct`.
     pub direct: u64,
@@ -49,6 +49,8 @@ pub struct Times {
     pub suspect: u64,
     /// `forget`.
     pub forget: u64,
+    /// `helpers`.
+    pub helpers: u64,
     /// `rejoin`.
     pub rejoin: u64,
 }
@@ -66,6 +68,7 @@ impl Times {
                 direct: 3,
                 suspect: 50,
                 forget: 6000,
+                helpers: 3,
                 rejoin: 300,
             },
             Some(Preset::Local) => Times {
@@ -75,16 +78,18 @@ impl Times {
                 direct: 3,
                 suspect: 50,
                 forget: 3000,
+                helpers: 3,
                 rejoin: 100,
             },
             Some(Preset::Lan) => Times {
-                tick_ms: 100,
+                tick_ms: 50,
                 lambda: 3,
                 period: 10,
-                direct: 3,
-                suspect: 100,
-                forget: 6000,
-                rejoin: 30,
+                direct: 2,
+                suspect: 80,
+                forget: 12_000,
+                helpers: 5,
+                rejoin: 600,
             },
             Some(Preset::Wan) => Times {
                 tick_ms: 200,
@@ -93,6 +98,7 @@ impl Times {
                 direct: 5,
                 suspect: 150,
                 forget: 6000,
+                helpers: 3,
                 rejoin: 50,
             },
         }

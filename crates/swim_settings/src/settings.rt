@@ -81,7 +81,7 @@ fn read_member(table: &Table, group: u64, me: Endpoint, times: Times) -> Result<
     let direct = read_within(table, Key::Direct, times.direct, 1, period - 1)?;
     let suspect = read_within(table, Key::Suspect, times.suspect, 1, 100_000)?;
     let forget = read_within(table, Key::Forget, times.forget, 1, 1_000_000)?;
-    let helpers = read_within(table, Key::Helpers, 3, 0, HELPERS_MAX as u64)?;
+    let helpers = read_within(table, Key::Helpers, times.helpers, 0, HELPERS_MAX as u64)?;
     Ok(Settings {
         group,
         me,
@@ -155,7 +155,7 @@ fn read_keys(alloc: Global, table: &Table) -> Result<RunSettings, Refusal>
     let random_key = read_bytes(table, Key::RandomKey)?;
     let join = read_places(table, Key::Join)?;
     let rejoin = read_within(table, Key::Rejoin, times.rejoin, 0, 1_000_000)?;
-    let introduce = read_within(table, Key::Introduce, 16, 0, 256)?;
+    let introduce = read_within(table, Key::Introduce, 64, 0, 256)?;
     let ends_expelled = read_choice(table, Key::Expelled, "stay", "end")?;
     let (record_folder, record_eras) = read_recording(alloc, table)?;
     let log = read_word(table, Key::Log, &Level::ALL)?;
