@@ -39,6 +39,7 @@ uint32_t swim_library_receive(struct swim_inside *member, const struct swim_endp
                               const uint8_t *bytes, size_t length);
 uint32_t swim_library_receive_failed(struct swim_inside *member);
 uint32_t swim_library_send_failed(struct swim_inside *member, uint32_t count);
+uint32_t swim_library_seeds(struct swim_inside *member, const struct swim_endpoint *seeds, size_t count, uint64_t random);
 uint32_t swim_library_join(struct swim_inside *member, const struct swim_endpoint *peer);
 uint32_t swim_library_leave(struct swim_inside *member);
 uint32_t swim_library_next_datagram(struct swim_inside *member, struct swim_endpoint *to,
@@ -107,6 +108,7 @@ static const struct {
     {SWIM_BUSY, "SWIM_BUSY", "another thread is in a call on this handle"},
     {SWIM_FORKED, "SWIM_FORKED", "the handle was opened before this process was forked"},
     {SWIM_BAD_DESCRIPTOR, "SWIM_BAD_DESCRIPTOR", "the descriptor is not open for reading and writing, or it has O_APPEND"},
+    {SWIM_TOO_MANY, "SWIM_TOO_MANY", "there are more than 8 seeds"},
 };
 
 static const char *const notes_by_number[] = {
@@ -330,6 +332,13 @@ int swim_receive_failed(struct swim_member *member) {
 
 int swim_send_failed(struct swim_member *member, uint32_t count) {
     OWN(member, swim_library_send_failed(&member->inside, count));
+}
+
+int swim_seeds(struct swim_member *member, const struct swim_endpoint *seeds, size_t count, uint64_t random) {
+    static const struct swim_endpoint none;
+    if (seeds == NULL && count != 0)
+        return SWIM_NULL;
+    OWN(member, swim_library_seeds(&member->inside, seeds == NULL ? &none : seeds, count, random));
 }
 
 int swim_join(struct swim_member *member, struct swim_endpoint peer) {

@@ -9,7 +9,7 @@
  *     settings.group = 7; settings.address = 0x7f000001; settings.port = 7000;
  *     swim_make("member.state", &settings);                      once
  *     swim_open(&member, "member.state", &settings, 1);
- *     swim_join(&member, peer);                                  and send what waits
+ *     swim_seeds(&member, seeds, count, random word);            whom to join, once
  *
  *     each datagram       swim_receive(&member, from, bytes, length)
  *     then, and at `next` swim_advance(&member, now in ms, random word, &next)
@@ -60,7 +60,7 @@ extern "C" {
  * may come.
  */
 #define SWIM_VERSION_MAJOR 1
-#define SWIM_VERSION_MINOR 1
+#define SWIM_VERSION_MINOR 2
 #define SWIM_VERSION (SWIM_VERSION_MAJOR * 1000u + SWIM_VERSION_MINOR)
 
 /* The most bytes of a datagram. */
@@ -69,9 +69,10 @@ extern "C" {
 /* The most members that are known: 256 others, and the own one. */
 #define SWIM_MEMBERS_MAX 257u
 
-/* The most notes of one event, and the most peers of a state file. */
+/* The most notes of one event, the most peers of a state file, and the most seeds. */
 #define SWIM_NOTES_MAX 32u
 #define SWIM_PEERS_MAX 8u
+#define SWIM_SEEDS_MAX 8u
 
 /* The most entries of an era, and the greatest `limit`. */
 #define SWIM_LIMIT_MAX 65536u
@@ -82,7 +83,7 @@ enum swim_code {
     SWIM_NULL = 2,        /* a pointer is null that may not be */
     SWIM_CLOSED = 3,      /* the handle is closed */
     SWIM_IS_OPEN = 4,     /* the handle is open already */
-    SWIM_NO_ENDPOINT = 5, /* the own port or that of a peer is 0 */
+    SWIM_NO_ENDPOINT = 5, /* the own port or that of a peer or seed is 0 */
     SWIM_WAITING = 6,     /* datagrams of the last event wait: take them by swim_next_datagram first */
     SWIM_SHORT = 7,       /* the buffer is too short, and the datagram still waits */
     SWIM_NO_MEMORY = 8,
@@ -124,7 +125,9 @@ enum swim_code {
     /* a handle or a descriptor that is used as it may not be; nothing was done */
     SWIM_BUSY = 51,          /* another thread is in a call on this handle */
     SWIM_FORKED = 52,        /* the handle was opened before this process was forked: it is the parent's */
-    SWIM_BAD_DESCRIPTOR = 53 /* it is not open for both reading and writing, or it has O_APPEND */
+    SWIM_BAD_DESCRIPTOR = 53, /* it is not open for both reading and writing, or it has O_APPEND */
+
+    SWIM_TOO_MANY = 54 /* more than SWIM_SEEDS_MAX seeds */
 };
 
 /* What an event may take note of. Many of 2, 3 or 18 mean that a member is set up wrongly: this one, or the one that sent. */
@@ -286,10 +289,13 @@ int swim_tick(struct swim_member *member, uint64_t random);
 
 /*
  * Time is what the program's clock says, in milliseconds: one that only rises, from whatever it counts, as CLOCK_MONOTONIC. Makes one
- * tick if one is due, however late it is, and says in *next_ms when the next one is: 100 ms after it was due, or after now where that
- * has passed. So ticks that are late are skipped. The first one is due 100 ms after the first call. Hand in first what waits at the
- * socket. While none is due nothing happens but that *next_ms is said, so it may be called after each datagram. Use this or
- * swim_tick, and not both.
+ * tick if one is due, however late it is, and says in *next_ms when to call again: when the next one is due, 100 ms after this one was,
+ * or after now where that has passed. So ticks that are late are skipped. The first one is due 100 ms after the first call. Hand in
+ * first what waits at the socket. It may be called sooner, for example after each datagram. Use this or swim_tick, and not both.
+ *
+ * Once swim_seeds was called it joins, too, whom `swim run` would join: where nothing waits, a call may make one join, and *next_ms
+ * may then be now or soon. At SWIM_NO_MEMORY nothing happened, or the tick was made and the join was not, which is then due at the
+ * next call too; *next_ms is not written.
  */
 int swim_advance(struct swim_member *member, uint64_t now_ms, uint64_t random, uint64_t *next_ms);
 
@@ -303,9 +309,19 @@ int swim_receive(struct swim_member *member, struct swim_endpoint from, const ui
 int swim_receive_failed(struct swim_member *member);
 int swim_send_failed(struct swim_member *member, uint32_t count);
 
-/* Asks a member of the group for all that it knows. Ask again each period while swim_get_status shows no other member, and
-   each 300 ticks ask one that is known, by chance, and one of those that the program was given, in turn: after a cut of the
-   network that lasts longer than `suspect`, a group that never joins again stays in two for ever. */
+/*
+ * Whom the program knows of its group, up to SWIM_SEEDS_MAX. From now on swim_advance joins them and the peers that the state file
+ * stored, as `swim run` does: each once; again, quickly at first, then each period, and then each third one, while the member is alone;
+ * once somebody answers up to 64 others, one after the other, so that they know soon that it is there; and each 300 ticks one of them
+ * or one that is known, by chance, so that a group that was cut in two is one again. Nobody is joined in this call, and nothing waits
+ * after it. Without it the program has to join by itself (swim_join). A second call takes other seeds from then on. `random` is any 64
+ * random bits, by which others are drawn; the first call's count. The names of hosts are the program's to look up.
+ * SWIM_OK, SWIM_NULL, SWIM_CLOSED, SWIM_NO_ENDPOINT, SWIM_TOO_MANY.
+ */
+int swim_seeds(struct swim_member *member, const struct swim_endpoint *seeds, size_t count, uint64_t random);
+
+/* Asks a member of the group for all that it knows, once. swim_seeds has it done as often as it takes: a join is one datagram, which may
+   be lost, and after a cut of the network that lasts longer than `suspect` a group that never joins again stays in two for ever. */
 int swim_join(struct swim_member *member, struct swim_endpoint peer);
 
 /* Leaves the group: the datagrams that wait then tell it. The member takes part no more. */

@@ -74,7 +74,8 @@ public:
     ~Member() { swim_close(&handle_); }
 
     void tick(std::uint64_t random) { must(swim_tick(&handle_, random)); }
-    // Makes one tick if one is due by the program's clock, in milliseconds, and answers when the next one is due. Late ticks are skipped.
+    // Makes one tick if one is due by the program's clock, in milliseconds, joins whom the seeds call for, and answers when to call again.
+    // Late ticks are skipped.
     std::uint64_t advance(std::uint64_t now_ms, std::uint64_t random) {
         std::uint64_t next;
         must(swim_advance(&handle_, now_ms, random, &next));
@@ -85,6 +86,10 @@ public:
     }
     void receive_failed() { must(swim_receive_failed(&handle_)); }
     void send_failed(std::uint32_t count) { must(swim_send_failed(&handle_, count)); }
+    // Whom the program knows of its group: advance joins them, and those that the state file stored, from now on.
+    void seeds(const std::vector<swim_endpoint> &all, std::uint64_t random) {
+        must(swim_seeds(&handle_, all.data(), all.size(), random));
+    }
     void join(swim_endpoint peer) { must(swim_join(&handle_, peer)); }
     void leave() { must(swim_leave(&handle_)); }
     void keep_peers() { must(swim_keep_peers(&handle_)); }

@@ -3,8 +3,8 @@
  *
  *     member STATE-FILE GROUP PORT PEER-PORT SECONDS
  *
- * It makes the state file where there is none, joins the member on PEER-PORT and whom an earlier life knew, and again and again,
- * ticks each 100 ms, prints whom it knows in the end, leaves, and ends. PEER-PORT 0 joins nobody.
+ * It makes the state file where there is none, has the library look for its group from the member on PEER-PORT and from whom an earlier
+ * life knew, ticks each 100 ms, prints whom it knows in the end, leaves, and ends. PEER-PORT 0 is nobody.
  */
 #include "swim.h"
 
@@ -17,15 +17,7 @@
 #include <time.h>
 #include <unistd.h>
 
-#define PERIOD 10  /* ticks, as in the settings */
-#define REJOIN 300 /* ticks */
 #define LOOPBACK 0x7f000001u
-
-/* Whom a member may ask about its group: those that it was given, and those of an earlier life. */
-struct peers {
-    struct swim_endpoint all[SWIM_PEERS_MAX + 1];
-    size_t count, next;
-};
 
 static void must(int code, const char *what) {
     if (code != SWIM_OK) {
@@ -78,43 +70,12 @@ static uint64_t random_word(void) {
     return word;
 }
 
-/* Makes the tick that is due, if one is, and gives when the next one is. */
+/* Makes the tick that is due, if one is, joins whom it is time to join, and gives when to come again. */
 static uint64_t advance(struct swim_member *member, int udp) {
     uint64_t next;
     must(swim_advance(member, now_ms(), random_word(), &next), "advance");
     send_all(member, udp);
     return next;
-}
-
-static void join(struct swim_member *member, int udp, struct swim_endpoint peer) {
-    must(swim_join(member, peer), "join");
-    send_all(member, udp);
-}
-
-static void join_all(struct swim_member *member, int udp, struct peers *peers, uint16_t given) {
-    must(swim_stored_peers(member, peers->all, &peers->count), "stored_peers");
-    if (given != 0)
-        peers->all[peers->count++] = (struct swim_endpoint){LOOPBACK, given};
-    for (size_t i = 0; i < peers->count; i++)
-        join(member, udp, peers->all[i]);
-}
-
-/* Asks again: the peers in turn, each period while alone, and each 300 ticks one of them and one member that is known, by chance.
-   Without it a group that was cut for longer than `suspect` stays in two. */
-static void join_again(struct swim_member *member, int udp, struct peers *peers, long ticks) {
-    struct swim_row rows[SWIM_MEMBERS_MAX];
-    struct swim_status status;
-    size_t count;
-    must(swim_get_status(member, &status), "get_status");
-    int is_alone = status.alive + status.suspect == 0;
-    if (ticks % REJOIN != 0 && (!is_alone || ticks % PERIOD != 0))
-        return;
-    if (peers->count > 0)
-        join(member, udp, peers->all[peers->next++ % peers->count]);
-    must(swim_members(member, rows, SWIM_MEMBERS_MAX, &count), "members");
-    struct swim_row row = rows[random_word() % count];
-    if (!is_alone && row.kind != SWIM_CONFIRM)
-        join(member, udp, (struct swim_endpoint){row.address, row.port});
 }
 
 static void print_members(struct swim_member *member) {
@@ -144,17 +105,15 @@ int main(int argc, char **argv) {
         return perror("bind"), 1;
     must(swim_open(&member, argv[1], &settings, 1), "open");
 
-    struct peers peers = {.count = 0};
-    join_all(&member, udp, &peers, (uint16_t)atoi(argv[4]));
-    uint64_t next = advance(&member, udp), end = now_ms() + strtoull(argv[5], NULL, 10) * 1000;
-    for (long ticks = 0; now_ms() < end;) {
-        uint64_t due = next, now = now_ms();
+    struct swim_endpoint seed = {LOOPBACK, (uint16_t)atoi(argv[4])};
+    must(swim_seeds(&member, &seed, seed.port != 0, random_word()), "seeds");
+    uint64_t next = 0, end = now_ms() + strtoull(argv[5], NULL, 10) * 1000;
+    while (now_ms() < end) {
+        uint64_t now = now_ms();
         struct pollfd ready = {udp, POLLIN, 0};
-        if (poll(&ready, 1, due > now ? (int)(due - now) : 0) > 0)
+        if (poll(&ready, 1, next > now ? (int)(next - now) : 0) > 0)
             receive_all(&member, udp); /* what waits is read before a tick */
         next = advance(&member, udp);
-        if (next != due)
-            join_again(&member, udp, &peers, ++ticks);
     }
 
     print_members(&member);

@@ -11,28 +11,19 @@
 #include <unistd.h>
 
 using Clock = std::chrono::steady_clock;
-using Peers = std::vector<swim_endpoint>;
 
 const std::chrono::milliseconds LATE(100); // that a tick may be late for what waits at the socket
-const long REJOIN = 300; // ticks
 const std::uint32_t LOOPBACK = 0x7f000001;
 
 class Host {
 public:
-    Host(swim::Member member, int udp, Peers peers, long period)
-        : member_(std::move(member)), udp_(udp), peers_(std::move(peers)), period_(period) {}
+    Host(swim::Member member, int udp) : member_(std::move(member)), udp_(udp) {}
 
-    void run(Clock::time_point end) {
-        for (const swim_endpoint &peer : peers_)
-            join(peer);
-        std::uint64_t next = advance();
-        for (long ticks = 0; Clock::now() < end;) {
-            std::uint64_t due = next;
-            receive_until(Clock::time_point(std::chrono::milliseconds(due)));
-            next = advance();
-            if (next != due)
-                join_again(++ticks);
-        }
+    // From these seeds, and from whom an earlier life knew, the library looks for the group.
+    void run(const std::vector<swim_endpoint> &seeds, Clock::time_point end) {
+        member_.seeds(seeds, random_());
+        while (Clock::now() < end)
+            receive_until(Clock::time_point(std::chrono::milliseconds(advance())));
     }
 
     void leave() {
@@ -44,7 +35,7 @@ public:
     const swim::Member &member() const { return member_; }
 
 private:
-    // Makes the tick that is due, if one is, and gives when the next one is.
+    // Makes the tick that is due, if one is, joins whom it is time to join, and gives when to come again.
     std::uint64_t advance() {
         auto now = std::chrono::duration_cast<std::chrono::milliseconds>(Clock::now().time_since_epoch());
         std::uint64_t next = member_.advance(std::uint64_t(now.count()), random_());
@@ -72,25 +63,6 @@ private:
         }
     }
 
-    // Asks again: each period while alone, and each 300 ticks. Without it a group that was cut for long stays in two.
-    void join_again(long ticks) {
-        swim_status status = member_.status();
-        bool is_alone = status.alive + status.suspect == 0;
-        if (ticks % REJOIN != 0 && !(is_alone && ticks % period_ == 0))
-            return;
-        if (!peers_.empty())
-            join(peers_[random_() % peers_.size()]);
-        std::vector<swim_row> rows = member_.members();
-        const swim_row &row = rows[random_() % rows.size()];
-        if (!is_alone && row.kind != SWIM_CONFIRM)
-            join({row.address, row.port});
-    }
-
-    void join(swim_endpoint peer) {
-        member_.join(peer);
-        send_all();
-    }
-
     void send_all() {
         member_.send_all([this](swim_endpoint to, const std::uint8_t *bytes, std::size_t length) {
             sockaddr_in at = {};
@@ -103,8 +75,6 @@ private:
 
     swim::Member member_;
     int udp_;
-    Peers peers_;
-    long period_;
     std::mt19937_64 random_{std::random_device{}()};
 };
 
@@ -120,11 +90,11 @@ static int run(char **words) {
     if (access(words[1], F_OK) != 0)
         swim::make(words[1], settings);
     swim::Member member(words[1], settings);
-    Peers peers = member.stored_peers();
+    std::vector<swim_endpoint> seeds;
     if (std::uint16_t peer = std::uint16_t(std::atoi(words[4])))
-        peers.push_back({LOOPBACK, peer});
-    Host host(std::move(member), udp, peers, long(settings.period));
-    host.run(Clock::now() + std::chrono::seconds(std::atoll(words[5])));
+        seeds.push_back({LOOPBACK, peer});
+    Host host(std::move(member), udp);
+    host.run(seeds, Clock::now() + std::chrono::seconds(std::atoll(words[5])));
     static const char *const kinds[] = {"?", "alive", "suspect", "confirm"};
     for (const swim_row &row : host.member().members())
         std::cout << kinds[row.kind] << " 127.0.0.1:" << row.port << " " << row.number << "\n";

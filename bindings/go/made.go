@@ -17,7 +17,7 @@ const (
 	ErrClosed Code = C.SWIM_CLOSED
 	// ErrIsOpen is SWIM_IS_OPEN: the handle is open already.
 	ErrIsOpen Code = C.SWIM_IS_OPEN
-	// ErrNoEndpoint is SWIM_NO_ENDPOINT: the own port or that of a peer is 0.
+	// ErrNoEndpoint is SWIM_NO_ENDPOINT: the own port or that of a peer or seed is 0.
 	ErrNoEndpoint Code = C.SWIM_NO_ENDPOINT
 	// ErrWaiting is SWIM_WAITING: datagrams of the last event wait: take them by swim_next_datagram first.
 	ErrWaiting Code = C.SWIM_WAITING
@@ -83,6 +83,8 @@ const (
 	ErrForked Code = C.SWIM_FORKED
 	// ErrBadDescriptor is SWIM_BAD_DESCRIPTOR: it is not open for both reading and writing, or it has O_APPEND.
 	ErrBadDescriptor Code = C.SWIM_BAD_DESCRIPTOR
+	// ErrTooMany is SWIM_TOO_MANY: more than SWIM_SEEDS_MAX seeds.
+	ErrTooMany Code = C.SWIM_TOO_MANY
 )
 
 // A Note says: what an event took note of.

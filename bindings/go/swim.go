@@ -27,6 +27,9 @@ import (
 // DatagramMax is the most bytes of a datagram.
 const DatagramMax = C.SWIM_DATAGRAM_MAX
 
+// SeedsMax is the most seeds of a member.
+const SeedsMax = C.SWIM_SEEDS_MAX
+
 // Version is that of the library that is linked: a thousand times the first number, and the second.
 func Version() uint32 { return uint32(C.swim_version()) }
 
@@ -191,8 +194,8 @@ func (m *Member) Tick(random uint64) error {
 	return m.call(func(handle *C.struct_swim_member) (C.int, error) { return C.swim_tick(handle, C.uint64_t(random)), nil })
 }
 
-// Advance makes one tick if one is due by the program's clock, in milliseconds, and gives when the next one is due. Late ticks are
-// skipped. Use this or Tick, and not both.
+// Advance makes one tick if one is due by the program's clock, in milliseconds, joins whom the seeds call for, and gives when to call
+// again. Late ticks are skipped. Use this or Tick, and not both.
 func (m *Member) Advance(nowMs, random uint64) (next uint64, err error) {
 	var due C.uint64_t
 	err = m.call(func(handle *C.struct_swim_member) (C.int, error) {
@@ -229,7 +232,23 @@ func (m *Member) SendFailed(count uint32) error {
 	})
 }
 
-// Join asks a member of the group for all that it knows.
+// Seeds are those whom the program knows of its group: Advance joins them, and those that the state file stored, from now on. The random
+// bits draw others; the first call's count.
+func (m *Member) Seeds(seeds []netip.AddrPort, random uint64) error {
+	all := make([]C.struct_swim_endpoint, len(seeds)+1)
+	for place, seed := range seeds {
+		at, err := toC(seed)
+		if err != nil {
+			return err
+		}
+		all[place] = at
+	}
+	return m.call(func(handle *C.struct_swim_member) (C.int, error) {
+		return C.swim_seeds(handle, &all[0], C.size_t(len(seeds)), C.uint64_t(random)), nil
+	})
+}
+
+// Join asks a member of the group for all that it knows, once.
 func (m *Member) Join(peer netip.AddrPort) error {
 	at, err := toC(peer)
 	if err != nil {

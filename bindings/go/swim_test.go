@@ -96,6 +96,29 @@ func TestLateTicksAreSkipped(t *testing.T) {
 	}
 }
 
+func TestSeedsAreAskedAgainByTheClock(t *testing.T) {
+	member := open(t)
+	defer member.Close()
+	want(t, member.Seeds([]netip.AddrPort{peer}, 1), nil)
+	var buffer [swim.DatagramMax]byte
+	for _, at := range []struct {
+		now   uint64
+		asked bool
+	}{{1000, true}, {1050, false}, {1100, true}, {1200, false}, {1300, true}} {
+		_, err := member.Advance(at.now, 1)
+		want(t, err, nil)
+		to, _, err := member.Next(&buffer)
+		if at.asked != (err == nil && to == peer) {
+			t.Error(at, to, err)
+		}
+	}
+	many := make([]netip.AddrPort, swim.SeedsMax+1)
+	for place := range many {
+		many[place] = peer
+	}
+	want(t, member.Seeds(many, 1), swim.ErrTooMany)
+}
+
 func TestChangesAreToldOnce(t *testing.T) {
 	member := open(t)
 	defer member.Close()

@@ -14,10 +14,6 @@ import (
 	"example.com/rollerblack/swim"
 )
 
-const (
-	rejoin = 300 // ticks
-)
-
 type datagram struct {
 	from netip.AddrPort
 	data []byte
@@ -73,46 +69,15 @@ func receiveAll(udp *net.UDPConn, came chan<- datagram) {
 	}
 }
 
-func join(member *swim.Member, udp *net.UDPConn, peer netip.AddrPort) {
-	must(member.Join(peer))
-	sendAll(member, udp)
-}
-
-// joinAgain asks again: each period while alone, and each 300 ticks. Without it a group that was cut for long stays in two.
-func joinAgain(member *swim.Member, udp *net.UDPConn, peers []netip.AddrPort, period, ticks uint64) {
-	status, err := member.Status()
-	must(err)
-	alone := status.Alive+status.Suspect == 0
-	if ticks%rejoin != 0 && !(alone && ticks%period == 0) {
-		return
-	}
-	rows, err := member.Members()
-	must(err)
-	var known []netip.AddrPort
-	for _, row := range rows {
-		if row.Kind != swim.Confirm {
-			known = append(known, row.Who)
-		}
-	}
-	for _, choices := range [][]netip.AddrPort{peers, known} {
-		if len(choices) > 0 {
-			join(member, udp, choices[rand.Intn(len(choices))])
-		}
-	}
-}
-
-// run makes a tick when one is due; those that are late are left out.
-func run(member *swim.Member, udp *net.UDPConn, peers []netip.AddrPort, period, seconds uint64) {
-	for _, peer := range peers {
-		join(member, udp, peer)
-	}
+// run goes on for so long. What waits is read before a tick, and ticks that are late are left out.
+func run(member *swim.Member, udp *net.UDPConn, seeds []netip.AddrPort, seconds uint64) {
+	must(member.Seeds(seeds, rand.Uint64()))
 	came := make(chan datagram)
 	go receiveAll(udp, came)
-	begin, count, end := time.Now(), uint64(0), time.After(time.Duration(seconds)*time.Second)
-	due, err := member.Advance(0, 0)
-	must(err)
+	begin, end := time.Now(), time.After(time.Duration(seconds)*time.Second)
+	due := uint64(0)
 	for {
-		select { // what waits is read before a tick
+		select {
 		case one := <-came:
 			must(member.Receive(one.from, one.data))
 			sendAll(member, udp)
@@ -125,15 +90,11 @@ func run(member *swim.Member, udp *net.UDPConn, peers []netip.AddrPort, period, 
 		case <-time.After(time.Until(begin.Add(time.Duration(due) * time.Millisecond))):
 			next, err := member.Advance(uint64(time.Since(begin).Milliseconds()), rand.Uint64())
 			must(err)
-			sendAll(member, udp)
-			if next != due {
-				due, count = next, count+1
-				joinAgain(member, udp, peers, period, count)
-			}
+			due = next
 		case one := <-came:
 			must(member.Receive(one.from, one.data))
-			sendAll(member, udp)
 		}
+		sendAll(member, udp)
 	}
 }
 
@@ -152,12 +113,11 @@ func main() {
 	must(err)
 	member, err := swim.Open(path, settings)
 	must(err)
-	peers, err := member.StoredPeers()
-	must(err)
+	var seeds []netip.AddrPort
 	if peer := number(os.Args[4]); peer != 0 {
-		peers = append(peers, loopback(peer))
+		seeds = append(seeds, loopback(peer))
 	}
-	run(member, udp, peers, settings.Period, number(os.Args[5]))
+	run(member, udp, seeds, number(os.Args[5]))
 	rows, err := member.Members()
 	must(err)
 	for _, row := range rows {

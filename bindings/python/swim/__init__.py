@@ -1,10 +1,10 @@
 """A member of a SWIM group, by polling: the proved library libswim, through ctypes.
 
     with swim.Member("member.state", swim.Settings(group=7, me=("127.0.0.1", 7000))) as member:
-        member.join(("127.0.0.1", 7001))
-        for to, data in member.datagrams(): ...       # send each
+        member.seeds([("127.0.0.1", 7001)])           # whom to join, once
+        for to, data in member.datagrams(): ...       # after each event: send each
         member.receive(source, data)                  # each datagram
-        due = member.advance(time.monotonic())        # then, and when it is due again: late ticks are skipped
+        due = member.advance(time.monotonic())        # then, and when it is due again: ticks, and joins
 
 After each event `datagrams` has to be taken to its end: the next event is refused until then. `swim.aio.Member` does all of it
 over UDP under asyncio. Threads may call one member: each call waits for the one before. `docs/EMBEDDING.md` says how time, random
@@ -31,14 +31,14 @@ import os
 import secrets
 import threading
 from dataclasses import dataclass
-from typing import Any, Callable, Iterator, List, Optional, Tuple, Union
+from typing import Any, Callable, Iterator, List, Optional, Sequence, Tuple, Union
 
 from . import _made
-from ._made import DATAGRAM_MAX, MEMBERS_MAX, NOTES_MAX, PEERS_MAX, Code, Kind, Note, Phase
+from ._made import DATAGRAM_MAX, MEMBERS_MAX, NOTES_MAX, PEERS_MAX, SEEDS_MAX, Code, Kind, Note, Phase
 
 __all__ = [
-    "DATAGRAM_MAX", "MEMBERS_MAX", "Change", "Closed", "Code", "Kind", "Locked", "Member", "Note", "Phase", "Row", "Settings", "Status",
-    "SwimError", "Waiting", "make", "version",
+    "DATAGRAM_MAX", "MEMBERS_MAX", "SEEDS_MAX", "Change", "Closed", "Code", "Kind", "Locked", "Member", "Note", "Phase", "Row", "Settings",
+    "Status", "SwimError", "Waiting", "make", "version",
 ]  # fmt: skip
 
 Address = Tuple[str, int]  # "127.0.0.1", 7000: as sockets have it
@@ -217,8 +217,8 @@ class Member:
         self._call(_library.swim_tick, secrets.randbits(64) if random is None else random)
 
     def advance(self, now: float, random: Optional[int] = None) -> float:
-        """Makes one tick if one is due by the program's clock, in seconds, as time.monotonic(), and answers when the next one is due. Late
-        ticks are skipped. Use this or tick, and not both."""
+        """Makes one tick if one is due by the program's clock, in seconds, as time.monotonic(), joins whom the seeds call for, and answers
+        when to call again. Late ticks are skipped. Use this or tick, and not both."""
         due = _c.c_uint64()
         self._call(_library.swim_advance, int(now * 1000), secrets.randbits(64) if random is None else random, due)
         return due.value / 1000
@@ -236,8 +236,13 @@ class Member:
         """So many datagrams were not sent."""
         self._call(_library.swim_send_failed, count)
 
+    def seeds(self, seeds: Sequence[Address], random: Optional[int] = None) -> None:
+        """Whom the program knows of its group: advance joins them, and those that the state file stored, from now on."""
+        all_seeds = (_made.swim_endpoint * len(seeds))(*map(_to_c, seeds))
+        self._call(_library.swim_seeds, all_seeds, len(seeds), secrets.randbits(64) if random is None else random)
+
     def join(self, peer: Address) -> None:
-        """Asks a member of the group for all that it knows."""
+        """Asks a member of the group for all that it knows, once."""
         self._call(_library.swim_join, _to_c(peer))
 
     def leave(self) -> None:

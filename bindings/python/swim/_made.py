@@ -4,11 +4,12 @@ import ctypes as _c
 import enum
 from typing import Any, Dict, List, Tuple
 
-VERSION = 1001
+VERSION = 1002
 DATAGRAM_MAX = 512
 MEMBERS_MAX = 257
 NOTES_MAX = 32
 PEERS_MAX = 8
+SEEDS_MAX = 8
 LIMIT_MAX = 65536
 
 # The defaults of `swim run`, by rules 2.
@@ -32,7 +33,7 @@ class Code(enum.IntEnum):
     NULL = 2  # a pointer is null that may not be
     CLOSED = 3  # the handle is closed
     IS_OPEN = 4  # the handle is open already
-    NO_ENDPOINT = 5  # the own port or that of a peer is 0
+    NO_ENDPOINT = 5  # the own port or that of a peer or seed is 0
     WAITING = 6  # datagrams of the last event wait: take them by swim_next_datagram first
     SHORT = 7  # the buffer is too short, and the datagram still waits
     NO_MEMORY = 8
@@ -65,6 +66,7 @@ class Code(enum.IntEnum):
     BUSY = 51  # another thread is in a call on this handle
     FORKED = 52  # the handle was opened before this process was forked: it is the parent's
     BAD_DESCRIPTOR = 53  # it is not open for both reading and writing, or it has O_APPEND
+    TOO_MANY = 54  # more than SWIM_SEEDS_MAX seeds
 
 
 class Note(enum.IntEnum):
@@ -193,6 +195,7 @@ CALLS: Dict[str, Tuple[Any, List[Any]]] = {
     "swim_receive": (_c.c_int, [_c.POINTER(swim_member), swim_endpoint, _c.c_void_p, _c.c_size_t]),
     "swim_receive_failed": (_c.c_int, [_c.POINTER(swim_member)]),
     "swim_send_failed": (_c.c_int, [_c.POINTER(swim_member), _c.c_uint32]),
+    "swim_seeds": (_c.c_int, [_c.POINTER(swim_member), _c.POINTER(swim_endpoint), _c.c_size_t, _c.c_uint64]),
     "swim_join": (_c.c_int, [_c.POINTER(swim_member), swim_endpoint]),
     "swim_leave": (_c.c_int, [_c.POINTER(swim_member)]),
     "swim_next_datagram": (_c.c_int, [_c.POINTER(swim_member), _c.POINTER(swim_endpoint), _c.c_void_p, _c.c_size_t, _c.POINTER(_c.c_size_t)]),

@@ -1,16 +1,13 @@
-"""A whole member over UDP under asyncio: it ticks, joins again while it is alone and every 300 ticks, and skips ticks that are late.
+"""A whole member over UDP under asyncio: it ticks, skips ticks that are late, and joins as long as it takes.
 
     async with swim.aio.Member("member.state", settings, peers=[("10.0.0.2", 7000)]) as member:
         ...                     # member.members(), member.changes(), member.status(), as of swim.Member
 """
 
 import asyncio
-import random
-from typing import Any, List, Optional, Sequence, Tuple
+from typing import Any, Optional, Sequence, Tuple
 
 import swim
-
-REJOIN = 300  # ticks
 
 
 class Member(asyncio.DatagramProtocol):
@@ -19,7 +16,7 @@ class Member(asyncio.DatagramProtocol):
 
     def __init__(self, path: Optional[swim.Path], settings: swim.Settings, peers: Sequence[swim.Address] = ()):
         self._settings, self._member = settings, swim.Member(path, settings)
-        self._peers = [*peers, *self._member.stored_peers()]
+        self._member.seeds(peers)
         self.members, self.changes, self.status = self._member.members, self._member.changes, self._member.status
 
     async def start(self) -> None:
@@ -29,8 +26,6 @@ class Member(asyncio.DatagramProtocol):
         except OSError:
             self._member.close()
             raise
-        for peer in self._peers:
-            self._join(peer)
         self._ticks = loop.create_task(self._tick())
         self._ticks.add_done_callback(self._tell)
 
@@ -59,29 +54,12 @@ class Member(asyncio.DatagramProtocol):
         await self.stop()
 
     async def _tick(self) -> None:
-        now, ticks = asyncio.get_running_loop().time, 0
-        due = self._member.advance(now())
+        now = asyncio.get_running_loop().time
         while True:
+            due = self._member.advance(now())
+            self._send()
             await asyncio.sleep(max(0.0, due - now()))
             await asyncio.sleep(0)  # what waits at the socket is read before a tick
-            last, due = due, self._member.advance(now())
-            self._send()
-            ticks += due > last
-            if due > last:
-                self._join_again(ticks)
-
-    def _join_again(self, ticks: int) -> None:
-        status = self._member.status()
-        is_alone = status.alive + status.suspect == 0
-        if ticks % REJOIN == 0 or (is_alone and ticks % self._settings.period == 0):
-            known = [row.who for row in self._member.members() if row.kind != swim.Kind.CONFIRM and row.who != self._settings.me]
-            asked: List[swim.Address] = [random.choice(choices) for choices in (self._peers, known) if choices]
-            for peer in asked:
-                self._join(peer)
-
-    def _join(self, peer: swim.Address) -> None:
-        self._member.join(peer)
-        self._send()
 
     def _send(self) -> None:
         for to, data in self._member.datagrams():

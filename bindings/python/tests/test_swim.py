@@ -75,6 +75,18 @@ def test_late_ticks_are_skipped(member):
     assert [member.advance(now) for now in (5.0, 5.05, 5.1, 60.0)] == [5.1, 5.1, 5.2, 60.1]
 
 
+def test_seeds_are_asked_again_by_the_clock(member):
+    member.seeds([PEER])
+    asked = []
+    for now in (1.0, 1.05, 1.1, 1.2, 1.3):
+        member.advance(now)
+        asked.append([to for to, _ in member.datagrams()])
+    assert asked == [[PEER], [], [PEER], [], [PEER]]
+    with pytest.raises(swim.SwimError) as refused:
+        member.seeds([PEER] * (swim.SEEDS_MAX + 1))
+    assert refused.value.code is swim.Code.TOO_MANY
+
+
 def test_changes_are_told_once(member):
     own = swim.Row(swim.Kind.ALIVE, member.members()[0].who, 1)
     assert list(member.changes()) == [swim.Change(now=own, was=None)]

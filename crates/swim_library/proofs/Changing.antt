@@ -32,7 +32,7 @@ finds_same old mid new finds told only = record {
   between = finds.between;
   read = subst (λ (t : Told). AddsAllPages old finds.between t.rows) (sym told) finds.read;
   news = subst (λ (t : Told). AreNews old.told.rows t.rows t.changes.items) (sym told) finds.news;
-  same = record { node = only.node ∙ finds.same.node; outbox = only.outbox ∙ finds.same.outbox; notes = only.notes ∙ finds.same.notes; due = only.due ∙ finds.same.due; limit = only.limit ∙ finds.same.limit };
+  same = record { node = only.node ∙ finds.same.node; outbox = only.outbox ∙ finds.same.outbox; notes = only.notes ∙ finds.same.notes; due = only.due ∙ finds.same.due; seeking = only.seeking ∙ finds.same.seeking; limit = only.limit ∙ finds.same.limit };
 }
 
 -- no change waits though it was looked for

@@ -10,6 +10,12 @@ use Rattle.swim_disk.specs.contracts.open_file.OpenFile as OpenFile
 use Rattle.swim_disk.specs.contracts.past.Call as Call
 use Rattle.swim_node.proofs.Crosses.{Node-send}
 use Rattle.swim_trace.proofs.Crosses.{Trace-send}
+use Rattle.swim_shell.specs.contracts.joiner.Joiner as Joiner
+use Rattle.swim_shell.specs.contracts.joiner.Joiner.TheInside as JoinerInside
+use Rattle.swim_shell.specs.contracts.news_log.News as News
+use Rattle.swim_shell.specs.contracts.news_log.News.TheInside as NewsInside
+use Rattle.swim_shell.specs.contracts.peers.Peers as Peers
+use Rattle.swim_shell.specs.contracts.peers.Peers.TheInside as PeersInside
 use Rattle.swim_library.specs.contracts.running.Running as Running
 
 pub Call-send : IsSend Call.the_row
@@ -55,5 +61,14 @@ FileDisk-send = view_send FileInside.the_row _ _ _ _ (recorded_send FileInside.t
 ))
     )
 
+pub Peers-send : IsSend Peers.the_row
+Peers-send = view_send PeersInside.the_row _ _ _ _ (recorded_send PeersInside.the_field.row _ _ PeersInside.the_type.to_one (struct_send (shape PeersInside.the_type) (search (sendable, crosses, Trace-send) depth 60 fits 20000, (search (sendable, crosses, Trace-send) depth 60 fits 20000, (search (sendable, crosses, Trace-send) depth 60 fits 20000, (search (sendable, crosses, Trace-send) depth 60 fits 20000, (search (sendable, crosses, Trace-send) depth 60 fits 20000, tt)))))))
+
+pub News-send : IsSend News.the_row
+News-send = view_send NewsInside.the_row _ _ _ _ (recorded_send NewsInside.the_field.row _ _ NewsInside.the_type.to_one (struct_send (shape NewsInside.the_type) (search (sendable, crosses, Trace-send) depth 60 fits 20000, (search (sendable, crosses, Trace-send) depth 60 fits 20000, (search (sendable, crosses, Trace-send) depth 60 fits 20000, tt)))))
+
+pub Joiner-send : IsSend Joiner.the_row
+Joiner-send = view_send JoinerInside.the_row _ _ _ _ (recorded_send JoinerInside.the_field.row _ _ JoinerInside.the_type.to_one (struct_send (shape JoinerInside.the_type) (search (sendable, crosses, Trace-send) depth 60 fits 20000, (search (sendable, crosses, Trace-send) depth 60 fits 20000, (search (sendable, Peers-send), (search (sendable, crosses, Trace-send) depth 60 fits 20000, (search (sendable, crosses, Trace-send) depth 60 fits 20000, (search (sendable, crosses, Trace-send) depth 60 fits 20000, (search (sendable, crosses, Trace-send) depth 60 fits 20000, (search (sendable, crosses, Trace-send) depth 60 fits 20000, (search (sendable, crosses, Trace-send) depth 60 fits 20000, (search (sendable, crosses, Trace-send) depth 60 fits 20000, (search (sendable, News-send), (search (sendable, crosses, Trace-send) depth 60 fits 20000, (search (sendable, crosses, Trace-send) depth 60 fits 20000, (search (sendable, crosses, Trace-send) depth 60 fits 20000, (search (sendable, crosses, Trace-send) depth 60 fits 20000, tt)))))))))))))))))
+
 pub Running-send : IsSend Running.the_row
-Running-send = search (sendable, crosses, Trace-send, Node-send, FileDisk-send) depth 60 fits 20000
+Running-send = search (sendable, crosses, Trace-send, Node-send, FileDisk-send, Joiner-send) depth 60 fits 20000

@@ -4,4 +4,5 @@ mod Dealing
 mod Doing
 mod Entering
 mod Owned
+mod Turning
 mod Waiting

@@ -69,6 +69,7 @@ pub record OnlyTells (old new : Running) : Type 0 where
   pub outbox : new.outbox ≡ old.outbox
   pub notes : new.notes ≡ old.notes
   pub due : new.due ≡ old.due
+  pub seeking : new.seeking ≡ old.seeking
   pub limit : new.limit ≡ old.limit
 
 -- all pages were read, and the changes to their rows from those that were told wait to be told

@@ -24,6 +24,7 @@ code_of (why.Settings fault) = 10 + setting_number fault
 code_of (why.Opening fault) = 20 + number_of_open fault
 code_of (why.Making fault) = 30 + number_of_init fault
 code_of (why.Keeping fault) = 40 + number_of_save fault
+code_of why.TooMany = 54
 
 abbrev pub code_of_result : {T : Type 0} → Result T Refusal → ℕ
 code_of_result (Ok done) = OK

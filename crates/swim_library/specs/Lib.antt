@@ -7,4 +7,5 @@ pub mod Opening
 pub mod Outbox
 pub mod Pacing
 pub mod Running
+pub mod Seeking
 pub mod Shapes

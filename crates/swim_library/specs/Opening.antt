@@ -1,5 +1,5 @@
 -- What an opening gives.
-use Rattle.std.specs.Prelude.{◌≡◌, ◌↔◌, ◌⊎◌, ◌<◌, ℕ, [], ⊤, Some}
+use Rattle.std.specs.Prelude.{◌≡◌, ◌↔◌, ◌⊎◌, ◌<◌, ℕ, [], ⊤, Some, None}
 use Rattle.swim_disk.specs.Disk.{IsSettled}
 use Rattle.swim_disk.specs.File.{FileView, file_state}
 use Rattle.swim_member.specs.Checks.{fault_of}
@@ -29,12 +29,14 @@ pub record Begins (settings : Settings) (limit : ℕ) (node : NodeView FileView)
   pub living : IsLiving file_state node.owner (life_of settings limit opened [] node)
   pub ends : MayEnd file_state node
 
--- a member whose life has begun so, of which nothing waits, and that has told of nobody
+-- a member whose life has begun so, of which nothing waits, that has told of nobody and was told of
+-- no seeds
 pub record OpensOn (settings : Settings) (limit : ℕ) (running : Running) : Type 0 where
   pub begins : Begins settings limit running.node
   pub waits : waiting_in running.outbox ≡ []
   pub told : running.told.rows ≡ []
   pub untold : running.told.changes.items ≡ []
+  pub seeks : running.seeking.joiner ≡ None
 
 -- What a refusal says of the file: a limit is refused where it is out of its range, and no other
 -- one. Which file the descriptor is no definition can say, so nothing is said of one that is

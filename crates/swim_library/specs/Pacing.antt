@@ -2,6 +2,7 @@
 use Rattle.std.specs.Prelude.{◌≡◌, ◌⊎◌, ℕ, ◌+◌, ◌-◌, ◌^◌, ◌<◌, ◌≤◌}
 use Rattle.std.specs.Prelude.{List, Some, min, nat_le, unwrap_or, if◌then◌else◌}
 use Rattle.swim_library.specs.Running.{EntersTick}
+use Rattle.swim_library.specs.Seeking.{Seeks, SeeksInVain}
 use Rattle.swim_library.specs.declared.running.Running.{Running}
 use Rattle.swim_library.specs.declared.pacing.TheConstants.{TICK_MS}
 
@@ -25,6 +26,7 @@ pub record OnlyAwaits (old new : Running) (next : ℕ) : Type 0 where
   pub outbox : new.outbox ≡ old.outbox
   pub notes : new.notes ≡ old.notes
   pub told : new.told ≡ old.told
+  pub seeking : new.seeking ≡ old.seeking
   pub limit : new.limit ≡ old.limit
 
 -- no tick was due yet, and when it is was told
@@ -45,3 +47,22 @@ pub record MakesTick (old new : Running) (now next : ℕ) : Type 0 where
 -- the one or the other
 abbrev pub Advances : Running → Running → ℕ → ℕ → Type 0
 Advances old new now next = AwaitsTick old new now next ⊎ MakesTick old new now next
+
+-- the tick that was due was made, if one was, and then the joiner had its turn, if there is one
+pub record FollowsClock (old new : Running) (now next : ℕ) : Type 0 where
+  pub due : ℕ
+  pub between : Running
+  pub ticks : Advances old between now due
+  pub seeks : Seeks between new now due next
+
+-- the same, but that memory was short for what the joiner was to do
+pub record SeeksInVainAfter (old new : Running) (now : ℕ) : Type 0 where
+  pub due : ℕ
+  pub between : Running
+  pub ticks : Advances old between now due
+  pub seeks : SeeksInVain between new now
+
+-- memory was short for the tick that was due, and nothing changed; or after it
+abbrev pub FollowsInVain : Running → Running → ℕ → Type 0
+FollowsInVain old new now =
+    ((tick_due old now ≤ now) × (new ≡ old)) ⊎ SeeksInVainAfter old new now

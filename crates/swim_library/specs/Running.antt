@@ -51,6 +51,7 @@ pub record AddsTo (old new : Running) (event : Event) (reply : Reply) : Type 0 w
       ≡ waiting_in old.outbox ++ taken_by entry.outs.items entry.outcomes.items
   pub told : new.told ≡ old.told
   pub due : new.due ≡ old.due
+  pub seeking : new.seeking ≡ old.seeking
   pub owner : new.node.owner ≡ old.node.owner
   pub first : new.node.first ≡ old.node.first
   pub lives : LivesOn old.node new.node
@@ -80,6 +81,7 @@ pub record Hands (old new : Running) (to : SwimEndpoint) (bytes : List ℕ) : Ty
   pub notes : new.notes ≡ old.notes
   pub told : new.told ≡ old.told
   pub due : new.due ≡ old.due
+  pub seeking : new.seeking ≡ old.seeking
 
 -- these rows are those of the page that was answered
 pub record ShowsRows (old new : Running) (event : Event) (rows : List SwimRow) : Type 0 where
@@ -93,6 +95,7 @@ pub record GoesOnOpen (old new : Running) : Type 0 where
   pub notes : new.notes ≡ old.notes
   pub told : new.told ≡ old.told
   pub due : new.due ≡ old.due
+  pub seeking : new.seeking ≡ old.seeking
   pub owner : new.node.owner ≡ old.node.owner
   pub first : new.node.first ≡ old.node.first
   pub lives : LivesOn old.node new.node

@@ -108,6 +108,7 @@ impl Running {
         ensures added { IfOk result (λ reply. AddsTo self.old self.new event reply) }
         ensures notes { self.new.notes ≡ self.old.notes }
         ensures told { (self.new.told ≡ self.old.told) × (self.new.due ≡ self.old.due) }
+        ensures seeking { self.new.seeking ≡ self.old.seeking }
         ensures refused { IfErr result (λ refusal. refusal ≡ why.NoMemory) }
         ensures same { OnErr result (self.new ≡ self.old) }
     {

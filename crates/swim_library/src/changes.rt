@@ -93,6 +93,7 @@ impl Running {
         ensures same { OnErr result (self.new ≡ self.old) }
         ensures unread { OnErr result (rows.new ≡ rows.old) }
         ensures told { self.new.told ≡ self.old.told }
+        ensures seeking { self.new.seeking ≡ self.old.seeking }
     {
         let after = match rows.last() {
             Some(last) => Cursor::at(last),
@@ -108,11 +109,12 @@ impl Running {
     }
 
     /// Reads all rows, page by page.
-    fn read_rows(&mut self) -> Result<Rows, Refusal>
+    pub(crate) fn read_rows(&mut self) -> Result<Rows, Refusal>
         ensures read { IfOk result (AddsAllPages self.old self.new) }
         ensures refused { IfErr result (λ refusal. refusal ≡ why.NoMemory) }
         ensures in_vain { OnErr result (ReadsInVain self.old self.new) }
         ensures told { self.new.told ≡ self.old.told }
+        ensures seeking { self.new.seeking ≡ self.old.seeking }
     {
         let mut rows = Rows::new();
         for _ in 0..PAGES_MAX {

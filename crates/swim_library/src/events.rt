@@ -1,11 +1,12 @@
 //! The events of a member, and what it is to send.
 
 ghost use Rattle.std.specs.Prelude.{◌≡◌, ◌≢◌, ◌<◌, ◌≤◌, [], List, ℕ, length, take as first, Some, None};
-ghost use Rattle.swim_library.specs.Codes.{CLOSED, IsDoneOrLacks, NO_ENDPOINT, NOTHING, OK, WAITING};
+ghost use Rattle.swim_library.specs.Codes.{CLOSED, IsDoneOrLacks, NO_ENDPOINT, NO_MEMORY, NOTHING, OK, WAITING};
 ghost use Rattle.swim_library.specs.Holding.{TriesToEnter, HandleBecomes, held};
 ghost use Rattle.swim_library.specs.Outbox.{waiting_in};
-ghost use Rattle.swim_library.specs.Pacing.{Advances, tick_due};
+ghost use Rattle.swim_library.specs.Pacing.{FollowsClock, FollowsInVain, tick_due};
 ghost use Rattle.swim_library.specs.Running.{EntersEvent, EntersTick, Hands};
+ghost use Rattle.swim_library.specs.Seeking.{HasNoTurn};
 ghost use Rattle.swim_library.specs.Shapes.{number_of_endpoint};
 ghost use Rattle.swim_library.specs.declared.running.Running.{Running};
 ghost use Rattle.swim_member.specs.declared.event.Event.TheVariants.{Datagram, Join, Leave, ReceiveFailed, SendFailed};
@@ -59,7 +60,8 @@ pub extern "C" fn swim_library_tick(member: &mut SwimMember, random: u64) -> u32
     }
 }
 
-/// Time is what the clock says: one tick goes by if one is due, however late it is.
+/// Time is what the clock says: one tick goes by if one is due, however late it is. Then the member joins whom its joiner has it join.
+/// Where memory is short for that, the tick was made, and the join is due at the next call too.
 #[unsafe(no_mangle)]
 pub extern "C" fn swim_library_advance(
     member: &mut SwimMember,
@@ -68,12 +70,15 @@ pub extern "C" fn swim_library_advance(
     next: &mut u64,
 ) -> u32
     ensures advanced { result ≡ OK → HandleBecomes member.old member.new
-        (λ before after. Advances before after now next.new) }
-    ensures refused { result ≢ OK → held member.new ≡ held member.old }
+        (λ before after. FollowsClock before after now next.new) }
+    ensures lacks { result ≡ NO_MEMORY → HandleBecomes member.old member.new
+        (λ before after. FollowsInVain before after now) }
+    ensures refused { result ≢ OK → result ≢ NO_MEMORY → held member.new ≡ held member.old }
     ensures unwritten { result ≢ OK → next.new ≡ next.old }
     ensures closed { held member.old ≡ None → result ≡ CLOSED }
     ensures early { (running : Running) → held member.old ≡ Some running
         → now < tick_due running now
+        → HasNoTurn running
         → result ≡ OK }
     ensures waits { (running : Running) → held member.old ≡ Some running
         → tick_due running now ≤ now
@@ -86,7 +91,7 @@ pub extern "C" fn swim_library_advance(
     match take(member) {
         None => code(Err(Refusal::Closed)),
         Some(mut running) => {
-            let done = running.advance(now, random);
+            let done = running.follow_clock(now, random);
             put(member, running);
             match done {
                 Ok(due) => {

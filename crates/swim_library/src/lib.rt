@@ -15,6 +15,7 @@ mod outbox;
 mod pacing;
 mod refusal;
 mod running;
+mod seeking;
 mod shapes;
 
 pub use handle::SwimMember;

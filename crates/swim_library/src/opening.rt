@@ -19,6 +19,7 @@ use crate::handle::{SwimMember, put, take};
 use crate::outbox::Outbox;
 use crate::refusal::{Refusal, code};
 use crate::running::Running;
+use crate::seeking::Seeking;
 use crate::shapes::SwimSettings;
 use arrayvec::ArrayVec;
 use os::{FromRawFd, duplicate};
@@ -100,6 +101,7 @@ fn running_on(
         → IsErrOf result why.Address }
 {
     let settings = given.checked()?;
+    let seeking = Seeking::of(&settings);
     let node = node_on(alloc, fd, settings, limit)?;
     let running = Running {
         node,
@@ -107,6 +109,7 @@ fn running_on(
         notes: ArrayVec::new(),
         told: Told::new(),
         due: None,
+        seeking,
         limit,
     };
     match Box::new(alloc, running) {

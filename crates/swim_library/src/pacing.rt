@@ -1,8 +1,9 @@
 //! Ticks by the program's clock.
 
-ghost use Rattle.std.specs.Prelude.{◌≡◌, ◌≢◌, ◌<◌, ◌≤◌, ◌↔◌, [], IfErr, IfOk, IsErrOf, IsOk, OnErr};
+ghost use Rattle.std.specs.Prelude.{◌≡◌, ◌≢◌, ◌<◌, ◌≤◌, [], IfErr, IfOk, IsErrOf, IsOk, OnErr};
 ghost use Rattle.swim_library.specs.Outbox.{waiting_in};
-ghost use Rattle.swim_library.specs.Pacing.{Advances, a_tick_after, next_tick_due, tick_due};
+ghost use Rattle.swim_library.specs.Pacing.{Advances, FollowsClock, FollowsInVain, a_tick_after, next_tick_due, tick_due};
+ghost use Rattle.swim_library.specs.Seeking.{HasNoTurn};
 ghost use Rattle.swim_library.specs.declared.refusal.Refusal.TheVariants as why;
 
 use crate::refusal::Refusal;
@@ -38,11 +39,12 @@ impl Running {
     }
 
     /// Makes the tick that is due, if one is, and says when the next one is.
-    pub(crate) fn advance(&mut self, now: u64, random: u64) -> Result<u64, Refusal>
+    fn advance(&mut self, now: u64, random: u64) -> Result<u64, Refusal>
         ensures advances { IfOk result (Advances self.old self.new now) }
         ensures early { now < tick_due self.old now → IsOk result }
-        ensures waits { tick_due self.old now ≤ now
-            → (IsErrOf result why.Waiting ↔ (waiting_in self.old.outbox ≢ [])) }
+        ensures waits { IsErrOf result why.Waiting → waiting_in self.old.outbox ≢ [] }
+        ensures late { tick_due self.old now ≤ now → waiting_in self.old.outbox ≢ []
+            → IsErrOf result why.Waiting }
         ensures refused { IfErr result (λ refusal. refusal ≢ why.Waiting
             → refusal ≡ why.NoMemory) }
         ensures same { OnErr result (self.new ≡ self.old) }
@@ -60,5 +62,24 @@ impl Running {
             }
             Err(refusal) => Err(refusal),
         }
+    }
+
+    /// Time is what the program's clock says: makes the tick that is due, if one is, and then its joiner has a turn. Says when to call
+    /// again.
+    #[tactic(auto, using(crate::proofs::Turning::follows, crate::proofs::Turning::follows_in_vain))]
+    pub(crate) fn follow_clock(&mut self, now: u64, random: u64) -> Result<u64, Refusal>
+        ensures follows { IfOk result (FollowsClock self.old self.new now) }
+        ensures early { now < tick_due self.old now → HasNoTurn self.old → IsOk result }
+        ensures waits { IsErrOf result why.Waiting → waiting_in self.old.outbox ≢ [] }
+        ensures late { tick_due self.old now ≤ now → waiting_in self.old.outbox ≢ []
+            → IsErrOf result why.Waiting }
+        ensures refused { IfErr result (λ refusal. refusal ≢ why.Waiting
+            → refusal ≡ why.NoMemory) }
+        ensures same { IsErrOf result why.Waiting → self.new ≡ self.old }
+        ensures in_vain { IsErrOf result why.NoMemory
+            → FollowsInVain self.old self.new now }
+    {
+        let due = self.advance(now, random)?;
+        self.seek(now, due)
     }
 }

@@ -36,6 +36,8 @@ pub(crate) enum Refusal {
     Making(InitFault),
     /// The peers were not saved.
     Keeping(SaveFault),
+    /// More seeds than a member may be told of.
+    TooMany,
 }
 
 impl Refusal {
@@ -57,6 +59,7 @@ impl Refusal {
             Refusal::Opening(fault) => 20 + u32::from(fault.number()),
             Refusal::Making(fault) => 30 + u32::from(fault.number()),
             Refusal::Keeping(fault) => 40 + u32::from(fault.number()),
+            Refusal::TooMany => 54,
         }
     }
 }

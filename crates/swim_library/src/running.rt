@@ -4,6 +4,7 @@ ghost use Rattle.std.specs.Prelude.{◌≡◌, ◌<◌, length};
 
 use crate::changes::Told;
 use crate::outbox::Outbox;
+use crate::seeking::Seeking;
 use arrayvec::ArrayVec;
 use swim_disk::FileDisk;
 use swim_member::{NOTES_MAX, Note};
@@ -20,6 +21,8 @@ pub(crate) struct Running {
     pub(crate) told: Told,
     /// When the next tick is due by the program's clock, in milliseconds; none before it was told.
     pub(crate) due: Option<u64>,
+    /// Who looks for the members of the group.
+    pub(crate) seeking: Seeking,
     /// How many entries an era has.
     pub(crate) limit: u32,
     ghost limit_is: { node.base.limit ≡ limit },

@@ -9,6 +9,7 @@
  *     calls order               each turn probes each other member once, in an order that the random words give
  *     calls changes             changes are told once each and in order, and lead to the rows that swim_members has
  *     calls clock               ticks are made by the clock, and those that are late are skipped
+ *     calls seeds               whom a member joins that was told of seeds, and when: alone, once answered, and each 300 ticks
  *     calls make                a making that is killed at any moment leaves its path whole or not there
  *     calls fork                a handle that was open is refused in the child of a fork, which may close it
  *     calls threads             calls of four threads on one handle: whoever meets another is told, and nothing breaks
@@ -89,6 +90,7 @@ int __wrap_fsync(int fd) {
 /* What is sent to a member. */
 
 #define ME_PORT 7801
+#define KIND_JOIN 4 /* docs/FORMATS.md */
 #define MAKES 300
 #define LOOPBACK 0x7f000001u
 
@@ -151,7 +153,8 @@ static uint64_t take_all(struct swim_member *m) {
 static void misuse(void) {
     struct swim_member m = SWIM_CLOSED_MEMBER, other = SWIM_CLOSED_MEMBER;
     struct swim_settings settings = sound();
-    struct swim_endpoint none = {LOOPBACK, 0}, to = {1, 2}, peers[SWIM_PEERS_MAX];
+    struct swim_endpoint none = {LOOPBACK, 0}, to = {1, 2}, peers[SWIM_PEERS_MAX], both[] = {peer, none};
+    struct swim_endpoint many[SWIM_SEEDS_MAX + 1];
     struct swim_row rows[SWIM_MEMBERS_MAX], was = {0};
     struct swim_status status;
     uint8_t bytes[SWIM_DATAGRAM_MAX], notes[SWIM_NOTES_MAX], noise[600];
@@ -160,6 +163,8 @@ static void misuse(void) {
     char path[] = "misuse.state";
 
     memset(noise, 0xa5, sizeof noise);
+    for (size_t i = 0; i <= SWIM_SEEDS_MAX; i++)
+        many[i] = peer;
     holds(swim_version() == SWIM_VERSION, "the version");
     want("open null", swim_open(NULL, path, &settings, 1), SWIM_NULL);
     want("open no path", swim_open(&m, NULL, &settings, 1), SWIM_NULL);
@@ -176,6 +181,8 @@ static void misuse(void) {
     want("receive_failed null", swim_receive_failed(NULL), SWIM_NULL);
     want("send_failed null", swim_send_failed(NULL, 1), SWIM_NULL);
     want("join null", swim_join(NULL, peer), SWIM_NULL);
+    want("seeds null", swim_seeds(NULL, &peer, 1, 1), SWIM_NULL);
+    want("null seeds", swim_seeds(&m, NULL, 1, 1), SWIM_NULL);
     want("leave null", swim_leave(NULL), SWIM_NULL);
     want("next null", swim_next_datagram(NULL, &to, bytes, sizeof bytes, &n), SWIM_NULL);
     want("members null", swim_members(NULL, rows, 1, &n), SWIM_NULL);
@@ -194,6 +201,7 @@ static void misuse(void) {
     want("receive_failed closed", swim_receive_failed(&m), SWIM_CLOSED);
     want("send_failed closed", swim_send_failed(&m, 1), SWIM_CLOSED);
     want("join closed", swim_join(&m, peer), SWIM_CLOSED);
+    want("seeds closed", swim_seeds(&m, &peer, 1, 1), SWIM_CLOSED);
     want("leave closed", swim_leave(&m), SWIM_CLOSED);
     want("next closed", swim_next_datagram(&m, &to, bytes, sizeof bytes, &n), SWIM_CLOSED);
     want("members closed", swim_members(&m, rows, SWIM_MEMBERS_MAX, &n), SWIM_CLOSED);
@@ -263,6 +271,8 @@ static void misuse(void) {
     want("next of none", swim_next_datagram(&m, &to, bytes, sizeof bytes, &n), SWIM_NOTHING);
     holds(n == 77 && to.port == 2, "NOTHING writes nothing");
     want("join no endpoint", swim_join(&m, none), SWIM_NO_ENDPOINT);
+    want("seeds no endpoint", swim_seeds(&m, both, 2, 1), SWIM_NO_ENDPOINT);
+    want("too many seeds", swim_seeds(&m, many, SWIM_SEEDS_MAX + 1, 1), SWIM_TOO_MANY);
     want("receive from port 0", swim_receive(&m, none, noise, 600), SWIM_OK);
     want("it is no event", swim_notes(&m, notes, &n), SWIM_OK);
     holds(n == 0, "and notes nothing");
@@ -454,7 +464,7 @@ static struct swim_endpoint some_endpoint(void) {
 
 static int one_call(struct swim_member *m) {
     uint8_t bytes[700], notes[SWIM_NOTES_MAX];
-    struct swim_endpoint to, peers[SWIM_PEERS_MAX];
+    struct swim_endpoint to, peers[SWIM_PEERS_MAX], seeds[SWIM_SEEDS_MAX + 1];
     struct swim_row rows[SWIM_MEMBERS_MAX], was;
     struct swim_status status = {0};
     struct swim_settings settings = sound();
@@ -475,6 +485,10 @@ static int one_call(struct swim_member *m) {
     case 10: return swim_open_memory(m, &settings, 1 + (uint32_t)below(4));
     case 11: return swim_next_change(m, rows, &was);
     case 12: return swim_advance(m, below(50) == 0 ? draw() : (now += below(300)), draw(), &next);
+    case 13:
+        for (n = 0; n <= SWIM_SEEDS_MAX; n++)
+            seeds[n] = some_endpoint();
+        return swim_seeds(m, seeds, below(SWIM_SEEDS_MAX + 2), draw());
     default: break;
     }
     if (below(3) == 0)
@@ -605,7 +619,7 @@ static int be_child(struct swim_member *m, int told) {
         swim_tick(m, 1), swim_receive(m, peer, bytes, 0), swim_receive_failed(m), swim_send_failed(m, 1), swim_join(m, peer),
         swim_leave(m), swim_next_datagram(m, &to, bytes, sizeof bytes, &n), swim_members(m, NULL, 0, &n),
         swim_get_status(m, &status), swim_notes(m, bytes, &n), swim_stored_peers(m, peers, &n), swim_keep_peers(m),
-        swim_next_change(m, &row, &was), swim_advance(m, 0, 1, &next),
+        swim_next_change(m, &row, &was), swim_advance(m, 0, 1, &next), swim_seeds(m, &peer, 1, 1),
     };
     for (size_t i = 0; i < sizeof codes / sizeof *codes; i++)
         if (codes[i] != SWIM_FORKED)
@@ -810,6 +824,90 @@ static void follow_clock(void) {
     want("close", swim_close(&m), SWIM_OK);
 }
 
+/* The joins that a member sends as it is called when it wants to be: when they were sent, and to whom. */
+struct joins {
+    struct swim_member *m;
+    uint64_t now, when[64];
+    uint16_t ports[64];
+    int count;
+};
+
+/* Goes on until then. Late calls are none here, and a call is wanted each tick at least. */
+static void join_until(struct joins *joins, uint64_t end) {
+    uint8_t bytes[SWIM_DATAGRAM_MAX];
+    struct swim_endpoint to;
+    uint64_t next;
+    size_t length;
+    while (joins->now < end) {
+        want("advance", swim_advance(joins->m, joins->now, draw(), &next), SWIM_OK);
+        holds(next >= joins->now && next <= joins->now + 100, "it is to be called within a tick");
+        while (swim_next_datagram(joins->m, &to, bytes, sizeof bytes, &length) == SWIM_OK)
+            if (bytes[5] == KIND_JOIN && joins->count < 64) {
+                joins->when[joins->count] = joins->now;
+                joins->ports[joins->count++] = to.port;
+            }
+        joins->now = next;
+    }
+}
+
+/* Alone with one seed: again after 100, 200 and 400 ms, each period up to the tenth, and then each third one. */
+static void seek_alone(struct joins *joins) {
+    static const uint64_t whens[] = {0, 100, 300, 700, 1700, 2700, 3700, 4700, 5700, 6700, 9700, 12700};
+    const int expected = sizeof whens / sizeof *whens;
+    join_until(joins, 15000);
+    holds(joins->count == expected, "how often a lone member asks");
+    for (int i = 0; i < expected; i++)
+        holds(joins->ports[i] == peer.port && joins->when[i] == whens[i], "a lone member asks its seed, at these times");
+}
+
+/* Somebody answers, after more than one was asked: so the list begins again. Then each of the others is joined once, in turn, a
+   sixteenth of the time `direct` after the one before or, where a tick comes between, up to twice as late. */
+static void seek_answered(struct joins *joins) {
+    uint8_t bytes[SWIM_DATAGRAM_MAX];
+    unsigned long seen = 0;
+    joins->count = 0;
+    want("others", swim_receive(joins->m, peer, bytes, presence(bytes)), SWIM_OK);
+    take_all(joins->m);
+    join_until(joins, 17500);
+    holds(joins->count > OTHERS && joins->ports[0] == peer.port, "it asks its seed, and introduces itself");
+    for (int i = 1; i <= OTHERS; i++)
+        seen |= 1ul << (joins->ports[i] - peer.port);
+    holds(seen == (1ul << OTHERS) - 1, "to each once");
+    for (int i = 2; i <= OTHERS; i++)
+        holds(joins->when[i] - joins->when[i - 1] >= 19 && joins->when[i] - joins->when[i - 1] <= 38, "soon");
+}
+
+/* In a group: each 30 seconds one is joined. They are kept alive by what they send. */
+static void seek_now_and_then(struct joins *joins) {
+    uint8_t bytes[SWIM_DATAGRAM_MAX];
+    for (int i = 0; i < 100; i++) {
+        if (i == 0)
+            joins->count = 0;
+        want("others", swim_receive(joins->m, peer, bytes, presence(bytes)), SWIM_OK);
+        take_all(joins->m);
+        join_until(joins, joins->now + 1000);
+    }
+    holds(joins->count >= 3 && joins->count <= 4, "one is joined each 300 ticks");
+}
+
+/* With all memory that an opening takes no turn allocates. By suspect 100,000 nobody is given up meanwhile. */
+static void seek(void) {
+    struct swim_member m = SWIM_CLOSED_MEMBER;
+    struct swim_settings settings = sound();
+    struct joins joins = {&m, 0, {0}, {0}, 0};
+    settings.suspect = 100000;
+    want("open", swim_open_memory(&m, &settings, 1), SWIM_OK);
+    long before = allocations;
+    want("seeds", swim_seeds(&m, &peer, 1, 1), SWIM_OK);
+    seek_alone(&joins);
+    seek_answered(&joins);
+    seek_now_and_then(&joins);
+    want("no seeds", swim_seeds(&m, NULL, 0, 1), SWIM_OK);
+    holds(allocations == before, "no join allocates");
+    want("leave", swim_leave(&m), SWIM_OK);
+    want("close", swim_close(&m), SWIM_OK);
+}
+
 static void random_calls(uint64_t seed, long count) {
     struct swim_member m = SWIM_CLOSED_MEMBER;
     long by_code[64] = {0};
@@ -839,6 +937,8 @@ int main(int argc, char **argv) {
         changes();
     else if (argc >= 2 && strcmp(argv[1], "clock") == 0)
         follow_clock();
+    else if (argc >= 2 && strcmp(argv[1], "seeds") == 0)
+        seek();
     else if (argc >= 2 && strcmp(argv[1], "make") == 0)
         make();
     else if (argc >= 2 && strcmp(argv[1], "fork") == 0)

@@ -1,11 +1,12 @@
 /*
  * A group of 32 members of swim.h in one program, each with an inbox in the place of a socket, in ticks in the place of time. Each
- * looks after itself as docs/EMBEDDING.md says: it reads what waits before it ticks, never makes up for a tick, and joins again.
+ * looks after itself as docs/EMBEDDING.md says: it reads what waits before it ticks, never makes up for a tick, and leaves the joins
+ * to the library, which is told of two seeds.
  *
  *     groups pause      one rests for 300 ticks, and goes on as the page says: nobody else is confirmed by anybody
  *     groups made-up    the same, but for making up for its ticks by swim_tick: others are confirmed, so the trial before sees it
  *     groups cut        the group is cut in halves for 300 ticks: a minute later it is one
- *     groups alone      the same, but for never joining again: it stays in two, so the trial before sees it
+ *     groups alone      the same without seeds, so that nobody joins again: it stays in two, so the trial before sees it
  */
 #include "swim.h"
 
@@ -17,7 +18,6 @@
 #define INBOX 256 /* datagrams that wait at one member; further ones are lost, as with a socket */
 #define FIRST_PORT 7000
 #define LOOPBACK 0x7f000001u
-#define REJOIN 300
 #define MINUTE 600 /* ticks */
 #define TICK_MS 100
 #define SECONDS_30 300
@@ -35,7 +35,7 @@ static struct one {
     int rests;
 } group[MEMBERS];
 
-static int is_cut, joins_again = 1, wrong;
+static int is_cut, wrong;
 static uint64_t state = 1;
 
 static uint64_t draw(void) {
@@ -84,30 +84,20 @@ static void tick(size_t place) {
     send_all(place);
 }
 
-/* By the clock of the program, which tells each millisecond that is a tick's. */
+/* By the clock of the program, which tells each millisecond that is a tick's: then a call as often as one is wanted at once. */
 static void advance(size_t place, int now) {
     uint64_t next, now_ms = (uint64_t)now * TICK_MS;
-    must(swim_advance(&group[place].member, now_ms, draw(), &next), "advance");
-    wrong += next != now_ms + TICK_MS;
-    send_all(place);
+    int calls = 0;
+    do {
+        must(swim_advance(&group[place].member, now_ms, draw(), &next), "advance");
+        send_all(place);
+    } while (next == now_ms && ++calls < 10);
+    wrong += next <= now_ms || next > now_ms + TICK_MS;
 }
 
 static void join(size_t place, struct swim_endpoint peer) {
     must(swim_join(&group[place].member, peer), "join");
     send_all(place);
-}
-
-/* Whom a member asks again: one that it knows by chance, and one that it was given. Here all were given the first and the last. */
-static void join_again(size_t place, int now) {
-    struct swim_row rows[SWIM_MEMBERS_MAX];
-    size_t count;
-    if (!joins_again || (now + (int)place * 7) % REJOIN != 0)
-        return;
-    must(swim_members(&group[place].member, rows, SWIM_MEMBERS_MAX, &count), "members");
-    struct swim_row row = rows[draw() % count];
-    if (row.kind != SWIM_CONFIRM)
-        join(place, (struct swim_endpoint){row.address, row.port});
-    join(place, at(now / REJOIN % 2 == 0 ? 0 : MEMBERS - 1));
 }
 
 static int alive_at(size_t place) {
@@ -138,7 +128,6 @@ static int live(int ticks, size_t rested) {
             if (!group[place].rests) {
                 receive_all(place);
                 advance(place, now);
-                join_again(place, now);
             }
         for (size_t place = 0; place < MEMBERS; place++)
             if (!group[place].rests)
@@ -149,14 +138,18 @@ static int live(int ticks, size_t rested) {
     return most;
 }
 
-static void begin(void) {
+/* All are told of the first and the last, or all but the first join that one, once. */
+static void begin(int has_seeds) {
+    const struct swim_endpoint seeds[] = {at(0), at(MEMBERS - 1)};
     for (size_t place = 0; place < MEMBERS; place++) {
         struct swim_settings settings = SWIM_USUAL_SETTINGS;
         settings.group = 7;
         settings.address = LOOPBACK;
         settings.port = at(place).port;
         must(swim_open_memory(&group[place].member, &settings, 1), "open");
-        if (place > 0)
+        if (has_seeds)
+            must(swim_seeds(&group[place].member, seeds, 2, draw()), "seeds");
+        else if (place > 0)
             join(place, at(0));
     }
     live(MINUTE / 2, MEMBERS);
@@ -203,7 +196,7 @@ static void want(int is_so, const char *about, int count) {
 int main(int argc, char **argv) {
     const char *trial = argc == 2 ? argv[1] : "";
     int found;
-    begin();
+    begin(strcmp(trial, "alone") != 0);
     if (strcmp(trial, "pause") == 0)
         found = rest(0), want(found == 0, "confirms of others after a rest", found);
     else if (strcmp(trial, "made-up") == 0)
@@ -211,7 +204,7 @@ int main(int argc, char **argv) {
     else if (strcmp(trial, "cut") == 0)
         found = cut(), want(found == MEMBERS, "members that know all a minute after a cut", found);
     else if (strcmp(trial, "alone") == 0)
-        joins_again = 0, found = cut(), want(found == 0, "members that know all a minute after a cut, without a join", found);
+        found = cut(), want(found == 0, "members that know all a minute after a cut, without a join", found);
     else
         return 2;
     for (size_t place = 0; place < MEMBERS; place++)

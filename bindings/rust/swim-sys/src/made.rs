@@ -3,11 +3,12 @@
 use std::mem::size_of;
 use std::os::raw::{c_char, c_int, c_void};
 
-pub const SWIM_VERSION: u32 = 1001;
+pub const SWIM_VERSION: u32 = 1002;
 pub const SWIM_DATAGRAM_MAX: usize = 512;
 pub const SWIM_MEMBERS_MAX: usize = 257;
 pub const SWIM_NOTES_MAX: usize = 32;
 pub const SWIM_PEERS_MAX: usize = 8;
+pub const SWIM_SEEDS_MAX: usize = 8;
 pub const SWIM_LIMIT_MAX: u32 = 65536;
 
 pub const SWIM_OK: c_int = 0;
@@ -48,6 +49,7 @@ pub const SWIM_KEEP_EXHAUSTED: c_int = 43;
 pub const SWIM_BUSY: c_int = 51;
 pub const SWIM_FORKED: c_int = 52;
 pub const SWIM_BAD_DESCRIPTOR: c_int = 53;
+pub const SWIM_TOO_MANY: c_int = 54;
 
 pub const SWIM_NOTE_BAD_DATAGRAM: c_int = 1;
 pub const SWIM_NOTE_OTHER_GROUP: c_int = 2;
@@ -183,6 +185,7 @@ extern "C" {
     pub fn swim_receive(member: *mut swim_member, from: swim_endpoint, bytes: *const u8, length: usize) -> c_int;
     pub fn swim_receive_failed(member: *mut swim_member) -> c_int;
     pub fn swim_send_failed(member: *mut swim_member, count: u32) -> c_int;
+    pub fn swim_seeds(member: *mut swim_member, seeds: *const swim_endpoint, count: usize, random: u64) -> c_int;
     pub fn swim_join(member: *mut swim_member, peer: swim_endpoint) -> c_int;
     pub fn swim_leave(member: *mut swim_member) -> c_int;
     pub fn swim_next_datagram(member: *mut swim_member, to: *mut swim_endpoint, bytes: *mut u8, room: usize, length: *mut usize) -> c_int;

@@ -6,10 +6,9 @@ use std::io::{ErrorKind, Read};
 use std::net::{Ipv4Addr, SocketAddr, SocketAddrV4, UdpSocket};
 use std::path::Path;
 use std::time::{Duration, Instant};
-use swim::{Kind, Member, Settings, DATAGRAM_MAX};
+use swim::{Member, Settings, DATAGRAM_MAX};
 
 const LATE: Duration = Duration::from_millis(100); // that a tick may be late for what waits at the socket
-const REJOIN: u64 = 300; // ticks
 
 type Done = Result<(), Box<dyn Error>>;
 
@@ -50,66 +49,18 @@ fn receive_until(member: &mut Member, udp: &UdpSocket, until: Instant) -> Done {
     }
 }
 
-fn join(member: &mut Member, udp: &UdpSocket, peer: SocketAddrV4) -> Done {
-    member.join(peer)?;
-    send_all(member, udp)
-}
-
-/// Asks again: each period while alone, and each 300 ticks. Without it a group that was cut for long stays in two.
-fn join_again(
-    member: &mut Member,
-    udp: &UdpSocket,
-    peers: &[SocketAddrV4],
-    period: u64,
-    ticks: u64,
-    word: u64,
-) -> Done {
-    let status = member.status()?;
-    let is_alone = status.alive + status.suspect == 0;
-    if ticks % REJOIN != 0 && !(is_alone && ticks % period == 0) {
-        return Ok(());
-    }
-    let mut known: Vec<SocketAddrV4> = Vec::new();
-    known.extend(
-        member
-            .members()?
-            .iter()
-            .filter(|row| row.kind != Kind::Confirm)
-            .map(|row| row.who),
-    );
-    for choices in [peers, &known[..]] {
-        if let Some(&peer) = choices.get((word % choices.len().max(1) as u64) as usize) {
-            join(member, udp, peer)?;
-        }
-    }
-    Ok(())
-}
-
-fn run(
-    member: &mut Member,
-    udp: &UdpSocket,
-    peers: &[SocketAddrV4],
-    settings: &Settings,
-    end: Instant,
-) -> Done {
-    let mut random = File::open("/dev/urandom")?;
-    for &peer in peers {
-        join(member, udp, peer)?;
-    }
-    let start = Instant::now();
-    let (mut due, mut ticks) = (member.advance(0, 0)?, 0);
+fn run(member: &mut Member, udp: &UdpSocket, seeds: &[SocketAddrV4], end: Instant) -> Done {
+    let (mut random, start) = (File::open("/dev/urandom")?, Instant::now());
+    let mut word = || -> std::io::Result<u64> {
+        let mut bytes = [0; 8];
+        random.read_exact(&mut bytes)?;
+        Ok(u64::from_ne_bytes(bytes))
+    };
+    member.seeds(seeds, word()?)?;
     while Instant::now() < end {
-        receive_until(member, udp, start + Duration::from_millis(due))?;
-        let mut word = [0; 8];
-        random.read_exact(&mut word)?;
-        let word = u64::from_ne_bytes(word);
-        let next = member.advance(start.elapsed().as_millis() as u64, word)?;
+        let due = member.advance(start.elapsed().as_millis() as u64, word()?)?;
         send_all(member, udp)?;
-        if next != due {
-            due = next;
-            ticks += 1;
-            join_again(member, udp, peers, settings.period, ticks, word)?;
-        }
+        receive_until(member, udp, start + Duration::from_millis(due))?;
     }
     Ok(())
 }
@@ -128,10 +79,9 @@ fn main() -> Done {
     }
     let udp = UdpSocket::bind(settings.me)?;
     let mut member = Member::open(path, &settings, 1)?;
-    let mut peers = member.stored_peers()?;
-    peers.extend((peer != 0).then(|| at(peer)));
+    let seeds: Vec<_> = (peer != 0).then(|| at(peer)).into_iter().collect();
     let end = Instant::now() + Duration::from_secs(seconds.parse()?);
-    run(&mut member, &udp, &peers, &settings, end)?;
+    run(&mut member, &udp, &seeds, end)?;
     for row in member.members()? {
         println!(
             "{} {} {}",

@@ -35,7 +35,7 @@ use std::{error, fmt, io, ptr};
 use swim_sys as sys;
 
 pub use made::{Code, Kind, Note, Phase};
-pub use swim_sys::SWIM_DATAGRAM_MAX as DATAGRAM_MAX;
+pub use swim_sys::{SWIM_DATAGRAM_MAX as DATAGRAM_MAX, SWIM_SEEDS_MAX as SEEDS_MAX};
 
 /// Why a call did nothing.
 #[derive(Debug)]
@@ -299,8 +299,8 @@ impl Member {
         done(unsafe { sys::swim_tick(&mut self.handle, random) })
     }
 
-    /// Makes one tick if one is due by the program's clock, in milliseconds, and answers when the next one is due. Late ticks are
-    /// skipped. Use this or [`Member::tick`], and not both.
+    /// Makes one tick if one is due by the program's clock, in milliseconds, joins whom the seeds call for, and answers when to call
+    /// again. Late ticks are skipped. Use this or [`Member::tick`], and not both.
     pub fn advance(&mut self, now_ms: u64, random: u64) -> Result<u64, Fault> {
         let mut next = 0;
         done(unsafe { sys::swim_advance(&mut self.handle, now_ms, random, &mut next) })?;
@@ -322,7 +322,14 @@ impl Member {
         done(unsafe { sys::swim_send_failed(&mut self.handle, count) })
     }
 
-    /// Asks a member of the group for all that it knows.
+    /// Whom the program knows of its group: [`Member::advance`] joins them, and those that the state file stored, from now on. The
+    /// random bits draw others; the first call's count.
+    pub fn seeds(&mut self, seeds: &[SocketAddrV4], random: u64) -> Result<(), Fault> {
+        let seeds: Vec<_> = seeds.iter().copied().map(to_c).collect();
+        done(unsafe { sys::swim_seeds(&mut self.handle, seeds.as_ptr(), seeds.len(), random) })
+    }
+
+    /// Asks a member of the group for all that it knows, once.
     pub fn join(&mut self, peer: SocketAddrV4) -> Result<(), Fault> {
         done(unsafe { sys::swim_join(&mut self.handle, to_c(peer)) })
     }

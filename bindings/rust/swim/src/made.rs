@@ -15,7 +15,7 @@ pub enum Code {
     Closed,
     /// `SWIM_IS_OPEN`: the handle is open already.
     IsOpen,
-    /// `SWIM_NO_ENDPOINT`: the own port or that of a peer is 0.
+    /// `SWIM_NO_ENDPOINT`: the own port or that of a peer or seed is 0.
     NoEndpoint,
     /// `SWIM_WAITING`: datagrams of the last event wait: take them by swim_next_datagram first.
     Waiting,
@@ -81,6 +81,8 @@ pub enum Code {
     Forked,
     /// `SWIM_BAD_DESCRIPTOR`: it is not open for both reading and writing, or it has O_APPEND.
     BadDescriptor,
+    /// `SWIM_TOO_MANY`: more than SWIM_SEEDS_MAX seeds.
+    TooMany,
     /// One that this crate does not know: the library is newer.
     Unknown(c_int),
 }
@@ -126,6 +128,7 @@ impl Code {
             sys::SWIM_BUSY => Code::Busy,
             sys::SWIM_FORKED => Code::Forked,
             sys::SWIM_BAD_DESCRIPTOR => Code::BadDescriptor,
+            sys::SWIM_TOO_MANY => Code::TooMany,
             _ => Code::Unknown(number),
         }
     }
@@ -170,6 +173,7 @@ impl Code {
             Code::Busy => sys::SWIM_BUSY,
             Code::Forked => sys::SWIM_FORKED,
             Code::BadDescriptor => sys::SWIM_BAD_DESCRIPTOR,
+            Code::TooMany => sys::SWIM_TOO_MANY,
             Code::Unknown(number) => number,
         }
     }

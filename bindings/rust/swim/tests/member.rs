@@ -3,7 +3,7 @@
 use std::error::Error;
 use std::io::ErrorKind;
 use std::net::{Ipv4Addr, SocketAddrV4};
-use swim::{Code, Kind, Member, Note, Phase, Settings, DATAGRAM_MAX};
+use swim::{Code, Kind, Member, Note, Phase, Settings, DATAGRAM_MAX, SEEDS_MAX};
 
 fn at(port: u16) -> SocketAddrV4 {
     SocketAddrV4::new(Ipv4Addr::LOCALHOST, port)
@@ -97,10 +97,28 @@ fn late_ticks_are_skipped() {
 }
 
 #[test]
+fn seeds_are_asked_again_by_the_clock() {
+    let (mut member, mut buffer) = (member(), [0; DATAGRAM_MAX]);
+    member.seeds(&[at(7001)], 1).expect("one seed");
+    let asked = [1000, 1050, 1100, 1200, 1300].map(|now| {
+        member.advance(now, 1).expect("time goes on");
+        let next = member.next_datagram(&mut buffer).expect("it answers");
+        next.map(|(to, _)| to)
+    });
+    let peer = Some(at(7001));
+    assert_eq!(asked, [peer, None, peer, None, peer]);
+    let many = [at(7001); SEEDS_MAX + 1];
+    assert_eq!(member.seeds(&many, 1).unwrap_err().code, Code::TooMany);
+}
+
+#[test]
 fn changes_are_told_once() {
     let mut member = member();
     let change = member.next_change().expect("it answers").expect("itself is new");
-    assert_eq!((change.now, change.was), (Some(member.members().expect("rows")[0]), None));
+    assert_eq!(
+        (change.now, change.was),
+        (Some(member.members().expect("rows")[0]), None)
+    );
     assert_eq!(member.next_change().expect("it answers"), None);
 }
 

@@ -9,5 +9,5 @@ returns-in-Ok-clause-advances c = inr (record {
   between = c.tick.new.self;
   enters = c.in-Ok.ensures.entered.1;
   told = c.due_after-next.ensures ∙ ap (λ (d : ℕ). next_tick_due d c.args.now) c.due_at-due.ensures;
-  same = record { due = refl; node = refl; outbox = refl; notes = refl; told = refl; limit = refl };
+  same = record { due = refl; node = refl; outbox = refl; notes = refl; told = refl; seeking = refl; limit = refl };
 })

@@ -33,6 +33,7 @@ returns-clause-added c =
       waits = made.2.took tt;
       told = refl;
       due = refl;
+      seeking = refl;
       owner = c.end_era_of.ensures.owner ∙ c.in-Ok.ensures.owner;
       first = c.end_era_of.ensures.first ∙ c.in-Ok.ensures.first;
       lives = λ settings limit opened eras lives.

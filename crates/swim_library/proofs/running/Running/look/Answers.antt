@@ -8,5 +8,5 @@ returns-clause-found c = record {
   between = c.read_rows.new.self;
   read = c.in-Ok.ensures.read;
   news = subst (λ (t : Told). AreNews t.rows c.in-Ok.rows c.compare.new.changes.items) c.read_rows.ensures.told c.compare.ensures;
-  same = record { node = refl; outbox = refl; notes = refl; due = refl; limit = refl };
+  same = record { node = refl; outbox = refl; notes = refl; due = refl; seeking = refl; limit = refl };
 }

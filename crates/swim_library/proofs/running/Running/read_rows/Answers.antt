@@ -10,7 +10,7 @@ loop-preserved c =
     let next : suc c.loop.counter ≡ c.loop.counter + 1 = omega arith in (
       subst (λ (n : ℕ). AddsFullPages c.args.self.now n c.read_page.new.self c.read_page.new.rows) next
           (c.loop.self, c.loop.rows, c.loop.invariant.0, subst (λ (b : Bool). AddsPage c.loop.self c.read_page.new.self c.loop.rows c.read_page.new.rows b) full c.in-Ok-true.ensures.read),
-      c.read_page.ensures.told ∙ c.loop.invariant.1,
+      (c.read_page.ensures.told ∙ c.loop.invariant.1.0, c.read_page.ensures.seeking ∙ c.loop.invariant.1.1),
     )
 
 pub returns-clause-read : goal.returns-clause-read

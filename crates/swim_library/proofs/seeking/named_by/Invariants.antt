@@ -1,0 +1,6 @@
+use Rattle.std.proofs.Common.{◌≡◌, take, map}
+use Rattle.swim_library.specs.Shapes.{number_of_endpoint}
+use Rattle.swim_library.proofs.seeking.named_by.Given as goal
+
+abbrev pub invariant-loop-seed : goal.invariant-loop-seed
+invariant-loop-seed l = l.peers.items ≡ map number_of_endpoint (take l.seed-index l.seeds)
