@@ -1,9 +1,9 @@
 //! Colours of states, for a person at a terminal.
 
 ghost use Rattle.std.specs.Prelude.{◌≡◌, ◌≢◌, [], true, false, None};
-ghost use Rattle.swim_ask.specs.Leaving.{may_have_left};
 ghost use Rattle.swim_ask.specs.declared.paint.Paint.TheVariants as paints;
 
+use crate::leaving::may_have_left;
 use std::rt::Env;
 use std::{env, fmt};
 use swim_news::{Change, state_name};
@@ -71,20 +71,6 @@ impl fmt::Display for PaintedKind {
     fn fmt<W: fmt::Write>(&self, f: &mut fmt::Formatter<W>) -> fmt::Result {
         let (begin, name, end) = (self.0.begin(self.1), state_name(self.1), self.0.end());
         write!(f, "{begin}{name:<7}{end}")
-    }
-}
-
-/// Whether a member was alive at one look and failed at the next one: no look found it suspected in between, so it may have left. Its row
-/// does not say.
-fn may_have_left(change: &Change) -> bool
-    ensures { result ≡ may_have_left change.now }
-{
-    match change {
-        Change::Changed { was, now } => matches!(
-            (was.kind, now.kind),
-            (UpdateKind::Alive, UpdateKind::Confirm)
-        ),
-        Change::New(_) | Change::Gone(_) => false,
     }
 }
 

@@ -2,7 +2,7 @@
 
 use crate::group::Group;
 use crate::metrics::count_kind;
-use crate::page::{HEAD, STYLE, TAIL};
+use crate::page::{HEAD, STYLE, TAIL, remark};
 use std::alloc::AllocError;
 use std::fmt::Write;
 use swim_news::state_name;
@@ -64,11 +64,12 @@ fn write_groups(text: &mut String, groups: &[Group]) -> Result<(), AllocError> {
 }
 
 /// Adds the row of a member of a group.
-fn write_member(text: &mut String, group: u64, row: &Update) -> Result<(), AllocError> {
+fn write_member(text: &mut String, group: &Group, row: &Update) -> Result<(), AllocError> {
     let (who, state, number) = (row.who, state_name(row.kind), row.number);
+    let (of, remark) = (group.number, remark(group.seen.leavers.as_slice(), who));
     write!(
         text,
-        "<tr><td>{group}</td><td>{who}</td><td class=\"{state}\">{state}</td><td class=\"number\">{number}</td></tr>\n"
+        "<tr><td>{of}</td><td>{who}</td><td class=\"{state}\">{state}{remark}</td><td class=\"number\">{number}</td></tr>\n"
     )
 }
 
@@ -76,7 +77,7 @@ fn write_member(text: &mut String, group: u64, row: &Update) -> Result<(), Alloc
 fn write_others(text: &mut String, group: &Group) -> Result<(), AllocError> {
     for row in group.seen.rows.as_slice() {
         if row.kind != UpdateKind::Alive {
-            write_member(text, group.number, row)?;
+            write_member(text, group, row)?;
         }
     }
     Ok(())

@@ -23,5 +23,5 @@ pub use directory::directory_response;
 pub use group::Group;
 pub use metrics::write_metrics;
 pub use request::{FIELDS_MAX, HEAD_MAX, Method, Path, Reading, Request, read_request};
-pub use seen::Seen;
+pub use seen::{Members, Seen};
 pub use writing::response;

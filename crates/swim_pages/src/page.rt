@@ -7,7 +7,7 @@ use std::alloc::AllocError;
 use std::fmt::Write;
 use swim_news::state_name;
 use swim_shell::{About, Alone};
-use swim_wire::{Update, UpdateKind};
+use swim_wire::{Endpoint, Update, UpdateKind};
 
 /// What stands before the title.
 pub(crate) const HEAD: &str = r#"<!DOCTYPE html>
@@ -144,33 +144,43 @@ fn write_state(text: &mut String, seen: &Seen) -> Result<(), AllocError> {
     write_about(text, &seen.about)
 }
 
+/// What stands behind the state of a member, where it may have left.
+pub(crate) fn remark(leavers: &[Endpoint], who: Endpoint) -> &'static str {
+    if leavers.contains(&who) {
+        " (it may have left)"
+    } else {
+        ""
+    }
+}
+
 /// Adds the row of a member.
-fn write_row(text: &mut String, row: &Update) -> Result<(), AllocError> {
+fn write_row(text: &mut String, row: &Update, leavers: &[Endpoint]) -> Result<(), AllocError> {
     let (who, state, number) = (row.who, state_name(row.kind), row.number);
+    let remark = remark(leavers, who);
     write!(
         text,
-        "<tr><td>{who}</td><td class=\"{state}\">{state}</td><td class=\"number\">{number}</td></tr>\n"
+        "<tr><td>{who}</td><td class=\"{state}\">{state}{remark}</td><td class=\"number\">{number}</td></tr>\n"
     )
 }
 
 /// Adds the rows of this kind.
-fn write_rows(text: &mut String, kind: UpdateKind, rows: &[Update]) -> Result<(), AllocError> {
-    for row in rows {
+fn write_rows(text: &mut String, kind: UpdateKind, seen: &Seen) -> Result<(), AllocError> {
+    for row in seen.rows.as_slice() {
         if row.kind == kind {
-            write_row(text, row)?;
+            write_row(text, row, seen.leavers.as_slice())?;
         }
     }
     Ok(())
 }
 
 /// Adds the table of all members, those that failed first, and then those that are suspected.
-fn write_table(text: &mut String, rows: &[Update]) -> Result<(), AllocError> {
+fn write_table(text: &mut String, seen: &Seen) -> Result<(), AllocError> {
     text.push_str(
         "<table>\n<caption>Members</caption>\n<thead><tr><th scope=\"col\">Member</th><th scope=\"col\">State</th><th scope=\"col\" class=\"number\">Incarnation</th></tr></thead>\n<tbody>\n",
     )?;
-    write_rows(text, UpdateKind::Confirm, rows)?;
-    write_rows(text, UpdateKind::Suspect, rows)?;
-    write_rows(text, UpdateKind::Alive, rows)?;
+    write_rows(text, UpdateKind::Confirm, seen)?;
+    write_rows(text, UpdateKind::Suspect, seen)?;
+    write_rows(text, UpdateKind::Alive, seen)?;
     text.push_str("</tbody>\n</table>\n")
 }
 
@@ -182,9 +192,8 @@ fn write_views(text: &mut String, seen: &Seen) -> Result<(), AllocError> {
         "views old"
     };
     write!(text, "<div class=\"{class}\">\n")?;
-    let rows = seen.rows.as_slice();
-    write_picture(text, rows)?;
-    write_table(text, rows)
+    write_picture(text, seen.rows.as_slice())?;
+    write_table(text, seen)
 }
 
 /// Adds the whole page.

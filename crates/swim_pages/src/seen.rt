@@ -3,10 +3,15 @@
 ghost use Rattle.std.specs.Prelude.{◌≡◌};
 ghost use Rattle.swim_pages.specs.Answers.{is_alone_in, phase_in};
 
+use arrayvec::ArrayVec;
 use swim_member::Phase;
 use swim_news::Rows;
 use swim_node::Status;
 use swim_shell::{About, Counters};
+use swim_wire::{Endpoint, MEMBERS_MAX};
+
+/// Members of a group, each once.
+pub type Members = ArrayVec<Endpoint, MEMBERS_MAX>;
 
 /// What was read of a member over its control socket.
 #[derive(Drop)]
@@ -15,6 +20,8 @@ pub struct Seen {
     pub status: Option<Status>,
     /// All rows, itself among them, as it showed them last.
     pub rows: Rows,
+    /// Those of the rows that are failed and may have left: nobody was seen to suspect them before.
+    pub leavers: Members,
     /// What it has done since it began; none where it does not tell.
     pub counters: Option<Counters>,
     /// Who it is; none where it does not tell. It stays where the member does not answer any more.

@@ -3,14 +3,19 @@
 use std::alloc::{AllocError, Global};
 use std::sync::Mutex;
 use std::time::{Clock, Duration, Instant, SystemTime, UNIX_EPOCH};
-use swim_ask::Shown;
-use swim_news::Rows;
-use swim_pages::{Group, Reading, Seen, directory_response, response};
+use swim_ask::{Shown, may_have_left};
+use swim_news::{Change, Changes, Rows, compare};
+use swim_pages::{Group, Members, Reading, Seen, directory_response, response};
 use swim_shell::About;
+use swim_wire::Update;
 
 /// For how long what a member said last is shown as what it says, in milliseconds. Then it counts as one that does not answer. Where
 /// several groups are shown it is so long for each of them, since they are asked one after the other.
 const FRESH_MILLIS: u64 = 10_000;
+
+/// For how long after a look the next one tells how a member went, in milliseconds: between two that are further apart it may have been
+/// suspected.
+const CLOSE_MILLIS: u64 = 2_000;
 
 /// By how many seconds the begin of one life may seem to move: clocks tick on between what is told and what is read.
 const DRIFT_SECONDS: u64 = 2;
@@ -40,6 +45,7 @@ fn unseen() -> Seen {
     Seen {
         status: None,
         rows: Rows::new(),
+        leavers: Members::new(),
         counters: None,
         about: None,
         since: None,
@@ -82,8 +88,31 @@ fn is_changed_by(seen: &Seen, look: &Option<Shown>) -> bool {
     has_other_rows || status.phase != look.status.phase || status.number != look.status.number
 }
 
-/// Takes what a member said, or that it did not answer. Rows that it did not show stay.
-fn take_look<C: Clock>(seen: &mut Seen, clock: &C, look: Option<Shown>) {
+/// Whether the member of a row may have left, which may be one of the leavers before these changes. They tell so if they are of two looks
+/// close together.
+fn is_leaver(leavers: &Members, changes: &[Change], is_close: bool, row: &Update) -> bool {
+    match changes.iter().find(|change| change.now() == Some(*row)) {
+        Some(change) => is_close && may_have_left(change),
+        None => leavers.contains(&row.who),
+    }
+}
+
+/// Takes all rows as they are now. Those before may be of a look shortly before.
+fn take_rows(seen: &mut Seen, rows: Rows, is_close: bool) {
+    let mut changes = Changes::new();
+    compare(&seen.rows, &rows, &mut changes);
+    let mut leavers = Members::new();
+    for row in rows.as_slice() {
+        if is_leaver(&seen.leavers, changes.as_slice(), is_close, row) {
+            let _ = leavers.try_push(row.who);
+        }
+    }
+    seen.leavers = leavers;
+    seen.rows = rows;
+}
+
+/// Takes what a member said, or that it did not answer, at a look that may be shortly after the last one. Rows that it did not show stay.
+fn take_look<C: Clock>(seen: &mut Seen, clock: &C, look: Option<Shown>, is_close: bool) {
     let Some(look) = look else {
         seen.status = None;
         return;
@@ -96,7 +125,7 @@ fn take_look<C: Clock>(seen: &mut Seen, clock: &C, look: Option<Shown>) {
     };
     seen.about = look.about;
     if let Some(rows) = look.rows {
-        seen.rows = rows;
+        take_rows(seen, rows, is_close);
     }
 }
 
@@ -111,11 +140,13 @@ impl Times {
 
     /// Takes what the member says now.
     fn take<C: Clock>(&mut self, seen: &mut Seen, clock: &C, look: Option<Shown>) {
+        let close = Duration::from_millis(CLOSE_MILLIS);
+        let is_close = matches!(ago(clock, &self.asked), Some(ago) if ago < close);
         self.asked = Instant::now(clock).ok();
         if is_changed_by(seen, &look) || self.since.is_none() {
             self.since = self.asked;
         }
-        take_look(seen, clock, look);
+        take_look(seen, clock, look, is_close);
     }
 
     /// Brings what is known to the present: for how long it is so, and that a member does not answer that was not asked for so long.
