@@ -3,7 +3,8 @@
 use std::alloc::{AllocError, Global};
 use std::fmt::Write;
 use swim_cli::UpWords;
-use swim_settings::Key;
+use swim_settings::{Key, Preset};
+use swim_words::Word;
 use toml::Value;
 
 /// What the file begins with.
@@ -67,9 +68,8 @@ pub(crate) fn settings_text(
         Key::Control,
         words.control.unwrap_or(usual),
     )?;
-    if let Some(preset) = words.preset {
-        add_text(alloc, &mut text, Key::Preset, preset)?;
-    }
+    let preset = words.preset.unwrap_or(Preset::Lan.text());
+    add_text(alloc, &mut text, Key::Preset, preset)?;
     add(&mut text, Key::Limit, Value::Integer(256))?;
     add(&mut text, Key::Rules, Value::Integer(2))?;
     add(&mut text, Key::Join, value_of_join(alloc, words)?)?;
