@@ -87,6 +87,17 @@ def pages_of_commands(program, date):
     return {f"swim-{command}": page_of(program, date, command) for command in commands}
 
 
+def page_of_script(program, date, script):
+    """The page of a script of the package: its head says what it does, and then how it is called."""
+    name, version = said(program, "--version").split()[:2]
+    lines = [line.lstrip("# ") for line in re.match(r"#!.*\n((?:#.*\n)+)", script.read_text())[1].splitlines()]
+    about, usage = " ".join(lines[:-2]), lines[-1]
+    short, rest = about.split(": ", 1)
+    page = [f'.TH {script.name.upper()} 1 {date} "{name} {version}"', ".SH NAME", rf"{spelled(script.name)} \- {spelled(short[0].lower() + short[1:])}"]
+    page += [".SH SYNOPSIS", f".B {spelled(usage)}", ".SH DESCRIPTION", spelled(rest[0].upper() + rest[1:]), ".SH SEE ALSO", f".BR {name} (1)"]
+    return "\n".join(page) + "\n"
+
+
 def manual(program, date, documents):
     """The page of the whole. `documents` are the paths and the titles of what is installed beside it."""
     whole = help_of(program)

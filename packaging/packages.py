@@ -1,11 +1,13 @@
 """What the scripts that make Debian packages share."""
 
+import gzip
 import hashlib
 import os
 import re
 import shutil
 import subprocess
 import sys
+from email.utils import formatdate
 from pathlib import Path
 
 ROOT = Path(__file__).resolve().parent.parent
@@ -48,6 +50,14 @@ def put_licences(tree, crate, documents):
         if found:
             put(tree, f"{documents}/licences/{name}", found.read_bytes())
     put(tree, f"{documents}/copyright", "\n".join(lines) + "\n")
+
+
+def put_changelog(tree, documents, source, release):
+    """Debian's own change log: what changed is told by the page of the repository."""
+    when = formatdate(int(os.environ["SOURCE_DATE_EPOCH"]), localtime=False).replace("-0000", "+0000")
+    who = output("git", "log", "-1", "--format=%an <%ae>")
+    entry = f"{source} ({release}) unstable; urgency=medium\n\n  * As docs/CHANGELOG.md of the commit says.\n\n -- {who}  {when}\n"
+    put(tree, f"{documents}/changelog.Debian.gz", gzip.compress(entry.encode(), 9, mtime=0))
 
 
 def c_library(*binaries):
