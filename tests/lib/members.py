@@ -142,7 +142,8 @@ class Member:
 class Peer:
     """A socket that speaks to members as another member would."""
 
-    def __init__(self, me=("127.0.0.1", 0)):
+    def __init__(self, me=("127.0.0.1", 0), rules=1):
+        self.rules = rules
         self.socket = socket.socket(socket.AF_INET, socket.SOCK_DGRAM)
         self.socket.bind(me)
         self.me = Endpoint(*self.socket.getsockname())
@@ -152,7 +153,7 @@ class Peer:
     def ping(self, to, *updates):
         """Sends a ping, and gives its sequence."""
         self.sequence += 1
-        self.send(to, encode(Datagram(PING, self.sequence, self.me, to, updates)))
+        self.send(to, encode(Datagram(PING, self.sequence, self.me, to, updates), self.rules))
         return self.sequence
 
     def send(self, to, data):
@@ -162,7 +163,7 @@ class Peer:
         """The next datagram, if one comes within so many seconds."""
         self.socket.settimeout(max(seconds, 0.001))
         try:
-            self.heard.append(decode(self.socket.recv(2048)))
+            self.heard.append(decode(self.socket.recv(2048), self.rules))
         except TimeoutError:
             return None
         return self.heard[-1]
