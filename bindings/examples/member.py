@@ -5,13 +5,14 @@ import select
 import socket
 import sys
 import time
+from typing import List
 
 import swim
 
 LATE = 0.1  # seconds that a tick may be late for what waits at the socket
 
 
-def send_all(member, udp):
+def send_all(member: swim.Member, udp: socket.socket) -> None:
     lost = 0
     for to, data in member.datagrams():
         try:
@@ -22,7 +23,7 @@ def send_all(member, udp):
         member.send_failed(lost)
 
 
-def receive_until(member, udp, due):
+def receive_until(member: swim.Member, udp: socket.socket, due: float) -> None:
     """Hands in what waits, and what comes until then."""
     while select.select([udp], [], [], max(0.0, due - time.monotonic()))[0]:
         data, source = udp.recvfrom(swim.DATAGRAM_MAX + 1)
@@ -32,7 +33,7 @@ def receive_until(member, udp, due):
             return
 
 
-def run(member, udp, seeds, seconds):
+def run(member: swim.Member, udp: socket.socket, seeds: List[swim.Address], seconds: float) -> None:
     member.seeds(seeds)
     end = time.monotonic() + seconds
     while time.monotonic() < end:
@@ -41,7 +42,7 @@ def run(member, udp, seeds, seconds):
         receive_until(member, udp, due)
 
 
-def main():
+def main() -> None:
     path, group, port, peer, seconds = sys.argv[1], *map(int, sys.argv[2:6])
     settings = swim.Settings(group=group, me=("127.0.0.1", port))
     if not os.path.exists(path):

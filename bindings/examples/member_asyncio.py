@@ -3,19 +3,20 @@
 import asyncio
 import os
 import sys
+from typing import List
 
 import swim
 import swim.aio
 
 
-async def run(path, settings, peers, seconds):
+async def run(path: str, settings: swim.Settings, peers: List[swim.Address], seconds: float) -> None:
     async with swim.aio.Member(path, settings, peers) as member:
         await asyncio.sleep(seconds)
         for row in member.members():
             print(row.kind.name.lower(), f"{row.who[0]}:{row.who[1]}", row.number)
 
 
-def main():
+def main() -> None:
     path, group, port, peer, seconds = sys.argv[1], *map(int, sys.argv[2:6])
     settings = swim.Settings(group=group, me=("127.0.0.1", port))
     if not os.path.exists(path):

@@ -5,6 +5,8 @@ import errno
 import pickle
 import socket
 import threading
+from pathlib import Path
+from typing import Callable, Iterator, Union
 
 import pytest
 
@@ -15,33 +17,33 @@ PEER = ("127.0.0.1", 7001)
 
 
 @pytest.fixture
-def settings():
+def settings() -> swim.Settings:
     with socket.socket(socket.AF_INET, socket.SOCK_DGRAM) as udp:
         udp.bind(("127.0.0.1", 0))
         return swim.Settings(group=7, me=udp.getsockname())
 
 
 @pytest.fixture
-def member(settings):
+def member(settings: swim.Settings) -> Iterator[swim.Member]:
     with swim.Member(None, settings) as member:
         yield member
 
 
-def test_errors_tell_their_errno(tmp_path, settings):
+def test_errors_tell_their_errno(tmp_path: Path, settings: swim.Settings) -> None:
     path = tmp_path / "member.state"
     with pytest.raises(swim.SwimError) as refused:
         swim.Member(path, settings)
     assert (refused.value.code, refused.value.errno) == (swim.Code.FILE, errno.ENOENT)
     swim.make(path, settings)
-    with pytest.raises(OSError) as refused:
+    with pytest.raises(OSError) as made_before:
         swim.make(path, settings)
-    assert refused.value.errno == errno.EEXIST
+    assert made_before.value.errno == errno.EEXIST
     with swim.Member(path, settings):
         with pytest.raises(swim.Locked):
             swim.Member(path, settings)
 
 
-def test_codes_are_classes(member):
+def test_codes_are_classes(member: swim.Member) -> None:
     member.join(PEER)
     with pytest.raises(swim.Waiting) as refused:
         member.tick()
@@ -54,28 +56,28 @@ def test_codes_are_classes(member):
 
 
 @pytest.mark.parametrize("address", ["0.0.0.0", "255.255.255.255", "224.0.0.1"])
-def test_no_member_is_reached_at(address):
+def test_no_member_is_reached_at(address: str) -> None:
     with pytest.raises(swim.SwimError) as refused:
         swim.Member(None, swim.Settings(group=7, me=(address, 7000)))
     assert refused.value.code is swim.Code.BAD_ADDRESS
 
 
 @pytest.mark.parametrize("kind", [bytes, bytearray, memoryview])
-def test_any_bytes_are_taken(member, kind):
+def test_any_bytes_are_taken(member: swim.Member, kind: Callable[[bytes], Union[bytes, bytearray, memoryview]]) -> None:
     member.receive(PEER, kind(b"x" * 600))
     assert member.notes() == [swim.Note.BAD_DATAGRAM]
 
 
-def test_port_0_is_left_aside(member):
+def test_port_0_is_left_aside(member: swim.Member) -> None:
     member.receive(("127.0.0.1", 0), b"x")
     assert member.notes() == []
 
 
-def test_late_ticks_are_skipped(member):
+def test_late_ticks_are_skipped(member: swim.Member) -> None:
     assert [member.advance(now) for now in (5.0, 5.05, 5.1, 60.0)] == [5.1, 5.1, 5.2, 60.1]
 
 
-def test_seeds_are_asked_again_by_the_clock(member):
+def test_seeds_are_asked_again_by_the_clock(member: swim.Member) -> None:
     member.seeds([PEER])
     asked = []
     for now in (1.0, 1.05, 1.1, 1.2, 1.3):
@@ -87,7 +89,7 @@ def test_seeds_are_asked_again_by_the_clock(member):
     assert refused.value.code is swim.Code.TOO_MANY
 
 
-def test_changes_are_told_once(member):
+def test_changes_are_told_once(member: swim.Member) -> None:
     own = swim.Row(swim.Kind.ALIVE, member.members()[0].who, 1)
     assert list(member.changes()) == [swim.Change(now=own, was=None)]
     assert list(member.changes()) == []
@@ -95,8 +97,8 @@ def test_changes_are_told_once(member):
     assert list(member.changes()) == [swim.Change(now=swim.Row(swim.Kind.CONFIRM, own.who, 1), was=own)]
 
 
-def test_threads_wait_for_one_another(member):
-    def use():
+def test_threads_wait_for_one_another(member: swim.Member) -> None:
+    def use() -> None:
         for _ in range(200):
             member.receive(PEER, b"x")
             member.members()
@@ -109,13 +111,13 @@ def test_threads_wait_for_one_another(member):
     assert len(member.members()) == 1
 
 
-def test_a_member_is_not_copied(member):
+def test_a_member_is_not_copied(member: swim.Member) -> None:
     with pytest.raises((TypeError, ValueError)):
         pickle.dumps(member)
 
 
-def test_asyncio(tmp_path, settings):
-    async def meet():
+def test_asyncio(tmp_path: Path, settings: swim.Settings) -> None:
+    async def meet() -> bool:
         other = swim.Settings(group=7, me=("127.0.0.1", settings.me[1] + 1 if settings.me[1] < 65535 else 1024))
         async with swim.aio.Member(None, settings, peers=[other.me]) as first:
             await asyncio.sleep(0.3)  # it has asked in vain
