@@ -149,7 +149,7 @@ impl fmt::Display for Changed {
             }
             Fact::Forgotten { since } => write!(f, "forgotten: it was confirm since tick {since}"),
             Fact::Renumbered { from, to } => {
-                write!(f, "the own number is {to} now (it was {from})")
+                write!(f, "the incarnation is {to} now (it was {from})")
             }
             Fact::Left => write!(f, "this member left"),
             _ => write!(f, "this member was expelled"),

@@ -24,7 +24,7 @@ fn comment_of(key: Key) -> &'static str {
         Key::Preset => "# Whose times it takes, the same for all members of the group.",
         Key::Join => "# Whom it joins after the start, at most 8. One that runs is enough.",
         Key::Rules => {
-            "# The rules of the group, the same for all its members. By 2 a member that was held for failed can come back."
+            "# The rules of the group, the same for all its members. By 2 a member that was considered failed can come back."
         }
         _ => "# How many events are kept in memory.",
     }
