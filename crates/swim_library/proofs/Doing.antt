@@ -1,7 +1,8 @@
 -- A call that answers 0 did what it says.
-use Rattle.std.proofs.Common.{◌≡◌, ◌≢◌, ◌∙◌, ℕ, Result, Ok, Err, OnOk, ap, arith, refl, sym}
+use Rattle.std.proofs.Common.{◌≡◌, ◌≢◌, ◌∙◌, ℕ, Option, None, Some, Result, Ok, Err, IfErr, OnOk, ap, arith, refl, sym}
 use Rattle.std.specs.Prelude.{IsErrOf}
 use Rattle.swim_library.specs.Codes.{NOTHING, NO_MEMORY, OK, code_of, code_of_result}
+use Rattle.swim_library.specs.Seeking.{code_of_fault}
 use Rattle.swim_library.specs.declared.refusal.Refusal.{Refusal}
 use Rattle.swim_library.specs.declared.refusal.Refusal.TheVariants as why
 
@@ -24,6 +25,11 @@ refused why.TooMany is = omega (arith, is)
 pub done : {P : Type 0} (result : Result (Unit {0}) Refusal) (code : ℕ) → code ≡ code_of_result result → code ≡ OK → OnOk result P → P
 done (Ok all) code is ok p = p
 done (Err refusal) code is ok p = absurd (refused refusal (rw (sym is) ok))
+
+-- A call that is refused just where this says so answers with the code of it.
+pub said_fault : {T : Type 0} (result : Result T Refusal) (code : ℕ) (fault : Option Refusal) → code ≡ code_of_result result → OnOk result (fault ≡ None) → IfErr result (λ refusal. fault ≡ Some refusal) → code ≡ code_of_fault fault
+said_fault (Ok all) code fault is sound refused = is ∙ sym (ap code_of_fault sound)
+said_fault (Err refusal) code fault is sound refused = is ∙ sym (ap code_of_fault refused)
 
 -- The code of an error says which one it is.
 

@@ -1,6 +1,8 @@
 -- Whom a member joins, as the program's clock goes on: what the joiner of `swim run` asks for.
-use Rattle.std.specs.Prelude.{◌≡◌, ◌≢◌, ◌⊎◌, ◌↔◌, ℕ, ◌+◌, ◌-◌, ◌*◌, ◌/◌, ◌^◌, min, false}
-use Rattle.std.specs.Prelude.{List, [], map, Option, Some, None, IsSome, IfSome}
+use Rattle.std.specs.Prelude.{◌≡◌, ◌≢◌, ◌⊎◌, ◌↔◌, ℕ, ◌+◌, ◌-◌, ◌*◌, ◌/◌, ◌^◌, ◌==◌, nat_lt, min}
+use Rattle.std.specs.Prelude.{List, [], map, length, Option, Some, None, IsSome, IfSome}
+use Rattle.std.specs.Prelude.{Bool, false, if◌then◌else◌}
+use Rattle.std.specs.List.{list_any}
 use Rattle.std.specs.Time.{FitsClock, instant_nanos}
 use Rattle.std.specs.declared.time.Instant.{Instant}
 use Rattle.rand_chacha.specs.ChaCha.{of_seed}
@@ -14,11 +16,15 @@ use Rattle.swim_shell.specs.declared.joiner.Due.{Due}
 use Rattle.swim_shell.specs.declared.joiner.Due.TheVariants.{Drawn, Listed, Look, Nothing}
 use Rattle.swim_shell.specs.declared.paces.Moment.{Moment}
 use Rattle.swim_start.specs.Starting.{peers_to_join}
+use Rattle.swim_state.specs.declared.peers.TheConstants.{PEERS_MAX}
 use Rattle.swim_wire.specs.declared.update.Update.{Update}
 use Rattle.swim_library.specs.Changes.{AddsAllPages, ReadsInVain}
+use Rattle.swim_library.specs.Codes.{OK, code_of}
 use Rattle.swim_library.specs.Outbox.{waiting_in}
 use Rattle.swim_library.specs.Running.{EntersEvent}
 use Rattle.swim_library.specs.Shapes.{number_of_endpoint}
+use Rattle.swim_library.specs.declared.refusal.Refusal.{Refusal}
+use Rattle.swim_library.specs.declared.refusal.Refusal.TheVariants.{NoEndpoint, TooMany}
 use Rattle.swim_library.specs.declared.running.Running.{Running}
 use Rattle.swim_library.specs.declared.seeking.Seeking.{Seeking}
 use Rattle.swim_library.specs.declared.shapes.SwimEndpoint.{SwimEndpoint}
@@ -45,6 +51,21 @@ abbrev pub next_turn : JoinerView → (now due : ℕ) → ℕ
 next_turn j now due = next_turn_by j.drawn j now due
 
 -- ---- the seeds
+
+-- nobody is reached at port 0
+abbrev pub names_nobody : SwimEndpoint → Bool
+names_nobody e = e.port == 0
+
+-- why these seeds are refused, if they are
+abbrev pub seeds_fault : List SwimEndpoint → Option Refusal
+seeds_fault seeds =
+    if nat_lt PEERS_MAX (length seeds) then Some TooMany
+    else (if list_any names_nobody seeds then Some NoEndpoint else None)
+
+-- the code of it
+abbrev pub code_of_fault : Option Refusal → ℕ
+code_of_fault None = OK
+code_of_fault (Some refusal) = code_of refusal
 
 -- the joiner of these peers has done nothing yet, and this word begins what draws others
 pub record IsNewJoiner (s : Seeking) (peers : List ℕ) (word : ℕ) (k : JoinerView) : Type 0 where

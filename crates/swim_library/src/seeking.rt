@@ -1,11 +1,11 @@
 //! Who looks for the members of the group: the joiner that `swim run` has, by the program's clock.
 
-ghost use Rattle.std.specs.Prelude.{◌≡◌, ◌≢◌, ◌≤◌, [], None, Some, false, true, map, length, IfOk, IfErr, IsOk, OnErr, OnOk};
+ghost use Rattle.std.specs.Prelude.{◌≡◌, ◌≢◌, [], None, Some, false, true, map, IfOk, IfErr, IsOk, OnErr, OnOk};
 ghost use Rattle.std.specs.Duration.{as_nanos};
 ghost use Rattle.swim_library.specs.Codes.{CLOSED, OK};
 ghost use Rattle.swim_library.specs.Holding.{HandleBecomes, held};
 ghost use Rattle.swim_library.specs.Outbox.{waiting_in};
-ghost use Rattle.swim_library.specs.Seeking.{HasJoiner, IsMoment, DoesTask, HasNoTurn, IsTimeAfter, LacksForTask, Seeks, SeeksInVain, SeeksPeers, SeesRows, TakesSeeds, TakesTurn, TurnsInVain, ms_after, next_turn};
+ghost use Rattle.swim_library.specs.Seeking.{HasJoiner, IsMoment, DoesTask, HasNoTurn, IsTimeAfter, LacksForTask, Seeks, SeeksInVain, SeeksPeers, SeesRows, TakesSeeds, TakesTurn, TurnsInVain, code_of_fault, ms_after, next_turn, seeds_fault};
 ghost use Rattle.swim_library.specs.Shapes.{number_of_endpoint};
 ghost use Rattle.swim_library.specs.declared.refusal.Refusal.TheVariants as why;
 ghost use Rattle.swim_member.specs.Checks.{AreSound};
@@ -167,9 +167,8 @@ impl Seeking {
 /// The members at these endpoints.
 fn named_by(seeds: &[SwimEndpoint]) -> Result<ArrayVec<Endpoint, PEERS_MAX>, Refusal>
     ensures all { IfOk result (λ peers. peers.items ≡ map number_of_endpoint seeds.now) }
-    ensures few { OnOk result (length seeds.now ≤ PEERS_MAX) }
-    ensures refused { IfErr result (λ refusal. refusal ≢ why.NoEndpoint
-        → refusal ≡ why.TooMany) }
+    ensures sound { OnOk result (seeds_fault seeds.now ≡ None) }
+    ensures refused { IfErr result (λ refusal. seeds_fault seeds.now ≡ Some refusal) }
 {
     if seeds.len() > PEERS_MAX {
         return Err(Refusal::TooMany);
@@ -187,9 +186,9 @@ fn named_by(seeds: &[SwimEndpoint]) -> Result<ArrayVec<Endpoint, PEERS_MAX>, Ref
 impl Running {
     /// Whom the program was told of: its joiner joins them, and those that the state file stored, from now on.
     fn take_seeds(&mut self, seeds: &[SwimEndpoint], random: u64) -> Result<(), Refusal>
+        ensures sound { OnOk result (seeds_fault seeds.now ≡ None) }
         ensures taken { OnOk result (TakesSeeds seeds.now random self.old self.new) }
-        ensures refused { IfErr result (λ refusal. refusal ≢ why.NoEndpoint
-            → refusal ≡ why.TooMany) }
+        ensures refused { IfErr result (λ refusal. seeds_fault seeds.now ≡ Some refusal) }
         ensures same { OnErr result (self.new ≡ self.old) }
     {
         let seeds = named_by(seeds)?;
@@ -338,6 +337,7 @@ pub extern "C" fn swim_library_seeds(
     ensures taken { result ≡ OK → HandleBecomes member.old member.new
         (λ before after. TakesSeeds seeds.now random before after) }
     ensures refused { result ≢ OK → held member.new ≡ held member.old }
+    ensures says { held member.old ≢ None → result ≡ code_of_fault (seeds_fault seeds.now) }
     ensures closed { held member.old ≡ None → result ≡ CLOSED }
 {
     match take(member) {
