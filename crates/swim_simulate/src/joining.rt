@@ -1,7 +1,8 @@
 //! Whom a member joins, and when. Its joiner says so, which is that of `swim run`: it asks for the rows that the member has, by the
 //! member's own clock.
 
-ghost use Rattle.std.specs.Prelude.{◌≡◌, None, [], IfOk};
+ghost use Rattle.std.specs.Prelude.{◌≡◌, None, [], length};
+ghost use Rattle.swim_node.specs.History.{calls_by};
 ghost use Rattle.swim_simulate.specs.Joining.{HasTurn, joined_after, last_joined};
 
 use crate::key::Key;
@@ -41,6 +42,7 @@ pub(crate) struct Asked<'a> {
     /// With what it answered, for proofs.
     entries: Trace<Entry>,
     ghost last: { peer ≡ last_joined asked },
+    ghost answered: { length (calls_by 0 entries) ≡ length asked },
 }
 
 impl Asked<'_> {
@@ -74,7 +76,7 @@ impl Caller for Asked<'_> {
 
     ghost limit = { 1 };
 
-    #[tactic(auto, using(crate::proofs::Asking::joined_more))]
+    #[tactic(auto, using(crate::proofs::Asking::joined_more, crate::proofs::Asking::answered_more))]
     fn call(&mut self, event: Event) -> Result<Reply, Refusal> {
         let page = self.page_for(&event);
         self.peer = joined_after(self.peer, &event);
@@ -122,17 +124,20 @@ impl Observer for Asked<'_> {
     }
 }
 
-/// A turn of a joiner, in which it asks a member. Gives whom that one is to join now, if anybody.
+/// A turn of a joiner, in which it asks a member, which refuses nothing. Gives whom that one is to join now, if anybody.
+#[tactic(auto, using(crate::proofs::Asking::no_refusal))]
 pub(crate) fn turn(
     joiner: &mut Joiner,
     clock: &QuietClock,
     mut asked: Asked<'_>,
-) -> Result<Option<Endpoint>, Refusal>
+) -> Option<Endpoint>
     requires { asked.asked ≡ [] }
-    ensures { IfOk result (HasTurn joiner.old joiner.new) }
+    ensures { HasTurn joiner.old joiner.new result }
 {
-    joiner.turn(clock, &mut asked)?;
-    Ok(asked.peer)
+    let Ok(()) = joiner.turn(clock, &mut asked) else {
+        unreachable!();
+    };
+    asked.peer
 }
 
 /// The members that are on the list of the one with this place: the first ones, without itself.

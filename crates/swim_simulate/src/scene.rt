@@ -314,12 +314,12 @@ impl Scene {
         }
     }
 
-    /// Whom a member with this status joins now: its joiner has a turn. A turn that finds no memory is made up for by the next.
+    /// Whom a member with this status joins now: its joiner has a turn.
     pub(crate) fn peer(&mut self, who: usize, status: &Status) -> Option<Endpoint> {
         let clock = self.clock(who);
         let asked = Asked::new(who, *status, &self.views);
         match self.joiners.get_mut(who) {
-            Some(Some(joiner)) => turn(joiner, &clock, asked).unwrap_or(None),
+            Some(Some(joiner)) => turn(joiner, &clock, asked),
             _ => None,
         }
     }
