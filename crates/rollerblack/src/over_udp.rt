@@ -102,7 +102,7 @@ fn surroundings<'a, R, T>(
 ) -> Result<(Sockets<'a, T>, [u8; 32]), StartFault>
 where
     R: Net + RandomSource + AllocGlobal,
-    T: Clock,
+    T: Clock + Log,
     ensures { IfErr result IsOfSystem }
 {
     let wait = wait_of(member.tick_ms);

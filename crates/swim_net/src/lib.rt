@@ -10,6 +10,7 @@ mod hosts;
 mod socket;
 mod sockets;
 mod udp;
+mod unsent;
 mod waits;
 
 pub use connection::{ConnectionReader, ConnectionWriter};

@@ -6,6 +6,7 @@ ghost use Rattle.std.specs.Duration.{as_nanos};
 use crate::doors::TcpDoors;
 use crate::udp::{UdpInbound, UdpLink};
 use crate::waits::{SocketAlarm, Waits};
+use log::Log;
 use std::io;
 use std::net::TcpListener;
 use std::time::{Clock, Duration};
@@ -36,7 +37,7 @@ pub type BoundDatagrams<'a, C> = (UdpInbound<'a, C>, UdpLink<'a, C>, SocketAlarm
 /// The sockets of a member: what receives datagrams, what sends them, the control socket, and what ends the waits of the first
 /// and the last.
 #[derive(Drop)]
-pub struct Sockets<'a, C: Clock> {
+pub struct Sockets<'a, C: Clock + Log> {
     /// What receives datagrams.
     pub inbound: UdpInbound<'a, C>,
     /// What sends them.
@@ -47,7 +48,7 @@ pub struct Sockets<'a, C: Clock> {
     pub alarms: [SocketAlarm; 2],
 }
 
-impl<'a, C: Clock> Sockets<'a, C> {
+impl<'a, C: Clock + Log> Sockets<'a, C> {
     /// Those of a member whose socket for datagrams is bound, over a bound listener for control. The thread of control has these
     /// waits, which that alarm ends, and waits as long as `wait` at most, or a quarter of a second if that is less. An error is the
     /// system's: it watches too many sockets.

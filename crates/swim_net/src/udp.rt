@@ -7,8 +7,10 @@ ghost use Rattle.swim_shell.specs.Inbounds.{came_of};
 ghost use Rattle.swim_net.specs.Datagrams.{IsEndpointAt, brings_nothing, came_in, went_by};
 
 use crate::socket::{ReceivingSocket, SendingSocket};
+use crate::unsent::Unsent;
 use crate::waits::{SocketAlarm, Waits, pause};
 use arrayvec::ArrayVec;
+use log::Log;
 use mio::Interest;
 use std::alloc::Global;
 use std::io::{self, ErrorKind};
@@ -42,11 +44,12 @@ pub fn endpoint_of(from: SocketAddr) -> Option<Endpoint>
 }
 
 /// Datagrams that go out over UDP, one a send. A short send is a failure. It does not tell what it took: what a socket
-/// takes is not known here.
+/// takes is not known here. To whom one was not sent, and why, is logged at level warn, once a minute.
 #[derive(Drop)]
-pub struct UdpLink<'a, C: Clock> {
+pub struct UdpLink<'a, C: Clock + Log> {
     socket: SendingSocket,
     clock: &'a C,
+    unsent: Unsent,
     failures: Trace<()>,
 }
 
@@ -78,7 +81,7 @@ fn went_by(answer: &io::Result<usize>, length: usize) -> Went
     }
 }
 
-impl<'a, C: Clock> UdpLink<'a, C> {
+impl<'a, C: Clock + Log> UdpLink<'a, C> {
     ghost use Rattle.std.specs.Prelude.{◌≡◌, false, length};
     ghost use Rattle.swim_shell.specs.Tries.{Tried};
     ghost use Rattle.swim_net.specs.Udp.{EndsAs, SendsAgain, sends_of};
@@ -88,6 +91,7 @@ impl<'a, C: Clock> UdpLink<'a, C> {
         UdpLink {
             socket: SendingSocket::new(socket),
             clock,
+            unsent: Unsent::new(),
             failures: Trace::new(),
         }
     }
@@ -102,7 +106,10 @@ impl<'a, C: Clock> UdpLink<'a, C> {
             let answer = self.socket.send(bytes, address_of(to));
             match went_by(&answer, bytes.len()) {
                 Went::Whole => return true,
-                Went::Lost => return false,
+                Went::Lost => {
+                    self.unsent.tell(self.clock, to, &answer);
+                    return false;
+                }
                 Went::Interrupted => {}
                 Went::NoRoom => pause(self.clock),
             }
@@ -111,7 +118,7 @@ impl<'a, C: Clock> UdpLink<'a, C> {
     }
 }
 
-impl<'a, C: Clock> Link for UdpLink<'a, C> {
+impl<'a, C: Clock + Log> Link for UdpLink<'a, C> {
     ghost use Rattle.std.specs.Prelude.{[], length};
     ghost use Rattle.swim_node.specs.Link.{link_number};
 
@@ -298,7 +305,7 @@ impl<'a, C: Clock> Inbound for UdpInbound<'a, C> {
 /// Binds a socket for datagrams, and gives what receives from it, what sends through it, and what ends a wait of the
 /// first. A receive waits as long as `wait` at most. An error is the system's: the address is taken or not this machine's,
 /// or there are too many sockets, or no memory.
-pub fn bind_datagrams<'a, R: Net, C: Clock, A: ToSocketAddrs>(
+pub fn bind_datagrams<'a, R: Net, C: Clock + Log, A: ToSocketAddrs>(
     net: &R,
     clock: &'a C,
     alloc: Global,

@@ -99,7 +99,7 @@ fn tell_rules<T: Log>(logged: &T, config: &str, told: &RunSettings) {
 
 /// What a start has taken hold of: the key of its generators, its state file, and its sockets.
 #[derive(Drop)]
-struct Start<'a, T: Clock> {
+struct Start<'a, T: Clock + Log> {
     key: [u8; 32],
     file: StateFile,
     sockets: Sockets<'a, T>,

@@ -1,5 +1,6 @@
 //! What a running member holds of the network.
 
+use log::Log;
 use std::alloc::Global;
 use std::io;
 use std::net::{Net, SocketAddr, TcpListener, TcpStream, UdpSocket};
@@ -63,7 +64,7 @@ pub(crate) fn waits<R: Net>(rt: &R, alloc: Global) -> Result<(Waits, SocketAlarm
 
 /// Binds the sockets of a member as its settings say. The control socket's thread has these waits, which that alarm ends. The
 /// control socket is open as long as what is given beside them.
-pub(crate) fn bind<'a, R, C: Clock>(
+pub(crate) fn bind<'a, R, C: Clock + Log>(
     rt: &R,
     clock: &'a C,
     waits: &'a Waits,

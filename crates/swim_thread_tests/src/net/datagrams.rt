@@ -3,6 +3,7 @@
 use super::scene::{ENDED_MILLIS, Host, address, long, ring_later, sleep};
 use crate::same::{given, holds, same};
 use arrayvec::ArrayVec;
+use log::Log;
 use std::alloc::Global;
 use std::io;
 use std::net::{Net, UdpSocket};
@@ -19,7 +20,7 @@ use swim_wire::Endpoint;
 const SENT: u32 = 3000;
 
 /// What receives and what sends at a port, and what ends its waits.
-fn bound<'a, R: Net + Clock>(
+fn bound<'a, R: Net + Clock + Log>(
     rt: &'a R,
     alloc: Global,
     port: u16,

@@ -1,5 +1,6 @@
 //! What the tests share.
 
+use log::Log;
 use std::net::{Ipv4Addr, Net, SocketAddrV4};
 use std::process::Abort;
 use std::thread::{self, Threads};
@@ -8,9 +9,9 @@ use swim_net::SocketAlarm;
 use swim_shell::Alarm;
 
 /// What a test runs on.
-pub(super) trait Host: Threads + Abort + Clock + Net + Sync {}
+pub(super) trait Host: Threads + Abort + Clock + Log + Net + Sync {}
 
-impl<R: Threads + Abort + Clock + Net + Sync> Host for R {}
+impl<R: Threads + Abort + Clock + Log + Net + Sync> Host for R {}
 
 /// A waiting time that no test waits for.
 pub(super) fn long() -> Duration {
