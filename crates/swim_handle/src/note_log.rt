@@ -11,10 +11,13 @@ use swim_node::Reply;
 use swim_shell::NOTE_KINDS;
 use swim_wire::{Endpoint, Rules};
 
-/// The most notes of one kind that a worker logs in one second.
+/// The most notes of one kind that a worker logs in one minute.
 pub const LOGGED_MAX: u8 = 5;
 
-/// What became of the notes of one kind in the second that goes on.
+/// The seconds of a minute.
+const MINUTE_SECONDS: u64 = 60;
+
+/// What became of the notes of one kind in the minute that goes on.
 #[derive(Clone, Copy, Debug, PartialEq, Eq)]
 struct Kind {
     /// The last one that was left out.
@@ -24,7 +27,7 @@ struct Kind {
 }
 
 impl Kind {
-    /// Whether one more note of the kind is written in this second. One that is not is counted.
+    /// Whether one more note of the kind is written in this minute. One that is not is counted.
     fn takes(&mut self, note: Note) -> bool
         ensures yes { IsTrue result ↔ (self.old.logged < LOGGED_MAX) }
         ensures written { IsTrue result
@@ -50,13 +53,13 @@ const NOTHING: Kind = Kind {
     left_out: 0,
 };
 
-/// Which notes were logged in the second that goes on, and how many were not. A member that takes no part any more notes so at
+/// Which notes were logged in the minute that goes on, and how many were not. A member that takes no part any more notes so at
 /// each tick and each datagram, which is logged once.
 #[derive(Clone, Copy, Debug, PartialEq, Eq)]
 pub struct NoteLog {
     /// By which rules the member lives.
     rules: Rules,
-    second: u64,
+    minute: u64,
     has_left_out: bool,
     has_stopped: bool,
     kinds: [Kind; NOTE_KINDS],
@@ -80,30 +83,30 @@ impl NoteLog {
     pub fn new(rules: Rules) -> NoteLog {
         NoteLog {
             rules,
-            second: 0,
+            minute: 0,
             has_left_out: false,
             has_stopped: false,
             kinds: [NOTHING; NOTE_KINDS],
         }
     }
 
-    /// Says how many notes of each kind were left out, and begins another second.
-    fn begin<W: Log>(&mut self, rt: &W, second: u64) {
+    /// Says how many notes of each kind were left out, and begins another minute.
+    fn begin<W: Log>(&mut self, rt: &W, minute: u64) {
         for kind in self.kinds {
             if kind.left_out > 0 {
                 let note = kind.note;
                 let count = kind.left_out;
-                log!(rt; note_level(note), "{count} more of this kind in the same second (note {note})");
+                log!(rt; note_level(note), "{count} more of this kind in the same minute (note {note})");
             }
         }
         self.kinds = [NOTHING; NOTE_KINDS];
         self.has_left_out = false;
-        self.second = second;
+        self.minute = minute;
     }
 
     #[tactic(auto, using(crate::proofs::Notes::number_range))]
     /// Writes a note, with whence the datagram came that it is about, or counts it where too many of its kind were written in this
-    /// second.
+    /// minute.
     fn add<W: Log>(&mut self, rt: &W, note: Note, from: &Option<Endpoint>) {
         let place = usize::from(note.number()) - 1;
         let mut kind = self.kinds[place];
@@ -120,14 +123,15 @@ impl NoteLog {
         self.kinds[place] = kind;
     }
 
-    /// Logs the notes of a reply. A clock that cannot be read begins no second.
+    /// Logs the notes of a reply. A clock that cannot be read begins no minute.
     pub fn log<W: Log + Clock>(&mut self, rt: &W, reply: &Reply, from: &Option<Endpoint>) {
         if reply.notes.is_empty() && !self.has_left_out {
             return;
         }
         if let Ok(now) = rt.monotonic() {
-            if now.as_secs() != self.second {
-                self.begin(rt, now.as_secs());
+            let minute = now.as_secs() / MINUTE_SECONDS;
+            if minute != self.minute {
+                self.begin(rt, minute);
             }
         }
         for note in reply.notes.as_slice() {

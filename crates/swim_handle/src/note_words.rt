@@ -94,7 +94,7 @@ impl Display for NoteLine {
         match (note, from) {
             (Note::SendFailed(count), _) => write!(
                 f,
-                "this member could not send {count} datagrams: look at the network; later probes send them again"
+                "this member could not send {count} datagrams: look at the network; later probes and joins send them again"
             )?,
             (Note::BadDatagram(fault), Some(from)) => write!(
                 f,

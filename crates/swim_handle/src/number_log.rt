@@ -91,7 +91,7 @@ fn write_life<W: Log>(rt: &W, said: u64, own: u64, status: &Status) {
     } else {
         "it keeps its own"
     };
-    error!(rt; "the group knows this member by number {said}, above its own {own}, and {outcome}: the state file is older than a life of this member, or a second member has its address, or the datagram is forged");
+    error!(rt; "the group knows this member by number {said}, above its own {own}, and {outcome}: the state file is older than a life of this member, or a second member has its address, or the datagram is forged; see \"Backups and copies\" in OPERATIONS.md");
 }
 
 /// Logs that no number can be saved above this one.

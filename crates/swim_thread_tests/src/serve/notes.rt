@@ -76,7 +76,7 @@ pub(super) fn replied(note: Option<Note>, phase: Phase, number: u64) -> Reply {
     }
 }
 
-/// Of seven notes of one kind in a second five are logged; that two were not is said in a later one. A note of another
+/// Of seven notes of one kind in a minute five are logged; that two were not is said in a later one. A note of another
 /// kind is logged at once.
 #[test]
 fn left_out_notes(rt: HostRuntime) -> Result<(), Fail> {
@@ -90,7 +90,7 @@ fn left_out_notes(rt: HostRuntime) -> Result<(), Fail> {
         notes.log(&desk, &noted(Note::OtherGroup), &from);
     }
     notes.log(&desk, &noted(Note::SendFailed(3)), &None);
-    desk.second = 6;
+    desk.second = 60;
     notes.log(&desk, &noted(Note::OtherGroup), &from);
     let lines = desk.lines.into_lines();
     let other =
@@ -101,8 +101,8 @@ fn left_out_notes(rt: HostRuntime) -> Result<(), Fail> {
         other,
         other,
         other,
-        "this member could not send 3 datagrams: look at the network; later probes send them again (note 16 SendFailed 3)",
-        "2 more of this kind in the same second (note 2 OtherGroup)",
+        "this member could not send 3 datagrams: look at the network; later probes and joins send them again (note 16 SendFailed 3)",
+        "2 more of this kind in the same minute (note 2 OtherGroup)",
         other,
     ];
     same(&rt, lines.len(), want.len());
@@ -218,19 +218,19 @@ fn one_left_out_note(rt: HostRuntime) -> Result<(), Fail> {
     for _ in 0..LOGGED_MAX + 1 {
         notes.log(&desk, &noted(Note::NotSender), &None);
     }
-    desk.second = 6;
+    desk.second = 60;
     notes.log(&desk, &replied(None, Phase::Running, 1), &None);
     let lines = desk.lines.into_lines();
     same(&rt, lines.len(), usize::from(LOGGED_MAX) + 1);
     let last = lines.as_slice().last().expect(&rt, "a line");
     holds(
         &rt,
-        last.as_str().ends_with("1 more of this kind in the same second (note 3 NotSender)"),
+        last.as_str().ends_with("1 more of this kind in the same minute (note 3 NotSender)"),
     );
     Ok(())
 }
 
-/// A member that takes no part any more notes it at each tick; that is logged once, in whatever second.
+/// A member that takes no part any more notes it at each tick; that is logged once, in whatever minute.
 #[test]
 fn stopped_once(rt: HostRuntime) -> Result<(), Fail> {
     let mut desk = Desk {
@@ -238,8 +238,8 @@ fn stopped_once(rt: HostRuntime) -> Result<(), Fail> {
         lines: Memory::new(rt.alloc()),
     };
     let mut notes = NoteLog::new(Rules::Two);
-    for second in 5..8 {
-        desk.second = second;
+    for minute in 5..8 {
+        desk.second = minute * 60;
         notes.log(&desk, &noted(Note::Stopped), &None);
     }
     let lines = desk.lines.into_lines();
