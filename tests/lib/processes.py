@@ -97,8 +97,8 @@ class Told(str):
 HINTS = (
     (
         r"init refused 1 NotEmpty|open refused (2 NotState|4 NoSlot)",
-        "if `swim init` was cut off before it was done, this is the part that it left: no number was sent then, so delete it and run"
-        ' `swim init` again. If a member has run on the file, keep it, and see "A lost state file" in OPERATIONS.md',
+        'if a member has run on this file, keep it, and see "A lost state file" in OPERATIONS.md. If none has, it is the part that a cut off'
+        " `swim init` or `swim up` left: no number was sent then, so delete it and begin again",
     ),
     (
         r"open refused 3 WrongOwner",
@@ -107,17 +107,18 @@ HINTS = (
     (r"settings refused .+", "SETTINGS.md says what each key takes; `swim run --show-settings FILE` tries a file and starts nothing"),
     (
         r"file refused",
-        'where another process has it, this member runs already: `swim status` asks it. If a state file is lost, see "A lost state file" in OPERATIONS.md before any `swim init`',
+        'look at the path, and who owns it and its folder (`ls -la`). If a state file is lost, see "A lost state file" in OPERATIONS.md before any'
+        " `swim init`",
     ),
     (
         r"socket refused",
-        "to run, the addresses have to be this machine's and free (`ss -lntup`); to ask, a member has to run with this address as its"
-        " `control`",
+        "to run, the addresses have to be this machine's and free (`ss -lntup`), and each member of a machine needs a `control` of its own"
+        " (127.0.0.1:7001, if `--control` says no other); to ask, a member has to run with this address as its `control`",
     ),
     (
         r"address refused",
-        "an address is an IPv4 endpoint without leading zeros, such as 127.0.0.1:7001; where a member is asked it may be a host name"
-        " with a port too, such as db1.example:7001",
+        "an address is an IPv4 endpoint without leading zeros, such as 127.0.0.1:7001; where a member is asked or joined it may be a host"
+        " name with a port too, such as db1.example:7001",
     ),
     (
         r"threads refused",
@@ -140,6 +141,7 @@ HINTS = (
 )
 
 # And those after `file refused` where the system says more.
+LOCKED = "this member runs already, and `swim status ADDR` asks it at its `control`; or another process has its state file. Nothing is lost: make no new one"
 OUTPUT = "standard output was not taken whole: look whether its disk is full (`df`), and whether it was closed (`>&-`)"
 READ_ONLY = (
     "its file system takes no writes (EROFS): it was mounted so, or the system made it so after its disk had failed. Look at"

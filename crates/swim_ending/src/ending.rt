@@ -46,6 +46,9 @@ pub enum Ending {
     /// The same, since its disk fails.
     #[error("file refused")]
     Device,
+    /// The same, since another process has the lock of it.
+    #[error("file refused")]
+    Locked,
     /// What is to be read is a pipe, a device or a socket.
     #[error("file refused: it is a pipe, a device or a socket, and no file")]
     NotFile,
@@ -101,7 +104,7 @@ pub enum Ending {
 
 /// What else to say where a part may be there that a cut off `swim init` left.
 const MAYBE_PART: &str =
-    "if `swim init` was cut off before it was done, this is the part that it left: no number was sent then, so delete it and run `swim init` again. If a member has run on the file, keep it, and see \"A lost state file\" in OPERATIONS.md";
+    "if a member has run on this file, keep it, and see \"A lost state file\" in OPERATIONS.md. If none has, it is the part that a cut off `swim init` or `swim up` left: no number was sent then, so delete it and begin again";
 
 /// What else to say where the owner of a state file is another.
 const OTHER_OWNER: &str =
@@ -113,7 +116,11 @@ const SETTINGS: &str =
 
 /// What else to say where a file was refused.
 const FILE: &str =
-    "where another process has it, this member runs already: `swim status` asks it. If a state file is lost, see \"A lost state file\" in OPERATIONS.md before any `swim init`";
+    "look at the path, and who owns it and its folder (`ls -la`). If a state file is lost, see \"A lost state file\" in OPERATIONS.md before any `swim init`";
+
+/// What else to say where another process has a state file.
+const LOCKED: &str =
+    "this member runs already, and `swim status ADDR` asks it at its `control`; or another process has its state file. Nothing is lost: make no new one";
 
 /// What else to say where a file system takes no writes.
 const READ_ONLY: &str =
@@ -129,7 +136,7 @@ const OUTPUT: &str =
 
 /// What else to say where a socket was refused.
 const SOCKET: &str =
-    "to run, the addresses have to be this machine's and free (`ss -lntup`); to ask, a member has to run with this address as its `control`";
+    "to run, the addresses have to be this machine's and free (`ss -lntup`), and each member of a machine needs a `control` of its own (127.0.0.1:7001, if `--control` says no other); to ask, a member has to run with this address as its `control`";
 
 /// What else to say where a member did not end.
 const NOT_ENDED: &str =
@@ -137,7 +144,7 @@ const NOT_ENDED: &str =
 
 /// What else to say where an address was refused.
 const ADDRESS: &str =
-    "an address is an IPv4 endpoint without leading zeros, such as 127.0.0.1:7001; where a member is asked it may be a host name with a port too, such as db1.example:7001";
+    "an address is an IPv4 endpoint without leading zeros, such as 127.0.0.1:7001; where a member is asked or joined it may be a host name with a port too, such as db1.example:7001";
 
 /// What else to say where a host was refused.
 const HOST: &str =
@@ -188,6 +195,7 @@ impl Ending {
             Ending::Open(OpenFault::Refused(RecoverFault::WrongOwner)) => Some(OTHER_OWNER),
             Ending::Settings(_) => Some(SETTINGS),
             Ending::File => Some(FILE),
+            Ending::Locked => Some(LOCKED),
             Ending::ReadOnly => Some(READ_ONLY),
             Ending::Device => Some(DEVICE),
             Ending::Output => Some(OUTPUT),

@@ -77,7 +77,7 @@ impl Failure {
     pub fn of_state_file(alloc: Global, path: &str, error: &io::Error) -> Failure {
         if error.kind() == ErrorKind::ResourceBusy {
             let about = format_args!("state file {path}: locked by another process");
-            return Failure::about(alloc, Ending::File, about);
+            return Failure::about(alloc, Ending::Locked, about);
         }
         Failure::of_file(alloc, "state file", path, error)
     }

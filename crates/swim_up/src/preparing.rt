@@ -135,7 +135,7 @@ fn clashes(
         alloc,
         Ending::Settings(Refusal::Key(key)),
         format_args!(
-            "{path} has {has}, and --{key} says {says}: change the file, or leave the word out"
+            "{path} has {has}, and --{key} says {says}: change it there, or leave --{key} out and it stays"
         ),
     )
 }
@@ -173,7 +173,9 @@ fn tell_made(rt: &HostRuntime, settings: &str, state: &str, has_state: bool) {
     if has_state {
         let _ = eprintln!(rt; "made {settings}; the state file {state} was there, and goes on");
     } else {
-        let _ = eprintln!(rt; "made {settings} and {state}");
+        let _ = eprintln!(rt;
+            "made {settings} and {state}: this member begins at number 1. If it has run in another folder before, stop it, and give that one by --dir"
+        );
     }
 }
 
