@@ -9,7 +9,7 @@ mod build_note;
 use build_note::build_note;
 use clap::Error;
 use clap::error::ErrorKind;
-use log::{LevelFilter, Log, Logged};
+use log::{LevelFilter, Log, Logged, info};
 use std::fmt::Display;
 use std::io::{self, IsTerminal, Write};
 use std::process::ExitCode;
@@ -439,6 +439,18 @@ fn show_settings(rt: &HostRuntime, config: &str) -> Result<(), Failure> {
     print_bytes(rt, text.as_bytes())
 }
 
+/// Runs the member that a settings file describes until it is told to stop, and says so then.
+fn run_until_stopped<T: Threads + Wait + Log + Clock + Send + Sync + Copy + Drop>(
+    rt: &HostRuntime,
+    logged: &T,
+    level: &LogLevel,
+    config: &str,
+) -> Result<(), Failure> {
+    run(rt, logged, level, config)?;
+    info!(logged; "stopped, as it was told to: its state file is good for its next start");
+    Ok(())
+}
+
 /// Does what was asked. A member that runs has its threads and its log by the other handle, and sets how much is logged.
 fn answer<T: Threads + Wait + Log + Clock + Send + Sync + Copy + Drop>(
     rt: &HostRuntime,
@@ -459,14 +471,14 @@ fn answer<T: Threads + Wait + Log + Clock + Send + Sync + Copy + Drop>(
         }
         Subcommand::Up(words) => {
             let config = prepare(rt, &words, usual.as_str())?;
-            run(rt, logged, level, config.as_str())?;
+            run_until_stopped(rt, logged, level, config.as_str())?;
             Ok(ExitCode::SUCCESS)
         }
         Subcommand::Run { config, shows } => {
             if shows {
                 show_settings(rt, config)?;
             } else {
-                run(rt, logged, level, config)?;
+                run_until_stopped(rt, logged, level, config)?;
             }
             Ok(ExitCode::SUCCESS)
         }
