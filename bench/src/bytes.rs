@@ -67,11 +67,11 @@ pub fn print(part: &str) {
             turns,
             mut proved,
             mut plain,
-            mut tight,
+            tight,
             ..
         } = case;
-        let [proved, plain, tight] =
-            [&mut proved, &mut plain, &mut tight].map(|side| of_turn(side, warm, turns));
-        println!("| {name:<44} | {proved} | {plain} | {tight} |");
+        let [proved, plain] = [&mut proved, &mut plain].map(|side| of_turn(side, warm, turns));
+        let tight = tight.map_or(String::new(), |mut side| of_turn(&mut side, warm, turns));
+        println!("| {name:<44} | {proved} | {plain} | {tight:<17} |");
     }
 }

@@ -1,7 +1,6 @@
 //! What is measured.
 
 use crate::scene::{NUMBER, ROWS, before, ping};
-use crate::tight::node::Memory;
 use crate::{plain, proved, tight};
 
 /// So many turns, whose bytes go to the slice, and a count that all sides must answer alike.
@@ -18,14 +17,14 @@ pub struct Case {
     pub turns: u32,
     pub proved: Turns,
     pub plain: Turns,
-    pub tight: Turns,
+    /// None where nobody has written the case as tight as it gets.
+    pub tight: Option<Turns>,
 }
 
-fn case<F, G, H>(name: &str, bar: Option<f64>, turns: u32, proved: F, plain: G, tight: H) -> Case
+fn case<F, G>(name: &str, bar: Option<f64>, turns: u32, proved: F, plain: G) -> Case
 where
     F: FnMut(u32, &mut [u8]) -> u64 + 'static,
     G: FnMut(u32, &mut [u8]) -> u64 + 'static,
-    H: FnMut(u32, &mut [u8]) -> u64 + 'static,
 {
     Case {
         name: name.to_string(),
@@ -34,7 +33,16 @@ where
         turns,
         proved: Box::new(proved),
         plain: Box::new(plain),
-        tight: Box::new(tight),
+        tight: None,
+    }
+}
+
+impl Case {
+    fn beside(self, tight: impl FnMut(u32, &mut [u8]) -> u64 + 'static) -> Case {
+        Case {
+            tight: Some(Box::new(tight)),
+            ..self
+        }
     }
 }
 
@@ -50,8 +58,8 @@ fn decoding(count: u32) -> Case {
         20_000,
         move |turns, _| proved::decode_turns(&text, turns),
         move |turns, _| plain::work::decode_turns(&same, turns),
-        move |turns, _| tight::work::decode_turns(&again, turns),
     )
+    .beside(move |turns, _| tight::work::decode_turns(&again, turns))
 }
 
 fn encoding(count: u32) -> Case {
@@ -63,21 +71,19 @@ fn encoding(count: u32) -> Case {
         20_000,
         move |turns, out| proved::encode_turns(&text, turns, out),
         move |turns, out| plain::work::encode_turns(&same, turns, out),
-        move |turns, out| tight::work::encode_turns(&again, turns, out),
     )
+    .beside(move |turns, out| tight::work::encode_turns(&again, turns, out))
 }
 
 fn pinging(name: &str, bar: f64, count: u32, number: u64, turns: u32) -> Case {
     let (texts, text) = (before(ROWS), ping(ROWS, 0, count, number));
     let (same_texts, same) = (texts.clone(), text.clone());
-    let (texts_again, again) = (texts.clone(), text.clone());
     let pings = case(
         name,
         Some(bar),
         turns,
         move |turns, out| proved::ping_turns(&texts, &text, turns, out),
         move |turns, out| plain::work::ping_turns(&same_texts, &same, turns, out),
-        move |turns, out| tight::work::ping_turns(&texts_again, &again, turns, out),
     );
     Case {
         warm: SENT_OUT,
@@ -88,27 +94,24 @@ fn pinging(name: &str, bar: f64, count: u32, number: u64, turns: u32) -> Case {
 fn newer_pinging() -> Case {
     let (texts, mut text) = (before(ROWS), ping(ROWS, 0, 30, NUMBER));
     let (same_texts, mut same) = (texts.clone(), text.clone());
-    let (texts_again, mut again) = (texts.clone(), text.clone());
     case(
         "ping with 30 accepted updates to a full ack",
         Some(1.35),
         200,
         move |turns, out| proved::newer_ping_turns(&texts, &mut text, turns, out),
         move |turns, out| plain::work::newer_ping_turns(&same_texts, &mut same, turns, out),
-        move |turns, out| tight::work::newer_ping_turns(&texts_again, &mut again, turns, out),
     )
 }
 
 fn ticking(name: &str, bar: Option<f64>, period: u64, turns: u32) -> Case {
     let texts = before(ROWS);
-    let [same, again] = [texts.clone(), texts.clone()];
+    let same = texts.clone();
     case(
         name,
         bar,
         turns,
         move |turns, out| proved::tick_turns(&texts, period, turns, out),
         move |turns, out| plain::work::tick_turns(&same, period, turns, out),
-        move |turns, out| tight::work::tick_turns(&again, period, turns, out),
     )
 }
 
@@ -124,17 +127,14 @@ fn listing() -> Case {
 const CALLS: u32 = 700;
 
 fn node_pinging(name: &str, bar: Option<f64>, rows: u32, count: u32) -> Case {
-    let mut memory = Memory::default();
     let (texts, text) = (before(rows), ping(rows, 0, count, NUMBER));
     let (same_texts, same) = (texts.clone(), text.clone());
-    let (texts_again, again) = (texts.clone(), text.clone());
     let pings = case(
         name,
         bar,
         CALLS,
         move |turns, out| proved::node_ping_turns(&texts, &text, turns, out),
         move |turns, out| plain::work::node_ping_turns(&same_texts, &same, turns, out),
-        move |turns, out| tight::work::node_ping_turns(&mut memory, &texts_again, &again, turns, out),
     );
     Case {
         warm: SENT_OUT,
@@ -143,46 +143,38 @@ fn node_pinging(name: &str, bar: Option<f64>, rows: u32, count: u32) -> Case {
 }
 
 fn node_newer_pinging(name: &str, bar: Option<f64>) -> Case {
-    let mut memory = Memory::default();
     let (texts, mut text) = (before(ROWS), ping(ROWS, 0, 30, NUMBER));
     let (same_texts, mut same) = (texts.clone(), text.clone());
-    let (texts_again, mut again) = (texts.clone(), text.clone());
     case(
         name,
         bar,
         CALLS,
         move |turns, out| proved::node_newer_ping_turns(&texts, &mut text, turns, out),
         move |turns, out| plain::work::node_newer_ping_turns(&same_texts, &mut same, turns, out),
-        move |turns, out| {
-            tight::work::node_newer_ping_turns(&mut memory, &texts_again, &mut again, turns, out)
-        },
     )
 }
 
 fn node_ticking(name: &str, bar: Option<f64>, period: u64) -> Case {
-    let mut memory = Memory::default();
     let texts = before(ROWS);
-    let [same, again] = [texts.clone(), texts.clone()];
+    let same = texts.clone();
     case(
         name,
         bar,
         CALLS,
         move |turns, out| proved::node_tick_turns(&texts, period, turns, out),
         move |turns, out| plain::work::node_tick_turns(&same, period, turns, out),
-        move |turns, out| tight::work::node_tick_turns(&mut memory, &again, period, turns, out),
     )
 }
 
 fn hearing(name: &str, step: u32) -> Case {
     let texts = before(ROWS);
-    let [same, again] = [texts.clone(), texts.clone()];
+    let same = texts.clone();
     case(
         name,
         None,
         50_000,
         move |turns, out| proved::hear_turns(&texts, step, turns, out),
         move |turns, out| plain::work::hear_turns(&same, step, turns, out),
-        move |turns, out| tight::work::hear_turns(&again, step, turns, out),
     )
 }
 
@@ -194,8 +186,8 @@ fn picking(members: u32, bar: Option<f64>, turns: u32) -> Case {
         turns,
         move |turns, out| proved::pick_turns(members, turns, out),
         move |turns, out| plain::work::pick_turns(members, turns, out),
-        move |turns, out| tight::work::pick_turns(members, turns, out),
     )
+    .beside(move |turns, out| tight::work::pick_turns(members, turns, out))
 }
 
 fn offering(members: u32) -> Case {
@@ -205,8 +197,8 @@ fn offering(members: u32) -> Case {
         5_000,
         move |turns, out| proved::offer_turns(members, turns, out),
         move |turns, out| plain::work::offer_turns(members, turns, out),
-        move |turns, out| tight::work::offer_turns(members, turns, out),
     )
+    .beside(move |turns, out| tight::work::offer_turns(members, turns, out))
 }
 
 fn removing(members: u32) -> Case {
@@ -216,8 +208,8 @@ fn removing(members: u32) -> Case {
         5_000,
         move |turns, out| proved::removal_turns(members, turns, out),
         move |turns, out| plain::work::removal_turns(members, turns, out),
-        move |turns, out| tight::work::removal_turns(members, turns, out),
     )
+    .beside(move |turns, out| tight::work::removal_turns(members, turns, out))
 }
 
 /// All that run in this process.
@@ -274,8 +266,5 @@ fn node_cases() -> Vec<Case> {
 /// Prints the bytes of an entry.
 pub fn print_entries() {
     let [proved, plain] = [proved::entry_bytes(), size_of::<plain::node::Entry>()];
-    let [least, most] = [32, 512].map(|len| tight::node::entry_bytes(len, len));
-    println!(
-        "- bytes of an entry: {proved} proved, {plain} plain, {least} tight with two datagrams of 32 bytes and {most} of 512"
-    );
+    println!("- bytes of an entry: {proved} proved, {plain} plain");
 }

@@ -2,7 +2,7 @@
 //! same loads in plain Rust. A figure is the least of some rounds.
 
 use crate::plain::shared::{applied, called, queued, read, read_beside_calls, read_beside_save};
-use crate::table;
+use crate::table::Row;
 use std::io;
 use std::path::Path;
 use std::process::Command;
@@ -188,10 +188,14 @@ pub fn run(program: &Path, part: &str) -> io::Result<()> {
         }
     }
     for (load, (_, least)) in loads.iter().zip(&figures.0) {
-        match least.plain {
-            Some(plain) => table::row(&load.name, least.proved, plain, load.bar),
-            None => table::row_alone(&load.name, least.proved),
+        Row {
+            name: &load.name,
+            proved: least.proved,
+            plain: least.plain,
+            bar: load.bar,
+            ..Row::default()
         }
+        .print();
     }
     println!();
     figures.print_bars();

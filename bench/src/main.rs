@@ -1,12 +1,10 @@
 //! The proved crates beside plain and tight Rust of the same work: nanoseconds, ratios, allocations. `bench/run` builds and
 //! runs it, with the program that saves, the one that calls a shared member and a folder for the state files as its words, and
-//! then a part of the cases' names, if any. Built by `bench/bytes` it counts bytes in place of nanoseconds. With `buckets` as its
-//! first word it compares ways to keep what waits (`bench/buckets`).
+//! then a part of the cases' names, if any. Built by `bench/bytes` it counts bytes in place of nanoseconds.
 
 #![cfg_attr(feature = "bytes", allow(dead_code))]
 
 mod allocations;
-mod buckets;
 #[cfg(feature = "bytes")]
 mod bytes;
 mod cases;
@@ -19,6 +17,7 @@ mod scene;
 mod table;
 mod tight;
 
+use crate::table::Row;
 use std::env;
 use std::io;
 use std::path::Path;
@@ -41,19 +40,30 @@ fn run(saving: &Path, calling: &Path, folder: &Path, part: &str) -> io::Result<(
     for mut case in cases::cases() {
         if case.name.contains(part) {
             measure::check(&mut case);
-            let figures = measure::measure(&mut case, ROUNDS);
-            table::row_of(&case.name, figures, case.bar);
+            measure::measure(&mut case, ROUNDS);
         }
     }
     if SAVE.contains(part) {
         let (proved, plain) = save::measure(saving, folder, SAVE_ROUNDS)?;
-        table::row(SAVE, proved, plain, Some(1.05));
+        Row {
+            name: SAVE,
+            proved,
+            plain: Some(plain),
+            bar: Some(1.05),
+            ..Row::default()
+        }
+        .print();
     }
     for block in BLOCKS {
         let name = format!("refutation over a file, blocks of {block}");
         if name.contains(part) {
             let proved = save::refute(saving, folder, block, ROUNDS)?;
-            table::row_alone(&name, proved);
+            Row {
+                name: &name,
+                proved,
+                ..Row::default()
+            }
+            .print();
         }
     }
     lock::run(calling, part)?;
@@ -72,9 +82,6 @@ fn start(words: &[String]) -> ExitCode {
 
 #[cfg(not(feature = "bytes"))]
 fn start(words: &[String]) -> ExitCode {
-    if let Some(("buckets", words)) = words.split_first().map(|(first, rest)| (first.as_str(), rest)) {
-        return buckets::start(words);
-    }
     let (saving, calling, folder, part) = match words {
         [saving, calling, folder] => (saving, calling, folder, ""),
         [saving, calling, folder, part] => (saving, calling, folder, part.as_str()),

@@ -2,19 +2,12 @@
 
 use crate::allocations;
 use crate::cases::{Case, Turns};
+use crate::table::Row;
+use std::iter;
 use std::time::Instant;
 
 /// The room for what a run writes.
 const ROOM: usize = 4096;
-
-/// What one side took, of all rounds.
-#[derive(Clone, Copy)]
-pub struct Figure {
-    /// The least nanoseconds of a turn.
-    pub nanos: f64,
-    /// The calls that took memory in the timed turns.
-    pub allocations: u64,
-}
 
 fn run(side: &mut Turns, turns: u32) -> (u64, [u8; ROOM]) {
     let mut out = [0; ROOM];
@@ -26,7 +19,8 @@ fn run(side: &mut Turns, turns: u32) -> (u64, [u8; ROOM]) {
 pub fn check(case: &mut Case) {
     for turns in (0..40).chain([100, 300, case.warm + case.turns]) {
         let proved = run(&mut case.proved, turns);
-        for (side, turned) in [("plain", &mut case.plain), ("tight", &mut case.tight)] {
+        let tight = case.tight.iter_mut().map(|side| ("tight", side));
+        for (side, turned) in iter::once(("plain", &mut case.plain)).chain(tight) {
             let alike = run(turned, turns) == proved;
             assert!(
                 alike,
@@ -71,22 +65,33 @@ impl Least {
         self.allocations += all - few;
     }
 
-    fn figure(&self, turns: u32) -> Figure {
-        Figure {
-            nanos: (self.full - self.before) / f64::from(turns),
-            allocations: self.allocations,
-        }
+    /// The nanoseconds of a turn.
+    fn nanos(&self, turns: u32) -> f64 {
+        (self.full - self.before) / f64::from(turns)
     }
 }
 
-/// The figures of the proved, the plain and the tight side, in so many rounds.
-pub fn measure(case: &mut Case, rounds: u32) -> [Figure; 3] {
-    let mut least = [Least::new(), Least::new(), Least::new()];
+/// Measures the proved, the plain and the tight side, in so many rounds, and prints their line.
+pub fn measure(case: &mut Case, rounds: u32) {
+    let mut sides: Vec<(&mut Turns, Least)> = [&mut case.proved, &mut case.plain]
+        .into_iter()
+        .chain(&mut case.tight)
+        .map(|side| (side, Least::new()))
+        .collect();
     for _ in 0..rounds {
-        let sides = [&mut case.proved, &mut case.plain, &mut case.tight];
-        for (least, side) in least.iter_mut().zip(sides) {
+        for (side, least) in &mut sides {
             least.round(side, case.warm, case.turns);
         }
     }
-    least.map(|least| least.figure(case.turns))
+    let nanos: Vec<f64> = sides.iter().map(|(_, least)| least.nanos(case.turns)).collect();
+    let allocations: Vec<u64> = sides.iter().map(|(_, least)| least.allocations).collect();
+    Row {
+        name: &case.name,
+        proved: nanos[0],
+        plain: Some(nanos[1]),
+        tight: nanos.get(2).copied(),
+        bar: case.bar,
+        allocations: &allocations,
+    }
+    .print();
 }

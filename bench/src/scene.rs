@@ -57,13 +57,8 @@ pub fn before(rows: u32) -> Vec<u8> {
 
 /// Makes the updates of a full ping newer than all earlier ones, about others than in the turn before.
 pub fn newer_text(text: &mut [u8], turn: u32) {
-    newer_part(text, turn, ROWS);
-}
-
-/// The same of a ping with any updates, about the first `rows` others.
-pub fn newer_part(text: &mut [u8], turn: u32, rows: u32) {
     for (at, part) in text[32..].chunks_exact_mut(16).enumerate() {
-        let address = OTHERS + turn.wrapping_mul(15).wrapping_add(at as u32) % rows;
+        let address = OTHERS + turn.wrapping_mul(15).wrapping_add(at as u32) % ROWS;
         part[2..6].copy_from_slice(&address.to_be_bytes());
         part[8..16].copy_from_slice(&(1000 + u64::from(turn)).to_be_bytes());
     }

@@ -1,6 +1,17 @@
 //! The table, in Markdown.
 
-use crate::measure::Figure;
+/// One line: the nanoseconds of each side that there is.
+#[derive(Default)]
+pub struct Row<'a> {
+    pub name: &'a str,
+    pub proved: f64,
+    pub plain: Option<f64>,
+    pub tight: Option<f64>,
+    /// The greatest ratio to plain that is wanted, if one is.
+    pub bar: Option<f64>,
+    /// How often each side took memory in the timed turns, where that is counted.
+    pub allocations: &'a [u64],
+}
 
 pub fn head() {
     println!(
@@ -13,38 +24,28 @@ pub fn head() {
     );
 }
 
-fn written(bar: Option<f64>) -> String {
-    bar.map_or(String::new(), |bar| bar.to_string())
+/// A number with so many places, if there is one.
+fn written(number: Option<f64>, places: usize) -> String {
+    number.map_or(String::new(), |number| format!("{number:.places$}"))
 }
 
-/// A row of three sides.
-pub fn row_of(name: &str, figures: [Figure; 3], bar: Option<f64>) {
-    let [proved, plain, tight] = figures.map(|figure| figure.nanos);
-    let allocations = figures.map(|figure| figure.allocations.to_string()).join(" / ");
-    println!(
-        "| {name:<44} | {proved:>10.1} | {plain:>9.1} | {tight:>9.1} | {:>8.2} | {:>4} | {:>8.1} | {allocations:>11} |",
-        proved / plain,
-        written(bar),
-        proved / tight
-    );
-}
-
-/// A row without a tight side.
-pub fn row(name: &str, proved: f64, plain: f64, bar: Option<f64>) {
-    println!(
-        "| {name:<44} | {proved:>10.1} | {plain:>9.1} | {:>9} | {:>8.2} | {:>4} | {:>8} | {:>11} |",
-        "",
-        proved / plain,
-        written(bar),
-        "",
-        ""
-    );
-}
-
-/// A row without a plain side.
-pub fn row_alone(name: &str, proved: f64) {
-    println!(
-        "| {name:<44} | {proved:>10.1} | {:>9} | {:>9} | {:>8} | {:>4} | {:>8} | {:>11} |",
-        "", "", "", "", "", ""
-    );
+impl Row<'_> {
+    pub fn print(&self) {
+        let ratio = |side: Option<f64>| side.map(|side| self.proved / side);
+        println!(
+            "| {:<44} | {:>10.1} | {:>9} | {:>9} | {:>8} | {:>4} | {:>8} | {:>11} |",
+            self.name,
+            self.proved,
+            written(self.plain, 1),
+            written(self.tight, 1),
+            written(ratio(self.plain), 2),
+            self.bar.map_or(String::new(), |bar| bar.to_string()),
+            written(ratio(self.tight), 1),
+            self.allocations
+                .iter()
+                .map(u64::to_string)
+                .collect::<Vec<_>>()
+                .join(" / ")
+        );
+    }
 }

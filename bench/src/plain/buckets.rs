@@ -3,7 +3,6 @@
 //! stand. That is what the proved crates do, with nothing counted.
 
 use super::table::ROWS_MAX;
-use super::waits::Waits;
 use super::wire::{Endpoint, UPDATES_MAX, Update, Updates};
 
 const SLOTS_MAX: usize = ROWS_MAX + 112;
@@ -75,10 +74,8 @@ impl Buckets {
         }
         self.end = kept;
     }
-}
 
-impl Waits for Buckets {
-    fn new() -> Buckets {
+    pub fn new() -> Buckets {
         Buckets {
             slots: [Slot::default(); SLOTS_MAX],
             end: 0,
@@ -87,18 +84,19 @@ impl Waits for Buckets {
         }
     }
 
-    fn len(&self) -> usize {
+    pub fn len(&self) -> usize {
         self.len
     }
 
-    fn remove(&mut self, who: Endpoint) {
+    pub fn remove(&mut self, who: Endpoint) {
         if let Some(place) = self.place_of(who) {
             self.slots[place].waits = false;
             self.len -= 1;
         }
     }
 
-    fn offer(&mut self, update: Update) {
+    /// Lets an update begin to wait, in the place of the one about the same member.
+    pub fn offer(&mut self, update: Update) {
         self.remove(update.who);
         if self.end == SLOTS_MAX || self.end > 2 * self.len + GAPS {
             self.close_gaps();
@@ -113,7 +111,8 @@ impl Waits for Buckets {
         self.len += 1;
     }
 
-    fn pick(&mut self, limit: u32) -> Updates {
+    /// The first 30 of those with a count below `limit`, by count, then by who began earlier.
+    pub fn pick(&mut self, limit: u32) -> Updates {
         let mut updates = Updates::new();
         let mut end = self.end;
         while 0 < end && !self.slots[end - 1].waits {

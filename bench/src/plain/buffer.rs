@@ -1,7 +1,6 @@
 //! The updates that wait to be sent.
 
 use super::table::ROWS_MAX;
-use super::waits::Waits;
 use super::wire::{Endpoint, UPDATES_MAX, Update, Updates};
 
 const WAITING_MAX: usize = ROWS_MAX + 1;
@@ -24,10 +23,8 @@ impl Buffer {
     fn find(&self, who: Endpoint) -> Result<usize, usize> {
         self.entries[..self.len].binary_search_by(|entry| entry.update.who.cmp(&who))
     }
-}
 
-impl Waits for Buffer {
-    fn new() -> Buffer {
+    pub fn new() -> Buffer {
         Buffer {
             entries: [Waiting::default(); WAITING_MAX],
             len: 0,
@@ -35,11 +32,8 @@ impl Waits for Buffer {
         }
     }
 
-    fn len(&self) -> usize {
-        self.len
-    }
-
-    fn offer(&mut self, update: Update) {
+    /// Lets an update begin to wait, in the place of the one about the same member.
+    pub fn offer(&mut self, update: Update) {
         let entry = Waiting {
             update,
             count: 0,
@@ -56,14 +50,15 @@ impl Waits for Buffer {
         }
     }
 
-    fn remove(&mut self, who: Endpoint) {
+    pub fn remove(&mut self, who: Endpoint) {
         if let Ok(at) = self.find(who) {
             self.entries.copy_within(at + 1..self.len, at);
             self.len -= 1;
         }
     }
 
-    fn pick(&mut self, limit: u32) -> Updates {
+    /// The first 30 of those with a count below `limit`, by count, then by who began earlier.
+    pub fn pick(&mut self, limit: u32) -> Updates {
         let mut order = [(0u32, 0u64, 0u16); WAITING_MAX];
         let mut found = 0;
         for (at, entry) in self.entries[..self.len].iter().enumerate() {

@@ -3,7 +3,6 @@
 use super::buffer::Buffer;
 use super::list::List;
 use super::table::{Counts, Heard, ROWS_MAX, Row, Table};
-use super::waits::Waits;
 use super::wire::{Datagram, Endpoint, Kind, NUMBER_MAX, Rules, Update, UpdateKind, WireFault, decode};
 use crate::scene::Deal;
 
@@ -50,8 +49,8 @@ struct Turn {
     place: usize,
 }
 
-/// A member of a group, as far as the cases need it, with what waits kept in some way.
-pub struct Member<W = Buffer> {
+/// A member of a group, as far as the cases need it.
+pub struct Member {
     settings: Settings,
     number: u64,
     time: u64,
@@ -59,12 +58,12 @@ pub struct Member<W = Buffer> {
     probe: Option<Probe>,
     turn: Turn,
     table: Table,
-    buffer: W,
+    buffer: Buffer,
 }
 
-impl<W: Waits> Member<W> {
-    pub fn new(settings: Settings, number: u64) -> Member<W> {
-        let mut buffer = W::new();
+impl Member {
+    pub fn new(settings: Settings, number: u64) -> Member {
+        let mut buffer = Buffer::new();
         buffer.offer(Update {
             kind: UpdateKind::Alive,
             who: settings.me,

@@ -4,12 +4,10 @@
 
 pub mod buckets;
 pub mod buffer;
-pub mod kept;
 pub mod list;
 pub mod member;
 pub mod node;
 pub mod shared;
 pub mod table;
-pub mod waits;
 pub mod wire;
 pub mod work;

@@ -16,6 +16,10 @@ pub struct Tag {
     pub turn: u32,
 }
 
+#[expect(
+    clippy::large_enum_variant,
+    reason = "an entry has its bytes inside, as the proved one has"
+)]
 pub enum Event {
     Tick { deal: Deal },
     Datagram { from: Endpoint, bytes: List<u8, 513> },

@@ -5,7 +5,6 @@ use super::list::List;
 use super::member::{Member, Settings};
 use super::node::{Entry, Event, Link, Node, Reply, Save, Tag};
 use super::table::{Heard, Table};
-use super::waits::Waits;
 use super::wire::{Endpoint, Packet, Update, UpdateKind, decode, encode};
 use crate::scene::{ERA, GROUP, HELPERS, ME, OTHERS, PORT, RULES, TEXT_LEN, deal, newer_text};
 use std::hint::black_box;

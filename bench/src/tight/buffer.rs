@@ -5,7 +5,7 @@ use super::wire::{Room, UPDATES_MAX, Update, put_update};
 use std::arch::x86_64::{_mm_cmpeq_epi8, _mm_loadu_si128, _mm_min_epu8, _mm_movemask_epi8, _mm_set1_epi8};
 
 /// All rows and the own update.
-pub const IDS: usize = 257;
+const IDS: usize = 257;
 
 /// At least twice as many as can wait, and full parts of 16.
 const SLOTS: usize = 528;
@@ -95,6 +95,10 @@ impl Buffer {
 
     /// The greatest count among the next 30 below the limit, how many of it are among them, and where each count begins
     /// there. None where nothing waits.
+    #[expect(
+        clippy::needless_range_loop,
+        reason = "two lists by the same count, in the order of a bucket sort"
+    )]
     fn share(&mut self, limit: usize, starts: &mut [u8; LIMIT_MAX + 1]) -> Option<(usize, usize, usize)> {
         while self.least < limit && self.waiting[self.least] == 0 {
             self.least += 1;

@@ -3,21 +3,17 @@
 use crate::plain::wire as plain;
 use std::mem::MaybeUninit;
 
-pub use crate::plain::wire::{DATAGRAM_MAX, NUMBER_MAX, Rules, UPDATES_MAX, WireFault};
+use crate::plain::wire::NUMBER_MAX;
+pub use crate::plain::wire::{DATAGRAM_MAX, UPDATES_MAX, WireFault};
 
 pub const HEAD_LEN: usize = 32;
-pub const UPDATE_LEN: usize = 16;
+const UPDATE_LEN: usize = 16;
 
-pub const PING: u8 = 1;
-pub const PING_REQ: u8 = 2;
-pub const ACK: u8 = 3;
 const JOIN: u8 = 4;
 const KIND_MAX: u8 = 5;
 const VERSION_MAX: u8 = 2;
 
 pub const ALIVE: u8 = 1;
-pub const SUSPECT: u8 = 2;
-pub const CONFIRM: u8 = 3;
 
 /// The bits of a member, address and port, in a word.
 const WHO: u64 = (1 << 48) - 1;
@@ -43,14 +39,6 @@ impl Update {
             head: u64::from(kind) << 56 | who,
             number,
         }
-    }
-
-    pub fn kind(self) -> u8 {
-        (self.head >> 56) as u8
-    }
-
-    pub fn who(self) -> u64 {
-        self.head & WHO
     }
 
     fn is_bad(self) -> bool {
@@ -152,14 +140,6 @@ pub fn decode(bytes: &[u8]) -> Result<Datagram<'_>, WireFault> {
     match plain::decode(bytes) {
         Err(fault) => Err(fault),
         Ok(_) => Ok(Datagram(bytes)),
-    }
-}
-
-/// The version of the datagrams of a member that lives by these rules.
-pub fn version_of(rules: Rules) -> u8 {
-    match rules {
-        Rules::One => 1,
-        Rules::Two => 2,
     }
 }
 

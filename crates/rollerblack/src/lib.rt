@@ -173,7 +173,7 @@ pub use swim_shared::{CallFault, Closed, ClosedSent, Name, Outbox, Parts, Pass, 
 
 // The workers of a member that runs, and what they ask of their surroundings.
 pub use swim_serve::{
-    Chores, DoorsAndChores, EndedMember, Fault, Joins, MemberEnd, NoChores, Outside, Setup,
+    Chores, DoorsAndChores, EndedMember, Fault, Joins, LifeSetup, MemberEnd, NoChores, Outside,
     run_member,
 };
 pub use swim_shell::{

@@ -19,7 +19,7 @@ use swim_disk::Disk;
 use swim_member::{Settings, SettingsFault};
 use swim_net::{SocketAlarm, Sockets, Waits, address_of, bind_datagrams, wait_of};
 use swim_node::{Node, OpenFault};
-use swim_serve::{DoorsAndChores, EndedMember, Joins, NoChores, Outside, Setup, run_member};
+use swim_serve::{DoorsAndChores, EndedMember, Joins, LifeSetup, NoChores, Outside, run_member};
 use swim_shell::{LIST_MAX, Paces};
 use swim_wire::Endpoint;
 
@@ -155,7 +155,7 @@ where
         introduce,
         ..
     } = member;
-    let setup = Setup {
+    let setup = LifeSetup {
         settings,
         number: node.first(),
         tick: Duration::from_millis(tick_ms),

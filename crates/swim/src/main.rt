@@ -18,12 +18,13 @@ use std::thread::Threads;
 use std::time::Clock;
 use std::{env, fs};
 use swim_ask::{
-    AboutJson, Addresses, Answered, CountersJson, Joining, Paint, StatusJson, Watched, WholeJson,
-    ask, ask_about, await_end, read_about, read_counters, read_status, show_members, watch_members,
+    AboutJson, Addresses, Answered, CountersJson, JoinRequest, Paint, StatusJson, Watched,
+    WholeJson, ask, ask_about, await_end, read_about, read_counters, read_status, show_members,
+    watch_members,
 };
-use swim_check::{Stop, check};
+use swim_check::{CaptureStop, check};
 use swim_cli::{Subcommand, hold_standard, make, read_words};
-use swim_ending::{Ending, Failure};
+use swim_ending::{Exit, Failure};
 use swim_explain::{ExplainFault, Printed, Tale, in_order, print_tales, recordings_at, tell_file};
 use swim_input::{InputFault, SETTINGS_MAX, look_at, open_file};
 use swim_log::{LogLevel, LogStream, Stamped};
@@ -43,7 +44,7 @@ use swim_words::read_endpoint;
 const REFUSED: u8 = 2;
 
 /// All of standard input, or this ending where there is no memory for it.
-fn read_input(rt: &HostRuntime, lacks: Ending) -> Result<Vec<u8>, Failure> {
+fn read_input(rt: &HostRuntime, lacks: Exit) -> Result<Vec<u8>, Failure> {
     match swim_input::read_input(rt) {
         Ok(input) => Ok(input),
         Err(InputFault::Memory) => Err(Failure::from(lacks)),
@@ -62,7 +63,7 @@ fn print_bytes(rt: &HostRuntime, bytes: &[u8]) -> Result<(), Failure> {
 fn print_build(rt: &HostRuntime) -> Result<(), Failure> {
     match build_note(rt) {
         Ok(note) => print_bytes(rt, note.as_bytes()),
-        Err(_) => Err(Failure::from(Ending::Memory)),
+        Err(_) => Err(Failure::from(Exit::Memory)),
     }
 }
 
@@ -83,7 +84,7 @@ fn play_era(rt: &HostRuntime, recording: &[u8]) -> Result<ExitCode, Failure> {
                 reason: RecordingReason::NoMemory,
                 ..
             },
-        ) => Err(Failure::from(Ending::Memory)),
+        ) => Err(Failure::from(Exit::Memory)),
         Err(fault) => {
             let _ = eprintln!(rt; "swim: recording refused {fault}");
             Ok(ExitCode::from(REFUSED))
@@ -93,30 +94,28 @@ fn play_era(rt: &HostRuntime, recording: &[u8]) -> Result<ExitCode, Failure> {
 
 /// Plays the script or the recording on standard input, and prints its transcript.
 fn play_input(rt: &HostRuntime) -> Result<ExitCode, Failure> {
-    let input = read_input(rt, Ending::Script(ScriptFault::NO_MEMORY))?;
+    let input = read_input(rt, Exit::Script(ScriptFault::NO_MEMORY))?;
     if after_first_line(&input).is_some() {
         return play_era(rt, &input);
     }
-    let transcript = play(rt.alloc(), &input).map_err(|fault| Failure::from(Ending::Script(
-        fault,
-    )))?;
+    let transcript = play(rt.alloc(), &input).map_err(|fault| Failure::from(Exit::Script(fault)))?;
     print_bytes(rt, transcript.text.as_bytes())?;
     Ok(ExitCode::SUCCESS)
 }
 
 /// Says whether the capture on standard input keeps the law of the group, or which of its datagrams breaks it first.
 fn check_input(rt: &HostRuntime) -> Result<ExitCode, Failure> {
-    let capture = read_input(rt, Ending::Memory)?;
+    let capture = read_input(rt, Exit::Memory)?;
     match check(rt.alloc(), &capture) {
         Ok(count) => {
             print_line(rt, format_args!("{count} datagrams keep the law"))?;
             Ok(ExitCode::SUCCESS)
         }
-        Err(stop @ Stop::Broken(..)) => {
+        Err(stop @ CaptureStop::Broken(..)) => {
             print_line(rt, stop)?;
             Ok(ExitCode::FAILURE)
         }
-        Err(Stop::NoMemory) => Err(Failure::from(Ending::Memory)),
+        Err(CaptureStop::NoMemory) => Err(Failure::from(Exit::Memory)),
         Err(stop) => {
             let _ = eprintln!(rt; "swim: capture refused {stop}");
             Ok(ExitCode::from(REFUSED))
@@ -206,9 +205,9 @@ fn ask_member<T: Threads>(
 /// The ending where a state file is not shown. Why it is not read is asked once more.
 fn unshown(rt: &HostRuntime, path: &str, fault: ShowFault) -> Failure {
     let ending = match fault {
-        ShowFault::Memory => return Failure::from(Ending::Memory),
-        ShowFault::NotFile => Ending::NotFile,
-        ShowFault::File => Ending::File,
+        ShowFault::Memory => return Failure::from(Exit::Memory),
+        ShowFault::NotFile => Exit::NotFile,
+        ShowFault::File => Exit::File,
     };
     if let Err(fault) = open_file(rt, path) {
         return Failure::of_input(rt.alloc(), "state file", path, fault);
@@ -227,7 +226,7 @@ fn usual_control(rt: &HostRuntime) -> Result<String, Failure> {
     if let Ok(named) = env::var(rt, CONTROL_VARIABLE) {
         return Ok(named);
     }
-    String::from_str(rt.alloc(), CONTROL).map_err(|_| Failure::from(Ending::Memory))
+    String::from_str(rt.alloc(), CONTROL).map_err(|_| Failure::from(Exit::Memory))
 }
 
 /// Prints what a member says of itself: its status, who it is, and that it is alone, where it is. One of an older version tells its
@@ -261,9 +260,7 @@ fn show_status<T: Threads>(
 /// The addresses that are named, or the usual one where none is.
 fn named_or(mut named: Vec<String>, usual: String) -> Result<Vec<String>, Failure> {
     if named.is_empty() {
-        named
-            .push(usual)
-            .map_err(|_| Failure::from(Ending::Memory))?;
+        named.push(usual).map_err(|_| Failure::from(Exit::Memory))?;
     }
     Ok(named)
 }
@@ -278,7 +275,7 @@ fn join_peer<T: Threads>(
     let Some(who) = read_endpoint(peer.as_bytes()) else {
         return Err(Failure::of_address(rt.alloc(), "A", peer));
     };
-    let joining = Joining::new(rt, threads, to, who)?;
+    let joining = JoinRequest::new(rt, threads, to, who)?;
     let answer = joining.send(rt)?;
     print_bytes(rt, answer.as_slice())?;
     if answer.as_slice() != SENT {
@@ -315,7 +312,7 @@ struct ToldTales {
 /// Names a file or a folder that tells nothing on standard error. An error is that there is no memory.
 fn name_refused(rt: &HostRuntime, path: &str, fault: ExplainFault) -> Result<(), Failure> {
     if fault == ExplainFault::Memory {
-        return Err(Failure::from(Ending::Memory));
+        return Err(Failure::from(Exit::Memory));
     }
     let _ = eprintln!(rt; "swim: {path}: {fault}");
     Ok(())
@@ -350,7 +347,7 @@ fn tell_place(
         match tell_file(rt, file, who) {
             Ok(tale) => {
                 let kept = told.tales.push(tale);
-                kept.map_err(|_| Failure::from(Ending::Memory))?;
+                kept.map_err(|_| Failure::from(Exit::Memory))?;
             }
             Err(fault) => {
                 told.are_all = false;
@@ -377,7 +374,7 @@ fn explain_places(
         tales: Vec::new(rt.alloc()),
         are_all: true,
     };
-    for place in &in_order(rt, places).map_err(|_| Failure::from(Ending::Memory))? {
+    for place in &in_order(rt, places).map_err(|_| Failure::from(Exit::Memory))? {
         tell_place(rt, &mut told, place, who)?;
     }
     if !told.tales.is_empty() {
@@ -385,7 +382,7 @@ fn explain_places(
         let text = print_tales(rt.alloc(), &told.tales, &asked);
         print_bytes(
             rt,
-            text.map_err(|_| Failure::from(Ending::Memory))?.as_bytes(),
+            text.map_err(|_| Failure::from(Exit::Memory))?.as_bytes(),
         )?;
     }
     Ok(if told.are_all {
@@ -600,7 +597,7 @@ fn end(rt: &HostRuntime, failure: &Failure) -> ExitCode {
 /// Prints help or the version, which how the program was built goes with, or what is wrong with the words.
 fn explain(rt: &HostRuntime, error: &Error) -> ExitCode {
     if error.kind() == ErrorKind::OutOfMemory {
-        return end(rt, &Failure::from(Ending::Memory));
+        return end(rt, &Failure::from(Exit::Memory));
     }
     let printed = error.print(rt);
     if error.use_stderr() {
@@ -622,14 +619,14 @@ fn words(rt: &HostRuntime) -> Result<Vec<String>, ExitCode> {
     let found = match env::args(rt) {
         Ok(words) => words.collect(rt.alloc()),
         Err(error) if error.kind() == io::ErrorKind::OutOfMemory => {
-            return Err(end(rt, &Failure::from(Ending::Memory)));
+            return Err(end(rt, &Failure::from(Exit::Memory)));
         }
         Err(_) => {
             let _ = eprintln!(rt; "error: a word is not UTF-8");
             return Err(ExitCode::from(REFUSED));
         }
     };
-    found.map_err(|_| end(rt, &Failure::from(Ending::Memory)))
+    found.map_err(|_| end(rt, &Failure::from(Exit::Memory)))
 }
 
 fn main(rt: HostRuntime) -> ExitCode {

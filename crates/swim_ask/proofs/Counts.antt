@@ -39,8 +39,8 @@ no_number text name rest word after more end count is cut lacks none apart fits 
     none count fits (same_split end rest word after (decimal count) more lacks cut (lacks_decimal end count fits apart) same).0
 
 -- the count after a name and what stands after it are one
-pub same_count : (text name rest more : List ℕ) (end n m : ℕ) → (end < 48) ⊎ (57 < end) → n < 2 ^ 64 → m < 2 ^ 64 → text ≡ count_text name n end rest → text ≡ name ++ 32 ∷ (decimal m ++ end ∷ more) → (n ≡ m) × (rest ≡ more)
+pub same_count : (text name rest more : List ℕ) (end n m : ℕ) → (end < 48) ⊎ (57 < end) → n < 2 ^ 64 → m < 2 ^ 64 → text ≡ count_text name n end rest → text ≡ count_text name m end more → (n ≡ m) × (rest ≡ more)
 same_count text name rest more end n m apart fits small is says =
-    let same = after_name text name (split_by end (decimal n) rest) (split_by end (decimal m) more) (is ∙ cut_text name n end rest) says in
+    let same = after_name text name (split_by end (decimal n) rest) (split_by end (decimal m) more) (is ∙ cut_text name n end rest) (says ∙ cut_text name m end more) in
     let parts = same_split end (split_by end (decimal n) rest) (decimal n) rest (decimal m) more (lacks_decimal end n fits apart) refl (lacks_decimal end m small apart) same in
     (decimal_injective n m fits small parts.0, parts.1)

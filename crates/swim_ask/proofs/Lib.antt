@@ -1,5 +1,6 @@
 pub mod Statuses
 pub mod Counted
+pub mod CounterLines
 pub mod Counts
 pub mod Rows
 pub mod Wholes

@@ -1,11 +1,10 @@
 -- The line of a row is read in one way, and so are the lines of rows.
-use Rattle.std.proofs.Common.{◌≡◌, ℕ, ◌+◌, ◌/◌, ◌%◌, ◌^◌, ◌<◌, ◌≤◌, ◌⊎◌, List, [], ◌∷◌, ◌++◌, length, length-append, get_or, append_assoc, refl, sym, ◌∙◌, ap, subst, lit<, inl, inr, arith}
+use Rattle.std.proofs.Common.{◌≡◌, ℕ, ◌+◌, ◌^◌, ◌<◌, ◌≤◌, List, [], ◌∷◌, ◌++◌, length, length-append, get_or, append_assoc, refl, sym, ◌∙◌, ap, subst, lit<, inl, arith}
 use Rattle.std.specs.Prelude.{◌≢◌, All, codes}
 use Rattle.std.specs.Fmt.{decimal}
 use Rattle.std.proofs.lemmas.Fmt.{decimal_injective}
 use Rattle.std.proofs.lemmas.List.{append-nil, append_cancel_right}
 use Rattle.std.proofs.lemmas.List.Elements.{All-append, All-cons, All-head, All-nil, All-tail}
-use Rattle.swim_wire.specs.Numbers.{IsEndpoint}
 use Rattle.swim_wire.specs.Text.{kind_word}
 use Rattle.swim_wire.specs.declared.update.Update.{Update}
 use Rattle.swim_wire.specs.declared.update.UpdateKind.{UpdateKind}
@@ -14,40 +13,9 @@ use Rattle.swim_shell.specs.Answers.{row_text, rows_text}
 use Rattle.swim_news.specs.News.{AreFrom}
 use Rattle.swim_words.specs.Words.{Lacks, No, SaysEndpoint, endpoint_text, split_by}
 use Rattle.swim_words.proofs.Digits.{lacks_decimal}
-use Rattle.swim_words.proofs.Endpoints.{from_fourth, from_second, from_third, port_text}
+use Rattle.swim_words.proofs.Endpoints.{endpoint_apart, same_endpoint}
 use Rattle.swim_words.proofs.Splits.{lacks_byte, lacks_split, no_split, same_split}
 use Rattle.swim_ask.specs.Answers.{AddsRows, FitsAfter, IsRow, SaysRow, SaysRows}
-
--- An endpoint's text is that of no other
-
-parted : (byte n m : ℕ) (rest after : List ℕ) → (byte < 48) ⊎ (57 < byte) → n < 2 ^ 64 → m < 2 ^ 64 → split_by byte (decimal n) rest ≡ split_by byte (decimal m) after → (n ≡ m) × (rest ≡ after)
-parted byte n m rest after apart small lesser same =
-    let parts = same_split byte (split_by byte (decimal n) rest) (decimal n) rest (decimal m) after (lacks_decimal byte n small apart) refl (lacks_decimal byte m lesser apart) same in
-    (decimal_injective n m small lesser parts.0, parts.1)
-
-by_parts : (n m : ℕ) → n < 2 ^ 48 → m < 2 ^ 48 → n / 65536 / 16777216 ≡ m / 65536 / 16777216 → n / 65536 / 65536 % 256 ≡ m / 65536 / 65536 % 256 → n / 65536 / 256 % 256 ≡ m / 65536 / 256 % 256 → n / 65536 % 256 ≡ m / 65536 % 256 → n % 65536 ≡ m % 65536 → n ≡ m
-by_parts n m small lesser first second third fourth port = omega arith
-
-same_endpoint : (d e : ℕ) → IsEndpoint d → IsEndpoint e → endpoint_text d ≡ endpoint_text e → d ≡ e
-same_endpoint d e is other same =
-    let small = is.six_bytes in
-    let lesser = other.six_bytes in
-    let first = parted 46 (d / 65536 / 16777216) (e / 65536 / 16777216) (from_second d) (from_second e) (inl (omega arith)) (omega arith) (omega arith) same in
-    let second = parted 46 (d / 65536 / 65536 % 256) (e / 65536 / 65536 % 256) (from_third d) (from_third e) (inl (omega arith)) (omega arith) (omega arith) first.1 in
-    let third = parted 46 (d / 65536 / 256 % 256) (e / 65536 / 256 % 256) (from_fourth d) (from_fourth e) (inl (omega arith)) (omega arith) (omega arith) second.1 in
-    let fourth = parted 58 (d / 65536 % 256) (e / 65536 % 256) (port_text d) (port_text e) (inr (omega arith)) (omega arith) (omega arith) third.1 in
-    let port = decimal_injective (d % 65536) (e % 65536) (omega arith) (omega arith) fourth.1 in
-    by_parts d e (omega arith) (omega arith) first.0 second.0 third.0 fourth.0 port
-
--- nor has it a byte that is less than those of its parts
-endpoint_apart : (byte e : ℕ) → byte < 46 → IsEndpoint e → Lacks byte (endpoint_text e)
-endpoint_apart byte e less is =
-    let bound = is.six_bytes in
-    let number : (n : ℕ) → n < 2 ^ 64 → Lacks byte (decimal n) = λ n fits. lacks_decimal byte n fits (inl (omega arith)) in
-    lacks_split byte 46 (decimal (e / 65536 / 16777216)) (from_second e) (λ same. omega arith) (number (e / 65536 / 16777216) (omega arith))
-    (lacks_split byte 46 (decimal (e / 65536 / 65536 % 256)) (from_third e) (λ same. omega arith) (number (e / 65536 / 65536 % 256) (omega arith))
-    (lacks_split byte 46 (decimal (e / 65536 / 256 % 256)) (from_fourth e) (λ same. omega arith) (number (e / 65536 / 256 % 256) (omega arith))
-    (lacks_split byte 58 (decimal (e / 65536 % 256)) (port_text e) (λ same. omega arith) (number (e / 65536 % 256) (omega arith)) (number (e % 65536) (omega arith)))))
 
 -- The words of a line
 

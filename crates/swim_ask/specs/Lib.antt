@@ -1,4 +1,5 @@
 pub mod Answers
-pub mod Joining
+pub mod JoinRequest
 pub mod Leaving
 pub mod Whole
+pub mod Machinery

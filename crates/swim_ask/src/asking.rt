@@ -11,7 +11,7 @@ use std::net::{Net, TcpStream};
 use std::rt::Clock;
 use std::thread::Threads;
 use std::time::{Duration, Instant};
-use swim_ending::{Ending, Failure};
+use swim_ending::{Exit, Failure};
 use swim_net::address_of;
 use swim_wire::Endpoint;
 use swim_words::{read_number, split_at_byte};
@@ -125,7 +125,7 @@ fn talk<R: Net<Stream = TcpStream> + Clock + AllocGlobal>(
 
 /// The ending where the control socket of a member does not answer.
 fn unanswered(alloc: Global, to: Endpoint, error: &io::Error) -> Failure {
-    let ending = Ending::of(error, Ending::Socket);
+    let ending = Exit::of(error, Exit::Socket);
     Failure::about(alloc, ending, format_args!("TCP {to} (control): {error}"))
 }
 
@@ -134,7 +134,7 @@ pub(crate) fn now<R: Clock + AllocGlobal>(rt: &R) -> Result<Instant, Failure> {
     match Instant::now(rt) {
         Ok(now) => Ok(now),
         Err(error) => {
-            let ending = Ending::of(&error, Ending::Socket);
+            let ending = Exit::of(&error, Exit::Socket);
             Err(Failure::about(rt.alloc(), ending, format_args!("clock: {error}")))
         }
     }

@@ -4,7 +4,7 @@ ghost use Rattle.std.specs.Prelude.{◌≡◌, ◌≢◌, ◌↔◌, Some, true,
 ghost use Rattle.swim_shell.specs.Counters.{counter_at};
 ghost use Rattle.swim_shell.specs.declared.counters.Counter.TheVariants as counter;
 ghost use Rattle.swim_wire.specs.declared.update.Update.{Update as Row};
-ghost use Rattle.swim_ask.specs.Joining.{HasNone};
+ghost use Rattle.swim_ask.specs.JoinRequest.{HasNone};
 
 use crate::asking::{exchange, now};
 use crate::counters::read_counters;
@@ -15,7 +15,7 @@ use std::net::{Net, TcpStream};
 use std::rt::Clock;
 use std::thread::{self, Threads};
 use std::time::Duration;
-use swim_ending::{Ending, Failure};
+use swim_ending::{Exit, Failure};
 use swim_news::Rows;
 use swim_shell::{Counters, ERA_COUNTS};
 use swim_wire::{Endpoint, Update, UpdateKind};
@@ -48,7 +48,7 @@ struct Look {
 
 /// A member, and one that it is to join.
 #[derive(Clone, Copy)]
-pub struct Joining {
+pub struct JoinRequest {
     at: Endpoint,
     who: Endpoint,
     /// What was told before the join.
@@ -104,20 +104,20 @@ fn known_by(before: Option<Update>, after: Option<Update>, is_silent: bool) -> O
     Some(Joined::Old(row))
 }
 
-impl Joining {
+impl JoinRequest {
     /// Of the member whose control socket a word names, which is not yet judged, with what it tells of the other one before the join.
     pub fn new<T: Threads>(
         rt: &HostRuntime,
         threads: &T,
         to: &str,
         who: Endpoint,
-    ) -> Result<Joining, Failure> {
+    ) -> Result<JoinRequest, Failure> {
         let at = find_from(rt, threads, to, &now(rt)?)?;
         let before = Look {
             row: alive_in(&read_all_rows(rt, at)?, who),
             received: ask_received(rt, at)?,
         };
-        Ok(Joining { at, who, before })
+        Ok(JoinRequest { at, who, before })
     }
 
     /// Tells the member to join the other one, and gives its answer.
@@ -128,7 +128,7 @@ impl Joining {
         let who = self.who;
         match format!(in rt.alloc(); "join {who}") {
             Ok(line) => exchange(rt, self.at, line.as_str()),
-            Err(_) => Err(Failure::from(Ending::Memory)),
+            Err(_) => Err(Failure::from(Exit::Memory)),
         }
     }
 
@@ -161,7 +161,7 @@ impl Joining {
         let asked = format_args!(
             "UDP {who}: is it up, reachable from there, of the same group and with the same rules?"
         );
-        Err(Failure::about(rt.alloc(), Ending::Unjoined, asked))
+        Err(Failure::about(rt.alloc(), Exit::Unjoined, asked))
     }
 }
 

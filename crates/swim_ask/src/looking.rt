@@ -14,7 +14,7 @@ use swim_shell::{About, Counters};
 
 /// What a member said of itself and of all members.
 #[derive(Drop)]
-pub struct Shown {
+pub struct MemberReport {
     /// Its status.
     pub status: Status,
     /// All rows, itself among them; none where its era was full, so that it has to be asked again.
@@ -27,14 +27,17 @@ pub struct Shown {
 
 /// Asks the member whose control socket a word names for its status, all rows, what it has done, and who it is. Each of its answers takes at
 /// most 5 seconds. None where it did not answer, or not so.
-pub fn look<R: Net<Stream = TcpStream> + Clock + AllocGlobal>(rt: &R, word: &str) -> Option<Shown> {
+pub fn look<R: Net<Stream = TcpStream> + Clock + AllocGlobal>(
+    rt: &R,
+    word: &str,
+) -> Option<MemberReport> {
     let to = find(rt, word).ok()?;
     let answer = exchange(rt, to, "status").ok()?;
     let status = read_status(answer.as_slice())?;
     let rows = read_rows(rt, to).ok()?;
     let answer = exchange(rt, to, "counters").ok()?;
     let about = ask_about(rt, to).ok()?;
-    Some(Shown {
+    Some(MemberReport {
         status,
         rows,
         counters: read_counters(answer.as_slice()),

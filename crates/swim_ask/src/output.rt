@@ -8,7 +8,7 @@ use std::os::fd::RawFd;
 use std::rt::Clock;
 use std::time::Duration;
 use std::{io, thread};
-use swim_ending::Ending;
+use swim_ending::Exit;
 
 /// The descriptor of standard output.
 const STANDARD_OUTPUT: RawFd = 1;
@@ -63,13 +63,13 @@ impl Output {
     }
 
     /// Waits so long. An error says that nobody reads it any more.
-    pub(crate) fn wait<C: Clock>(&mut self, clock: &C, time: Duration) -> Result<(), Ending> {
+    pub(crate) fn wait<C: Clock>(&mut self, clock: &C, time: Duration) -> Result<(), Exit> {
         let is_left = match &mut self.watch {
             Some(watch) => watch.is_left_within(time).ok(),
             None => None,
         };
         match is_left {
-            Some(true) => Err(Ending::Unread),
+            Some(true) => Err(Exit::Unread),
             Some(false) => Ok(()),
             None => {
                 thread::sleep(clock, time);

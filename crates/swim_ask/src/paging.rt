@@ -14,7 +14,7 @@ use std::net::{Net, TcpStream};
 use std::rt::Clock;
 use std::time::Duration;
 use std::{str, thread};
-use swim_ending::{Ending, Failure};
+use swim_ending::{Exit, Failure};
 use swim_news::{PAGES_MAX, Rows};
 use swim_wire::{Endpoint, MEMBERS_MAX, UPDATES_MAX, Update, UpdateKind};
 use swim_words::{read_endpoint, read_number, split_at_byte};
@@ -88,7 +88,7 @@ fn add_rows(rows: &mut Rows, lines: &[u8]) -> Option<usize>
 }
 
 /// Adds the rows of the whole answer to a line `members`. A page with as many rows as one has at most is not the last one.
-fn take_answer(rows: &mut Rows, answer: &[u8]) -> Result<Page, Ending>
+fn take_answer(rows: &mut Rows, answer: &[u8]) -> Result<Page, Exit>
     ensures full { result ≡ Ok Page.Full → length rows.new ≡ length rows.old + UPDATES_MAX }
     ensures last { result ≡ Ok Page.Last → length rows.new ≢ length rows.old + UPDATES_MAX }
     ensures era { result ≡ Ok Page.EraFull ↔ StartsWith answer.now (codes "error 5") }
@@ -103,15 +103,15 @@ fn take_answer(rows: &mut Rows, answer: &[u8]) -> Result<Page, Ending>
         return Ok(Page::EraFull);
     }
     let Some((first, lines)) = split_at_byte(answer, b'\n') else {
-        return Err(Ending::Answer);
+        return Err(Exit::Answer);
     };
     if !first.starts_with(b"ok ") {
-        return Err(Ending::Answer);
+        return Err(Exit::Answer);
     }
     match add_rows(rows, lines) {
         Some(UPDATES_MAX) => Ok(Page::Full),
         Some(_) => Ok(Page::Last),
-        None => Err(Ending::Answer),
+        None => Err(Exit::Answer),
     }
 }
 
@@ -126,7 +126,7 @@ fn next_line(rows: &Rows) -> ArrayString<LINE_MAX> {
 }
 
 /// The ending where an answer is no page of rows, with its first line.
-fn unread(alloc: Global, to: Endpoint, answer: &[u8], ending: Ending) -> Failure {
+fn unread(alloc: Global, to: Endpoint, answer: &[u8], ending: Exit) -> Failure {
     let first = answer.split(|byte| *byte == b'\n').next().unwrap_or(b"");
     let said = str::from_utf8(first).unwrap_or("");
     Failure::about(
@@ -168,5 +168,5 @@ pub(crate) fn read_all_rows<R: Net<Stream = TcpStream> + Clock + AllocGlobal>(
         thread::sleep(rt, Duration::from_millis(AGAIN_MILLIS));
     }
     let full = format_args!("TCP {to} (control): each page that was asked for found its era full");
-    Err(Failure::about(rt.alloc(), Ending::Answer, full))
+    Err(Failure::about(rt.alloc(), Exit::Answer, full))
 }

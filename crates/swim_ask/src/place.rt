@@ -7,7 +7,7 @@ use std::net::Net;
 use std::thread::Threads;
 use std::time::Instant;
 use std::{io, str};
-use swim_ending::{Ending, Failure};
+use swim_ending::{Exit, Failure};
 use swim_net::first_address;
 use swim_wire::Endpoint;
 use swim_words::{read_endpoint, read_host};
@@ -27,7 +27,7 @@ pub(crate) fn judge(alloc: Global, word: &str) -> Result<(), Failure> {
 
 /// The ending where a host has no address.
 fn unknown(alloc: Global, word: &str) -> Failure {
-    Failure::about(alloc, Ending::Host, format_args!("{ADDRESS} {word:?}"))
+    Failure::about(alloc, Exit::Host, format_args!("{ADDRESS} {word:?}"))
 }
 
 /// The address that was looked up of the host that a word names. An error is that there is none, or no memory.
@@ -40,7 +40,7 @@ fn taken(
         Ok(Some(endpoint)) => Ok(endpoint),
         Ok(None) => Err(unknown(alloc, word)),
         Err(error) => {
-            let ending = Ending::of(&error, Ending::Host);
+            let ending = Exit::of(&error, Exit::Host);
             Err(Failure::about(alloc, ending, format_args!("{ADDRESS} {word:?}: {error}")))
         }
     }

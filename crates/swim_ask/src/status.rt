@@ -6,6 +6,7 @@ ghost use Rattle.swim_member.specs.Texts.{phase_word};
 ghost use Rattle.swim_shell.specs.Answers.{status_text};
 ghost use Rattle.swim_words.specs.Words.{No, Lacks};
 ghost use Rattle.swim_ask.specs.Answers.{SaysStatus};
+ghost use Rattle.swim_ask.specs.Machinery.Counts.{SaysCounts, counts_from, status_at};
 
 use crate::about::AboutValues;
 use std::fmt;
@@ -54,6 +55,36 @@ pub(crate) fn read_count<'a>(text: &'a [u8], name: &[u8], end: u8) -> Option<(u6
     Some((count, after))
 }
 
+/// The name of the count of a status at this place, and the byte that ends the count.
+fn count_at(place: usize) -> (&'static [u8], u8)
+    ensures name { result.0.now ≡ (status_at place).0 }
+    ensures end { result.1 ≡ (status_at place).1 }
+{
+    match place {
+        0 => (b"number", b' '),
+        1 => (b"alive", b' '),
+        2 => (b"suspect", b' '),
+        3 => (b"confirmed", b' '),
+        _ => (b"length", b'\n'),
+    }
+}
+
+/// The counts of a status, and nothing after them.
+fn read_counts(text: &[u8]) -> Option<[u64; 5]>
+    ensures counts { IfSome result (λ counts. text.now ≡ counts_from status_at 0 counts) }
+    ensures none { IfNone result (No (SaysCounts status_at 5 text.now)) }
+{
+    let mut left = text;
+    let mut counts = [0; 5];
+    for place in 0..5 {
+        let (name, end) = count_at(place);
+        let (count, rest) = read_count(left, name, end)?;
+        counts[place] = count;
+        left = rest;
+    }
+    if left.is_empty() { Some(counts) } else { None }
+}
+
 /// The status that an answer to the line `status` says; none where it is no such answer.
 pub fn read_status(answer: &[u8]) -> Option<Status>
     ensures status { IfSome result (λ status. answer.now ≡ status_text status) }
@@ -62,14 +93,7 @@ pub fn read_status(answer: &[u8]) -> Option<Status>
     let rest = after_word(answer, b"ok")?;
     let (phase, rest) = split_at_byte(rest, b' ')?;
     let phase = read_phase(phase)?;
-    let (number, rest) = read_count(rest, b"number", b' ')?;
-    let (alive, rest) = read_count(rest, b"alive", b' ')?;
-    let (suspect, rest) = read_count(rest, b"suspect", b' ')?;
-    let (confirmed, rest) = read_count(rest, b"confirmed", b' ')?;
-    let (length, rest) = read_count(rest, b"length", b'\n')?;
-    if !rest.is_empty() {
-        return None;
-    }
+    let [number, alive, suspect, confirmed, length] = read_counts(rest)?;
     Some(Status {
         phase,
         number,

@@ -9,7 +9,7 @@ use std::net::{Net, TcpStream};
 use std::rt::Clock;
 use std::thread;
 use std::time::{Duration, Instant};
-use swim_ending::{Ending, Failure};
+use swim_ending::{Exit, Failure};
 use swim_net::address_of;
 use swim_wire::Endpoint;
 
@@ -65,5 +65,5 @@ pub fn await_end<R: Net<Stream = TcpStream> + Clock + AllocGlobal>(
         thread::sleep(rt, Duration::from_millis(PAUSE_MILLIS));
     }
     let open = format_args!("TCP {at} (control): it is still open");
-    Err(Failure::about(rt.alloc(), Ending::NotEnded, open))
+    Err(Failure::about(rt.alloc(), Exit::NotEnded, open))
 }

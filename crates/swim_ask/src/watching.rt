@@ -16,7 +16,7 @@ use std::rt::Clock;
 use std::sync::{Wait, WaitMethods};
 use std::thread::Threads;
 use std::time::Duration;
-use swim_ending::{Ending, Failure};
+use swim_ending::{Exit, Failure};
 use swim_news::{Change, ChangeJson, Changes, RowJson, Rows, compare};
 use swim_shell::Alone;
 use swim_wire::{Endpoint, Update};
@@ -124,10 +124,7 @@ fn rows_at<R: Net<Stream = TcpStream> + Clock + AllocGlobal>(
 
 /// Whether a failure says that a member does not answer, or not so.
 fn is_silence(failure: &Failure) -> bool {
-    matches!(
-        failure.ending(),
-        Ending::Host | Ending::Socket | Ending::Answer
-    )
+    matches!(failure.ending(), Exit::Host | Exit::Socket | Exit::Answer)
 }
 
 impl Watched<'_> {

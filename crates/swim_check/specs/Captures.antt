@@ -4,9 +4,9 @@ use Rattle.hex.specs.Hex.{decode_of}
 use Rattle.hex.specs.declared.error.FromHexError.{FromHexError}
 use Rattle.swim_wire.specs.declared.datagram.Datagram.{Datagram as Datagrams}
 use Rattle.swim_wire.specs.Decoding.{decoded}
-use Rattle.swim_check.specs.declared.capture.Stop.{Stop}
-use Rattle.swim_check.specs.declared.capture.Stop.TheVariants.{Line, NoMemory as Lacking}
-use Rattle.swim_check.specs.declared.capture.Stop.TheVariants.{Broken as Stopped}
+use Rattle.swim_check.specs.declared.capture.CaptureStop.{CaptureStop}
+use Rattle.swim_check.specs.declared.capture.CaptureStop.TheVariants.{Line, NoMemory as Lacking}
+use Rattle.swim_check.specs.declared.capture.CaptureStop.TheVariants.{Broken as Stopped}
 use Rattle.swim_check.specs.declared.line.LineFault.{LineFault}
 use Rattle.swim_check.specs.declared.line.LineFault.TheVariants.{Cut, Words, Endpoint, Hex}
 use Rattle.swim_check.specs.declared.line.LineFault.TheVariants.{Datagram, Sender, NoMemory}
@@ -71,7 +71,7 @@ pub record IsFirstRefused (text : List ℕ) (number : ℕ) (fault : LineFault) :
 
 -- why it is not found to keep the law: this line is the first that is refused, or memory lacked, or
 -- the datagram of this line is the first that breaks it
-abbrev pub IsStop : List ℕ → Stop → Type 0
+abbrev pub IsStop : List ℕ → CaptureStop → Type 0
 IsStop text (Line number fault) = IsFirstRefused text number fault
 IsStop text (Stopped line update breach) = (datagrams : List Datagrams) × (place : ℕ)
     × IsCapture text datagrams

@@ -14,7 +14,7 @@ use swim_words::split_at_byte;
 
 /// Why a capture is not found to keep the law. Lines are counted from 1.
 #[derive(Clone, Copy, Debug, PartialEq, Eq)]
-pub enum Stop {
+pub enum CaptureStop {
     /// This line is no line of a capture.
     Line(usize, LineFault),
     /// The datagram of this line is the first that breaks the law, by this update.
@@ -23,17 +23,17 @@ pub enum Stop {
     NoMemory,
 }
 
-impl fmt::Display for Stop {
+impl fmt::Display for CaptureStop {
     fn fmt<W: fmt::Write>(&self, f: &mut fmt::Formatter<W>) -> fmt::Result {
         match self {
-            Stop::Line(line, fault) => write!(f, "line {line}: {fault}"),
-            Stop::Broken(line, update, breach) => {
+            CaptureStop::Line(line, fault) => write!(f, "line {line}: {fault}"),
+            CaptureStop::Broken(line, update, breach) => {
                 let kind = update.kind.name();
                 let who = update.who;
                 let number = update.number;
                 write!(f, "line {line}: {kind} {who} {number}: {breach}")
             }
-            Stop::NoMemory => write!(f, "there is no memory"),
+            CaptureStop::NoMemory => write!(f, "there is no memory"),
         }
     }
 }
@@ -64,7 +64,7 @@ pub fn read_capture(alloc: Global, text: &[u8]) -> Result<Vec<Datagram>, (usize,
 }
 
 /// How many datagrams the capture has, if they keep the law.
-pub fn check(alloc: Global, text: &[u8]) -> Result<usize, Stop>
+pub fn check(alloc: Global, text: &[u8]) -> Result<usize, CaptureStop>
     ensures ok { IfOk result (λ count. (datagrams : List Datagrams)
         × IsCapture text.now datagrams
         × KeepTheLaw [] (as_sent datagrams)
@@ -73,13 +73,13 @@ pub fn check(alloc: Global, text: &[u8]) -> Result<usize, Stop>
 {
     let datagrams = match read_capture(alloc, text) {
         Ok(datagrams) => datagrams,
-        Err((line, fault)) => return Err(Stop::Line(line, fault)),
+        Err((line, fault)) => return Err(CaptureStop::Line(line, fault)),
     };
     match check_all(alloc, &datagrams) {
         Ok(()) => Ok(datagrams.len()),
-        Err((_, CheckFault::NoMemory)) => Err(Stop::NoMemory),
+        Err((_, CheckFault::NoMemory)) => Err(CaptureStop::NoMemory),
         Err((place, CheckFault::Broken(update, breach))) => {
-            Err(Stop::Broken(place + 1, update, breach))
+            Err(CaptureStop::Broken(place + 1, update, breach))
         }
     }
 }

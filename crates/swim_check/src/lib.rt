@@ -5,5 +5,5 @@
 mod capture;
 mod line;
 
-pub use capture::{Stop, check, read_capture};
+pub use capture::{CaptureStop, check, read_capture};
 pub use line::{LineFault, read_line};

@@ -5,7 +5,7 @@ use std::fs::File;
 use std::io::{self, ErrorKind};
 use std::rt::Files;
 use swim_disk::FileDisk;
-use swim_ending::{Ending, Failure};
+use swim_ending::{Exit, Failure};
 use swim_start::{open_locked, sync_folder};
 use swim_state::{InitFault, Owner, init};
 use swim_wire::NUMBER_MAX;
@@ -13,18 +13,14 @@ use swim_words::read_endpoint;
 
 /// The ending where a new state file is not written.
 fn unwritten(alloc: Global, file: &str, fault: InitFault) -> Failure {
-    Failure::about(
-        alloc,
-        Ending::Init(fault),
-        format_args!("state file {file}"),
-    )
+    Failure::about(alloc, Exit::Init(fault), format_args!("state file {file}"))
 }
 
 /// The ending where a ceiling is above all numbers.
 fn above_all(alloc: Global, ceiling: u64) -> Failure {
     Failure::about(
         alloc,
-        Ending::Init(InitFault::Range),
+        Exit::Init(InitFault::Range),
         format_args!("--ceiling {ceiling}: it is above {NUMBER_MAX}"),
     )
 }
@@ -52,7 +48,7 @@ pub fn make<R: Files<File = File> + AllocGlobal>(
     let mut disk = match loaded {
         Ok(disk) => disk,
         Err(error) if error.kind() == ErrorKind::OutOfMemory => {
-            return Err(Failure::from(Ending::Memory));
+            return Err(Failure::from(Exit::Memory));
         }
         Err(_) => return Err(unwritten(alloc, file, InitFault::Device)),
     };

@@ -1,9 +1,9 @@
 -- The figures of the bound.
-use Rattle.std.proofs.Common.{◌≡◌, ℕ, suc, ◌+◌, ◌-◌, ◌*◌, ◌%◌, ◌<◌, ◌≤◌, ◌==◌, Bool, true, false, cond, ◌||◌, sym, ◌∙◌, ap, List, [], ◌∷◌, length, arith}
+use Rattle.std.proofs.Common.{◌≡◌, ℕ, suc, ◌+◌, ◌-◌, ◌*◌, ◌%◌, ◌<◌, ◌≤◌, Bool, true, false, cond, sym, ◌∙◌, ap, length, arith}
 use Rattle.std.proofs.lemmas.Bool.{false≢true}
 use Rattle.std.proofs.Math.Nat.{mul-le-mul_right, suc-mul}
+use Rattle.swim_detect.proofs.Looking.{looks-lacks}
 use Rattle.swim_rules.specs.Rows.{row_of}
-use Rattle.swim_member.specs.Looks.{is_among}
 use Rattle.swim_member.specs.State.{State}
 use Rattle.swim_member.specs.Turn.{still_listed}
 use Rattle.swim_detect.specs.Finding.{is_waited_for, looks_to, periods_to, ticks_alive, ticks_to_suspect, ticks_left}
@@ -46,15 +46,6 @@ is-within others x s h = (early, late)
         plain : (a b c d : ℕ) → a ≡ b + c → b ≤ d → a ≤ d + c
         plain a b c d e h = omega arith
 
--- who is not in the list comes last in the next one
-looks-absent : (most x : ℕ) (l : List ℕ) → is_among x l ≡ false → looks_to most x l ≡ length l + most
-looks-absent most x [] h = omega arith
-looks-absent most x (y ∷ l) h = at (y == x) h (looks-absent most x l)
-  where
-    at : (b : Bool) → (b || is_among x l) ≡ false → (is_among x l ≡ false → looks_to most x l ≡ length l + most) → cond b 1 (looks_to most x l + 1) ≡ length (y ∷ l) + most
-    at true h i = absurd (false≢true (sym h))
-    at false h i = let same : looks_to most x l ≡ length l + most = i h in omega arith
-
 pub is-reached : (others x : ℕ) (s : State) → TakesBound others x s
 is-reached others x s h = (early, late)
   where
@@ -62,7 +53,7 @@ is-reached others x s h = (early, late)
     p = s.settings.period
 
     many : periods_to others x s ≡ others + others - 1
-    many = at (is_waited_for x s.probe) h.answered (looks_to others x (still_listed s)) (length (still_listed s)) h.left (looks-absent others x (still_listed s) h.absent)
+    many = at (is_waited_for x s.probe) h.answered (looks_to others x (still_listed s)) (length (still_listed s)) h.left (looks-lacks others x (still_listed s) h.absent)
       where
         at : (b : Bool) → b ≡ false → (k l : ℕ) → l + 1 ≡ others → k ≡ l + others → cond b 0 k ≡ others + others - 1
         at true f k l i j = absurd (false≢true (sym f))

@@ -133,7 +133,7 @@ few-step base log e few =
     (ap (λ fs. apply_all fs (state base log)) (sym (news-news_from base log ms)) ∙ sym (state-append base (changes_by base log ms) log))
     (few-from base log ms few)
 
-first-now : (x : ℕ) (base : State) (log : List Change) (steps : List Step) → StaysEligible x base log steps → is_eligible_name (state base log) x ≡ true
+pub first-now : (x : ℕ) (base : State) (log : List Change) (steps : List Step) → StaysEligible x base log steps → is_eligible_name (state base log) x ≡ true
 first-now x base log [] h = h
 first-now x base log (e ∷ steps) h = h.0
 

@@ -49,12 +49,7 @@ known s e = by_phase s.phase refl e
   where
     stopped : (e : Event) → IsKnown s e (judge_stopped e)
     stopped (event.Members cursor) = tt
-    stopped (event.Tick deal) = tt
-    stopped (event.Datagram from bytes) = tt
-    stopped event.ReceiveFailed = tt
-    stopped (event.SendFailed count) = tt
-    stopped (event.Join peer) = tt
-    stopped event.Leave = tt
+    stopped _ = tt
 
     read : (e : Event) (d : Datagram) (o : Option Note) → ReadAs e d → s.phase ≡ Running → IsKnown s e (judge_read s d o)
     read e d (Some n) h running = tt
@@ -71,11 +66,8 @@ known s e = by_phase s.phase refl e
     runs : (e : Event) → s.phase ≡ Running → IsKnown s e (judge_running s e)
     runs (event.Tick deal) running = ticked deal (s.time == 4611686018427387904) running
     runs (event.Datagram from bytes) running = received (event.Datagram from bytes) from (decoded bytes.items) (λ d h. h) running
-    runs event.ReceiveFailed running = tt
-    runs (event.SendFailed count) running = tt
-    runs (event.Join peer) running = tt
     runs event.Leave running = record { leave = refl; running = running }
-    runs (event.Members cursor) running = tt
+    runs _ running = tt
 
     by_phase : (phase : Phase) → s.phase ≡ phase → (e : Event) → IsKnown s e (judge_in phase s e)
     by_phase Running same e = runs e same

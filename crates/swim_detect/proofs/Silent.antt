@@ -27,7 +27,7 @@ use Rattle.swim_member.specs.declared.own_number.OwnNumber.TheVariants.{Stays, W
 use Rattle.swim_member.specs.declared.judge.Judgement.{Judgement}
 use Rattle.swim_member.specs.declared.judge.Judgement.TheVariants as judged
 use Rattle.swim_member.specs.Checks.{AreSound, rules_of}
-use Rattle.swim_member.specs.State.{State, Change, Heard, Forgot, Queued, Sent, NumberRaised, Became, Ticked, SequenceTaken, Probed, Relayed, Unrelayed, Joined, Looked, Listed, Passed, Paged, Noted}
+use Rattle.swim_member.specs.State.{State, Change, Heard, Queued, NumberRaised, Ticked, Probed, Joined, Looked, Noted}
 use Rattle.swim_member.specs.Readings.{state}
 use Rattle.swim_member.specs.Events.{Step, Action, Hear, Settle, Reply, Advance, Expire, Forget, Blame, Probe_next, Ask, Depart, Bye, Join_peer, Show, Take, perform, when_running, each_from, datagram_actions, actions_of, actions, changes_of, log_after, log_of}
 use Rattle.swim_member.specs.Expiry.{expire_first, forget_first}
@@ -43,15 +43,14 @@ use Rattle.swim_member.specs.Leave.{bye}
 use Rattle.swim_member.specs.Member.{is_eligible_name, eligible}
 use Rattle.swim_member.specs.Turn.{next_listed, eligible_names, dealt, begin_turn, take_turn, look}
 use Rattle.swim_member.specs.Machinery.Steps.{apply, apply_all, after, changes_from, step_news}
-use Rattle.swim_member.proofs.Actions.{apply_all-append, after-append, after-news}
+use Rattle.swim_member.proofs.Actions.{apply_all-append, after-append, after-news, news-append}
 use Rattle.swim_member.proofs.Logs.{state-append, news-news_from}
-use Rattle.swim_member.proofs.FewRows.{order-read}
+use Rattle.swim_member.proofs.FewRows.{order-read, same_rows}
 use Rattle.swim_member.proofs.Showing.{Lacks, Tells, news-no, quiet-each, settled-other}
 use Rattle.swim_detect.specs.Causes.{Has}
 use Rattle.swim_detect.specs.Finding.{is_eligible_row, IsConfirmed, is_waited_for, is_alive, takes_back, spares, NeverSpares, ticks_left, happened_in, IsShort, deadline}
 use Rattle.swim_detect.specs.Silence.{IsSilentOn, HasAtLeast, IsSilence, SilentAreFound}
 use Rattle.swim_detect.proofs.Views.{heard_view, view-heard, own-cases}
-use Rattle.swim_detect.proofs.Ticks.{news-append}
 use Rattle.swim_detect.proofs.Outside.{Unspared}
 use Rattle.swim_detect.proofs.Lists.{all-append, all-front, all-back, all-replicate, all-each}
 use Rattle.swim_detect.proofs.Causing.{unheard, Ticks_hear, Was_due, Was_accused, heard-tick, there}
@@ -402,29 +401,6 @@ hears-silent n x (u ∷ us) s low h =
     let more = hears-silent n x us t low.1 one.holds in
     (unspared-join x s (changes_from t (map (λ v. Hear v) us)) (perform s (Hear u)) more.0 one.unspared, more.1)
 
--- the rows stay where none is told
-same_rows : (fs : List Change) (s : State) → Lacks Tells fs → (apply_all fs s).rows ≡ s.rows
-same_rows [] s a = refl
-same_rows (Heard u ∷ fs) s a = absurd (a.0 refl)
-same_rows (Forgot y ∷ fs) s a = absurd (a.0 refl)
-same_rows (Paged updates ∷ fs) s a = same_rows fs s a.1
-same_rows (NumberRaised n ∷ fs) s a = same_rows fs s a.1
-same_rows (Became Expelled ∷ fs) s a = same_rows fs s a.1
-same_rows (Became Running ∷ fs) s a = same_rows fs s a
-same_rows (Became Left ∷ fs) s a = same_rows fs s a
-same_rows (Looked names ∷ fs) s a = same_rows fs s a.1
-same_rows (Listed names ∷ fs) s a = same_rows fs s a.1
-same_rows (Passed n ∷ fs) s a = same_rows fs s a.1
-same_rows (Sent to p ∷ fs) s a = same_rows fs s a.1
-same_rows (Queued u ∷ fs) s a = same_rows fs s a
-same_rows (Ticked ∷ fs) s a = same_rows fs s a
-same_rows (SequenceTaken ∷ fs) s a = same_rows fs s a
-same_rows (Probed o ∷ fs) s a = same_rows fs s a
-same_rows (Relayed r ∷ fs) s a = same_rows fs s a
-same_rows (Unrelayed r ∷ fs) s a = same_rows fs s a
-same_rows (Joined j ∷ fs) s a = same_rows fs s a
-same_rows (Noted n ∷ fs) s a = same_rows fs s a
-
 -- A step
 
 -- nothing in it spares x, and an x that is eligible after it has a number of at least n
@@ -518,7 +494,7 @@ step-silent n x base log e silent known now = by_judgement (judge s e.event) ref
         by_row (Some r) k = with_row r k
 
     by_judgement : (j : Judgement) → judge s e.event ≡ j → StepSilent n x s (step_news s e.event e.granted)
-    by_judgement (judged.Note m) h = to (judged.Note m) h (quiet (Take m ∷ []) (tt, tt) tt)
+    by_judgement (judged.Note m) h = to (judged.Note m) h (quiet (Take m ∷ []) (tt, tt) (tt, tt))
     by_judgement (judged.Tick deal) h = to (judged.Tick deal) h (ticked deal)
     by_judgement (judged.Datagram p own) h = to (judged.Datagram p own) h (received p own (silent p own h))
     by_judgement (judged.Join peer) h = to (judged.Join peer) h (quiet (Join_peer peer ∷ []) (tt, tt) (news-no Tells s (Join_peer peer ∷ []) (tt, tt)))

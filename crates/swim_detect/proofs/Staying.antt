@@ -3,6 +3,7 @@ use Rattle.std.proofs.Common.{◌≡◌, ℕ, suc, ◌+◌, ◌-◌, ◌*◌, �
 use Rattle.std.specs.List.{cons_option, slice_get, AllByRecursion}
 use Rattle.std.proofs.Math.Nat.{mul-le-mul_right, suc-mul}
 use Rattle.std.proofs.lemmas.Bool.{false≢true}
+use Rattle.swim_member.proofs.Actions.{news-append}
 use Rattle.swim_wire.specs.declared.rules.Rules.{Rules}
 use Rattle.swim_wire.specs.declared.update.Update.{Update}
 use Rattle.swim_wire.specs.declared.update.UpdateKind.TheVariants.{Confirm}
@@ -10,12 +11,11 @@ use Rattle.swim_rules.specs.declared.table.Row.{Row}
 use Rattle.swim_rules.specs.Rules.{overrides}
 use Rattle.swim_rules.specs.Rows.{AreInOrder, row_of, is_kind}
 use Rattle.swim_rules.proofs.Tables.{row_of-remove}
-use Rattle.swim_member.specs.declared.state.Phase.TheVariants.{Running, Left, Expelled}
 use Rattle.swim_member.specs.Checks.{rules_of}
 use Rattle.swim_member.specs.Deals.{IsDeal}
 use Rattle.swim_member.specs.Judge.{HasDeal}
 use Rattle.swim_member.specs.Member.{is_eligible_name}
-use Rattle.swim_member.specs.State.{State, Change, Heard, Forgot, Queued, Sent, NumberRaised, Became, Ticked, SequenceTaken, Probed, Relayed, Unrelayed, Joined, Looked, Listed, Passed, Paged, Noted}
+use Rattle.swim_member.specs.State.{State, Change, Heard, Forgot, Looked, Listed}
 use Rattle.swim_member.specs.Readings.{state}
 use Rattle.swim_member.specs.Turn.{still_listed, next_listed, eligible_names, dealt, begin_turn, take_turn, look}
 use Rattle.swim_member.specs.Probe.{is_at}
@@ -26,7 +26,6 @@ use Rattle.swim_member.proofs.FewRows.{order-read}
 use Rattle.swim_member.proofs.Showing.{Lacks, Turned, news-no, quiet-append, quiet-early, quiet-each}
 use Rattle.swim_detect.specs.Finding.{is_eligible_row, looks_to, periods_to, is_waited_for, brings_back, returns, NeverReturns, happened_in, StaysFound, GetsFound, IsFoundInTheEnd, IsShort, IsAtMost, ListsAreShort}
 use Rattle.swim_detect.proofs.Views.{eligible-row, heard_view, view-heard}
-use Rattle.swim_detect.proofs.Ticks.{news-append}
 use Rattle.swim_detect.proofs.Found.{log-append, found-in_time}
 use Rattle.swim_detect.proofs.Outside.{IsOutside, AreOutside, Kinds, Counts, Outer, kind-of}
 use Rattle.swim_detect.proofs.Lists.{all-append}
@@ -66,21 +65,7 @@ lost-one x (Forgot y) s o n h = ap is_eligible_row (row_of-remove s.rows y x o) 
     at : (b : Bool) → is_eligible_row (cond b None (row_of s.rows x)) ≡ false
     at true = refl
     at false = h
-lost-one x (Queued u) s o n h = h
-lost-one x (Sent to p) s o n h = h
-lost-one x (NumberRaised k) s o n h = h
-lost-one x (Became p) s o n h = h
-lost-one x Ticked s o n h = h
-lost-one x SequenceTaken s o n h = h
-lost-one x (Probed p) s o n h = h
-lost-one x (Relayed r) s o n h = h
-lost-one x (Unrelayed r) s o n h = h
-lost-one x (Joined j) s o n h = h
-lost-one x (Looked names) s o n h = h
-lost-one x (Listed names) s o n h = h
-lost-one x (Passed k) s o n h = h
-lost-one x (Paged updates) s o n h = h
-lost-one x (Noted k) s o n h = h
+lost-one x _ s o n h = h
 
 lost-all : (x : ℕ) (base : State) (log fs : List Change) → NeverReturns x base log fs → is_eligible_row (row_of (state base log).rows x) ≡ false → is_eligible_row (row_of (state base (fs ++ log)).rows x) ≡ false
 lost-all x base log [] n h = h
@@ -160,25 +145,8 @@ within most x s =
 
 short-quiet : (n : ℕ) (fs : List Change) → Lacks Turned fs → AllByRecursion (IsShort n) fs
 short-quiet n [] a = tt
-short-quiet n (Looked names ∷ fs) a = absurd (a.0 refl)
 short-quiet n (Listed names ∷ fs) a = absurd (a.0 refl)
-short-quiet n (Passed k ∷ fs) a = absurd (a.0 refl)
-short-quiet n (Heard u ∷ fs) a = (tt, short-quiet n fs a.1)
-short-quiet n (Forgot x ∷ fs) a = (tt, short-quiet n fs a.1)
-short-quiet n (Paged updates ∷ fs) a = (tt, short-quiet n fs a.1)
-short-quiet n (NumberRaised k ∷ fs) a = (tt, short-quiet n fs a.1)
-short-quiet n (Sent to p ∷ fs) a = (tt, short-quiet n fs a.1)
-short-quiet n (Became Expelled ∷ fs) a = (tt, short-quiet n fs a.1)
-short-quiet n (Became Running ∷ fs) a = (tt, short-quiet n fs a)
-short-quiet n (Became Left ∷ fs) a = (tt, short-quiet n fs a)
-short-quiet n (Queued u ∷ fs) a = (tt, short-quiet n fs a)
-short-quiet n (Ticked ∷ fs) a = (tt, short-quiet n fs a)
-short-quiet n (SequenceTaken ∷ fs) a = (tt, short-quiet n fs a)
-short-quiet n (Probed p ∷ fs) a = (tt, short-quiet n fs a)
-short-quiet n (Relayed r ∷ fs) a = (tt, short-quiet n fs a)
-short-quiet n (Unrelayed r ∷ fs) a = (tt, short-quiet n fs a)
-short-quiet n (Joined j ∷ fs) a = (tt, short-quiet n fs a)
-short-quiet n (Noted k ∷ fs) a = (tt, short-quiet n fs a)
+short-quiet n (_ ∷ fs) a = (tt, short-quiet n fs a.1)
 
 dealt-most : (names deal : List ℕ) → length (dealt names deal) ≤ length deal
 dealt-most names [] = omega arith
@@ -232,22 +200,7 @@ short-outside (f ∷ fs) a = (one f a.0, short-outside fs a.1)
   where
     one : (f : Change) → IsOutside f → IsShort 256 f
     one (Listed names) h = absurd h
-    one (Heard u) h = tt
-    one (Forgot x) h = tt
-    one (Queued u) h = tt
-    one (Sent to p) h = tt
-    one (NumberRaised n) h = tt
-    one (Became p) h = tt
-    one Ticked h = tt
-    one SequenceTaken h = tt
-    one (Probed p) h = tt
-    one (Relayed r) h = tt
-    one (Unrelayed r) h = tt
-    one (Joined j) h = tt
-    one (Looked names) h = tt
-    one (Passed n) h = tt
-    one (Paged updates) h = tt
-    one (Noted n) h = tt
+    one _ h = tt
 
 step-short : (base : State) (log : List Change) (e : Step) → HasDeal e.event → AllByRecursion (IsShort 256) (changes_of base log e.event e.granted)
 step-short base log e d = subst (λ fs. AllByRecursion (IsShort 256) fs) (sym (news-news_from base log (actions (state base log) e.event e.granted))) (by_kind (kind-of s e.event e.granted))

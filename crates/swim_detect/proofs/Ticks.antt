@@ -1,5 +1,5 @@
 -- A tick that counts: x is eligible no longer, or has a tick less.
-use Rattle.std.proofs.Common.{◌≡◌, ◌≢◌, ℕ, zero, suc, ◌+◌, ◌-◌, ◌*◌, ◌%◌, ◌<◌, ◌≤◌, ◌==◌, max, nat_le, Bool, true, false, cond, ◌&&◌, not, refl, sym, ◌∙◌, ap, subst, inl, inr, ◌⊎◌, List, [], ◌∷◌, ◌++◌, append_assoc, append-nil, replicate, length, Option, Some, None, arith}
+use Rattle.std.proofs.Common.{◌≡◌, ◌≢◌, ℕ, zero, suc, ◌+◌, ◌-◌, ◌*◌, ◌%◌, ◌<◌, ◌≤◌, ◌==◌, max, nat_le, Bool, true, false, cond, ◌&&◌, not, refl, sym, ◌∙◌, ap, subst, inl, inr, ◌⊎◌, List, [], ◌∷◌, ◌++◌, append_assoc, replicate, length, Option, Some, None, arith}
 use Rattle.std.specs.List.{filter, slice_get, AllByRecursion}
 use Rattle.std.proofs.Math.Nat.{suc-mod, mod-eq_of_lt, mod_self, suc-mul, mul-le-mul_right}
 use Rattle.std.proofs.lemmas.Bool.{eqb-true, eqb-false, le-leb, leb-false, and_parts, false≢true}
@@ -28,7 +28,7 @@ use Rattle.swim_member.specs.Probe.{is_at, blame, suspect_target, suspect_of, as
 use Rattle.swim_member.specs.Turn.{still_listed, look}
 use Rattle.swim_member.specs.Machinery.Kept.{is_row}
 use Rattle.swim_member.specs.Machinery.Steps.{apply_all, after, changes_from, rows_heard}
-use Rattle.swim_member.proofs.Actions.{after-append, after-news}
+use Rattle.swim_member.proofs.Actions.{after-append, after-news, news-append}
 use Rattle.swim_member.proofs.FewRows.{order-read, few-from}
 use Rattle.swim_detect.specs.Finding.{is_eligible_row, is_waited_for, looks_to, periods_to, ticks_by_kind, ticks_with, ticks_left, is_alive, IsShort}
 use Rattle.swim_detect.proofs.Views.{eligible-row, heard_view, view-heard}
@@ -225,15 +225,6 @@ passing-most p (r ∷ rows) = at (p r) (passing-most p rows)
     at : (b : Bool) → passing p rows ≤ length rows → length (cond b (r ∷ filter p rows) (filter p rows)) ≤ length (r ∷ rows)
     at true l = omega arith
     at false l = omega arith
-
--- Logs
-
-pub news-append : (s : State) (ms ns : List Action) → changes_from s (ms ++ ns) ≡ changes_from (after s ms) ns ++ changes_from s ms
-news-append s [] ns = sym (append-nil (changes_from s ns))
-news-append s (m ∷ ms) ns =
-    let t : State = apply_all (perform s m) s in
-    ap (λ happened. happened ++ perform s m) (news-append t ms ns)
-    ∙ append_assoc (changes_from (after t ms) ns) (changes_from t ms) (perform s m)
 
 -- The look
 

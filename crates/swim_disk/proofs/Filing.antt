@@ -3,6 +3,7 @@ use Rattle.std.proofs.Common.{◌≡◌, ◌⊎◌, true, false, refl, inl, inr,
 use Rattle.std.proofs.lemmas.Bool.{false≢true, cases_lt}
 use Rattle.std.specs.Prelude.{Result, Ok, Err, IsOk, OnOk, is_err, ◌||◌}
 use Rattle.std.specs.declared.alloc.Global.{Global}
+use Rattle.std.proofs.lemmas.Result.{on_ok_weaker}
 use Rattle.swim_disk.specs.Cache.{AreInside, HasBut, InRanges, InSpans, WaitsIn}
 use Rattle.swim_disk.specs.Deeds.{Backing, backing_of, Comes, ComesAll, LiesBeside, KeepsAll, StaysBeside}
 use Rattle.swim_disk.specs.Disk.{Torn, Writes, overlaid}
@@ -145,11 +146,6 @@ view_refuse {T} {E} fault calls later at u v bytes is =
       time = elapses_same [] calls u v;
     })
 
--- what follows from what a call that is done ensures
-pub if_done : {T E P Q : Type 0} (result : Result T E) → (P → Q) → OnOk result P → OnOk result Q
-if_done (Ok value) so p = so p
-if_done (Err e) so p = tt
-
 -- The same write, told by other views of the disk before and after it, and with an answer of the same kind.
 abbrev pub same_kind : {T E U F : Type 0} → Result T E → Result U F → Type 0
 same_kind (Ok value) (Ok other) = Unit {0}
@@ -174,6 +170,6 @@ puts_as result other at bytes old was new now old_calls old_deeds new_calls new_
       beside = subst (λ (l : List Call). stays l was.deeds now.deeds) old_calls
           (subst (λ (d : List Deed). stays old.calls d now.deeds) old_deeds (subst (λ (e : List Deed). stays old.calls old.deeds e) new_deeds puts.beside));
       done = kind_done (waits was.calls now.calls now.deeds) result other same
-          (if_done result (λ all. subst (λ (l : List Call). waits l now.calls now.deeds) old_calls
+          (on_ok_weaker result (λ all. subst (λ (l : List Call). waits l now.calls now.deeds) old_calls
           (subst (λ (m : List Call). waits old.calls m now.deeds) new_calls (subst (λ (e : List Deed). waits old.calls new.calls e) new_deeds all))) puts.done);
     }

@@ -1,4 +1,4 @@
-mod Filled
+pub mod Filled
 mod Parts
 pub mod Recorded
 mod Patched

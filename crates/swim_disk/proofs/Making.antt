@@ -1,5 +1,5 @@
 -- What writes make of some bytes, one more or one less of them.
-use Rattle.std.proofs.Common.{zero, suc, Result, Ok, Err, IfOk, Vec, drop-cons, remove, ◌≡◌, ◌⊎◌, inl, inr, ⊎_elim, ℕ, ◌+◌, ◌-◌, ◌<◌, ◌≤◌, max, List, [], ◌∷◌, ◌++◌, length, take, drop, get_or, refl, sym, ◌∙◌, ap, subst, arith}
+use Rattle.std.proofs.Common.{zero, suc, Vec, drop-cons, remove, ◌≡◌, ◌⊎◌, inl, inr, ⊎_elim, ℕ, ◌+◌, ◌-◌, ◌<◌, ◌≤◌, max, List, [], ◌∷◌, ◌++◌, length, take, drop, get_or, refl, sym, ◌∙◌, ap, subst, arith}
 use Rattle.std.specs.declared.alloc.Global.{Global}
 use Rattle.std.proofs.lemmas.Bool.{cases_lt, false≢true}
 use Rattle.std.proofs.lemmas.List.{ext_get_or, take_all, drop_all, take-append-drop, take-append-le, drop-append-le, take_more}
@@ -217,10 +217,6 @@ not_there call at bytes place start is out = ap (λ (c : Call). get_or (made sta
 
 pub history_made : (start : List ℕ) (history writes : List Call) (n : ℕ) → replay (fresh start) history ≡ kept_by start writes n → (replay (fresh start) history).content ≡ made start writes
 history_made start history writes n was = ap (λ (d : Disk). d.content) was ∙ content_kept start writes n
-
-pub if_ok : {T E : Type 0} (P Q : T → Type 0) (result : Result T E) → ((value : T) → P value → Q value) → IfOk result P → IfOk result Q
-if_ok P Q (Ok value) so h = so value h
-if_ok P Q (Err fault) so h = tt
 
 -- the same bytes and writes by other names
 pub made_same : (start s : List ℕ) (writes w : List Call) → s ≡ start → w ≡ writes → made s w ≡ made start writes

@@ -1,5 +1,5 @@
 -- Some bytes over what a disk holds, and what is written beside them.
-use Rattle.std.proofs.Common.{◌≡◌, ◌⊎◌, inl, inr, ⊎_elim, ℕ, ◌+◌, ◌-◌, ◌<◌, ◌≤◌, min, max, List, ◌++◌, length, take, drop, get_or, replicate, Result, Ok, Err, OnOk, refl, sym, ◌∙◌, ap, subst, arith, length-append, length-drop}
+use Rattle.std.proofs.Common.{◌≡◌, ◌⊎◌, inl, inr, ⊎_elim, ℕ, ◌+◌, ◌-◌, ◌<◌, ◌≤◌, min, max, List, ◌++◌, length, take, drop, get_or, replicate, refl, sym, ◌∙◌, ap, subst, arith, length-append, length-drop}
 use Rattle.std.proofs.lemmas.Bool.{cases_lt}
 use Rattle.std.proofs.lemmas.List.{ext_get_or, get_or-take, get_or-drop, get_or-replicate, get_or_past, get_or_append_left, get_or-append_right, length-take, length-replicate, take_all, take-replicate, drop-replicate, drop_all, length-take-le}
 use Rattle.swim_disk.specs.Disk.{padded, overlaid}
@@ -184,10 +184,6 @@ drop_min k w = ⊎_elim
     (λ (less : k < length w). ap (λ n. drop n w) (let same : min (length w) k ≡ k = omega (arith, less) in same))
     (λ (past : length w ≤ k). drop_all (min (length w) k) w (omega (arith, past)) ∙ sym (drop_all k w past))
     (cases_lt k (length w))
-
-pub on_ok : {T E : Type 0} (P Q : Type 0) (result : Result T E) → (P → Q) → OnOk result P → OnOk result Q
-on_ok P Q (Ok done) so h = so h
-on_ok P Q (Err fault) so h = tt
 
 pub patched-fresh : (at : ℕ) (p start : List ℕ) → Patched at p (fresh start) (fresh (overlaid start at p))
 patched-fresh at p start = record { content = refl; synced = refl; filled = λ b c. refl }

@@ -1,3 +1,3 @@
-pub mod Ending
+pub mod Exit
 pub mod Nearest
 pub mod Takes

@@ -1,14 +1,14 @@
 //! Why the program ends before it is done, with the text on standard error and the exit status.
 
 ghost use Rattle.std.specs.Prelude.{◌≡◌};
-ghost use Rattle.swim_ending.specs.Ending.{refused_by};
+ghost use Rattle.swim_ending.specs.Exit.{refused_by};
 
 use std::io::{self, ErrorKind};
 use std::process::ExitCode;
 use swim_input::InputFault;
 use swim_node::OpenFault;
 use swim_script::ScriptFault;
-use swim_settings::Refusal;
+use swim_settings::SettingsRefusal;
 use swim_shell::WorkerEnd;
 use swim_state::{InitFault, RecoverFault};
 use thiserror::Error;
@@ -30,7 +30,7 @@ const INPUT_OUTPUT: i32 = 5;
 
 /// Why the program ends. Each prints its one line, after `swim: `, and some have a hint for a second one.
 #[derive(Debug, Drop, Error)]
-pub enum Ending {
+pub enum Exit {
     /// The state file was not made.
     #[error("init refused {0}")]
     Init(InitFault),
@@ -96,7 +96,7 @@ pub enum Ending {
     Address,
     /// A key of the settings is refused, or their text.
     #[error("settings refused {0}")]
-    Settings(Refusal),
+    Settings(SettingsRefusal),
     /// The script is refused.
     #[error("script refused {0}")]
     Script(ScriptFault),
@@ -151,22 +151,22 @@ const HOST: &str =
     "the system knows no IPv4 address of this host, or did not say within 5 seconds: `getent ahostsv4 NAME` asks it the same";
 
 /// The ending where a file is refused with an error of this number, which may be the disk's.
-fn refused_by(code: Option<i32>) -> Ending
+fn refused_by(code: Option<i32>) -> Exit
     ensures { result ≡ refused_by code }
 {
     match code {
-        Some(INPUT_OUTPUT) => Ending::Device,
-        _ => Ending::File,
+        Some(INPUT_OUTPUT) => Exit::Device,
+        _ => Exit::File,
     }
 }
 
-impl From<InputFault> for Ending {
-    fn from(fault: InputFault) -> Ending {
+impl From<InputFault> for Exit {
+    fn from(fault: InputFault) -> Exit {
         match fault {
-            InputFault::Memory => Ending::Memory,
-            InputFault::NotFile => Ending::NotFile,
-            InputFault::TooLong(most) => Ending::TooLong(most),
-            InputFault::System(error) => Ending::of(&error, Ending::File),
+            InputFault::Memory => Exit::Memory,
+            InputFault::NotFile => Exit::NotFile,
+            InputFault::TooLong(most) => Exit::TooLong(most),
+            InputFault::System(error) => Exit::of(&error, Exit::File),
         }
     }
 }
@@ -179,64 +179,64 @@ const THREADS: &str =
 const ODD: &str =
     "this is a fault of the program, which ends before it goes on: please report it; its state file is good for the next start";
 
-impl Ending {
+impl Exit {
     ghost use Rattle.std.specs.Prelude.{◌≡◌, ◌↔◌, IsTrue};
     ghost use Rattle.std.specs.IoError.{error_kind, raw_os_error};
     ghost use Rattle.std.specs.Process.{exit_status};
-    ghost use Rattle.swim_ending.specs.Ending.{ending_by, ending_of_output, ending_status};
+    ghost use Rattle.swim_ending.specs.Exit.{ending_by, ending_of_output, ending_status};
 
     /// What else there is to say, on a line of its own.
     pub fn hint(&self) -> Option<&'static str> {
         match self {
-            Ending::Init(InitFault::NotEmpty) => Some(MAYBE_PART),
-            Ending::Open(OpenFault::Refused(RecoverFault::NotState | RecoverFault::NoSlot)) => {
+            Exit::Init(InitFault::NotEmpty) => Some(MAYBE_PART),
+            Exit::Open(OpenFault::Refused(RecoverFault::NotState | RecoverFault::NoSlot)) => {
                 Some(MAYBE_PART)
             }
-            Ending::Open(OpenFault::Refused(RecoverFault::WrongOwner)) => Some(OTHER_OWNER),
-            Ending::Settings(_) => Some(SETTINGS),
-            Ending::File => Some(FILE),
-            Ending::Locked => Some(LOCKED),
-            Ending::ReadOnly => Some(READ_ONLY),
-            Ending::Device => Some(DEVICE),
-            Ending::Output => Some(OUTPUT),
-            Ending::Socket => Some(SOCKET),
-            Ending::Host => Some(HOST),
-            Ending::NotEnded => Some(NOT_ENDED),
-            Ending::Address => Some(ADDRESS),
-            Ending::Threads => Some(THREADS),
-            Ending::Odd => Some(ODD),
+            Exit::Open(OpenFault::Refused(RecoverFault::WrongOwner)) => Some(OTHER_OWNER),
+            Exit::Settings(_) => Some(SETTINGS),
+            Exit::File => Some(FILE),
+            Exit::Locked => Some(LOCKED),
+            Exit::ReadOnly => Some(READ_ONLY),
+            Exit::Device => Some(DEVICE),
+            Exit::Output => Some(OUTPUT),
+            Exit::Socket => Some(SOCKET),
+            Exit::Host => Some(HOST),
+            Exit::NotEnded => Some(NOT_ENDED),
+            Exit::Address => Some(ADDRESS),
+            Exit::Threads => Some(THREADS),
+            Exit::Odd => Some(ODD),
             _ => None,
         }
     }
 
     /// The ending by an error of the system: the lack of memory, what is wrong with the file system or the disk of a file, or else the
     /// other one.
-    pub fn of(error: &io::Error, otherwise: Ending) -> Ending
+    pub fn of(error: &io::Error, otherwise: Exit) -> Exit
         ensures { result ≡ ending_by (error_kind error.now) (raw_os_error error.now) otherwise }
     {
         match (error.kind(), otherwise) {
-            (ErrorKind::OutOfMemory, _) => Ending::Memory,
-            (ErrorKind::ReadOnlyFilesystem, Ending::File) => Ending::ReadOnly,
-            (_, Ending::File) => refused_by(error.raw_os_error()),
+            (ErrorKind::OutOfMemory, _) => Exit::Memory,
+            (ErrorKind::ReadOnlyFilesystem, Exit::File) => Exit::ReadOnly,
+            (_, Exit::File) => refused_by(error.raw_os_error()),
             (_, otherwise) => otherwise,
         }
     }
 
     /// The ending by an error of standard output.
-    pub fn of_output(error: &io::Error) -> Ending
+    pub fn of_output(error: &io::Error) -> Exit
         ensures { result ≡ ending_of_output (error_kind error.now) }
     {
         match error.kind() {
-            ErrorKind::BrokenPipe => Ending::Unread,
-            _ => Ending::Output,
+            ErrorKind::BrokenPipe => Exit::Unread,
+            _ => Exit::Output,
         }
     }
 
     /// Whether nothing is said of it: it is no fault that a reader has read enough.
     pub fn is_silent(&self) -> bool
-        ensures { IsTrue result ↔ (self.now ≡ Ending.Unread) }
+        ensures { IsTrue result ↔ (self.now ≡ Exit.Unread) }
     {
-        matches!(self, Ending::Unread)
+        matches!(self, Exit::Unread)
     }
 
     /// The exit status: 2 where what was written is at fault, 3 where the member was expelled and was to end then, 141 where nobody
@@ -245,9 +245,9 @@ impl Ending {
         ensures { exit_status result ≡ ending_status self.now }
     {
         match self {
-            Ending::Address | Ending::Settings(_) | Ending::Script(_) => ExitCode::from(REFUSED),
-            Ending::Expelled => ExitCode::from(EXPELLED),
-            Ending::Unread => ExitCode::from(UNREAD),
+            Exit::Address | Exit::Settings(_) | Exit::Script(_) => ExitCode::from(REFUSED),
+            Exit::Expelled => ExitCode::from(EXPELLED),
+            Exit::Unread => ExitCode::from(UNREAD),
             _ => ExitCode::from(FAILED),
         }
     }

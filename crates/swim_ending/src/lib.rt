@@ -7,5 +7,5 @@ mod mistake;
 mod nearest;
 mod takes;
 
-pub use ending::Ending;
+pub use ending::Exit;
 pub use failure::Failure;

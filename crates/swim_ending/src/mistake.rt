@@ -5,7 +5,7 @@ use crate::takes::Takes;
 use std::alloc::{AllocError, Global};
 use std::fmt::{self, Display, Formatter};
 use swim_input::key_line;
-use swim_settings::{Key, Refusal, read_table};
+use swim_settings::{Key, SettingsRefusal, read_table};
 use swim_words::Word;
 use toml::{Table, Value};
 
@@ -113,12 +113,12 @@ pub(crate) fn mistake_in(
     alloc: Global,
     path: &str,
     text: &[u8],
-    refusal: &Refusal,
+    refusal: &SettingsRefusal,
 ) -> Result<String, AllocError> {
     match refusal {
-        Refusal::Toml => of_text(alloc, path, text),
-        Refusal::Unknown(name) => of_unknown(alloc, path, text, name.as_str()),
-        Refusal::Key(key) => of_key(alloc, path, text, *key),
-        Refusal::Memory => format!(in alloc; "{path}"),
+        SettingsRefusal::Toml => of_text(alloc, path, text),
+        SettingsRefusal::Unknown(name) => of_unknown(alloc, path, text, name.as_str()),
+        SettingsRefusal::Key(key) => of_key(alloc, path, text, *key),
+        SettingsRefusal::Memory => format!(in alloc; "{path}"),
     }
 }

@@ -5,7 +5,7 @@ use std::alloc::AllocError;
 use std::fs::{self, File};
 use std::rt::Files;
 use swim_input::{INPUT_MAX, InputFault, read_file};
-use swim_recorder::read_name;
+use swim_record::read_name;
 use swim_replay::{Played, RecordingFault, RecordingReason, play_from};
 use swim_wire::Endpoint;
 use thiserror::Error;

@@ -170,7 +170,8 @@ taken-none slots end limit room h = record {
     empty zero = refl
     empty (suc n) = refl
 
-take-again : (room : ℕ) (xs ys : List ℕ) → take room (take room xs ++ ys) ≡ take room (xs ++ ys)
+-- what is taken again is what was taken
+pub take-again : (room : ℕ) (xs ys : List ℕ) → take room (take room xs ++ ys) ≡ take room (xs ++ ys)
 take-again zero xs ys = refl
 take-again (suc room) [] ys = refl
 take-again (suc room) (x ∷ xs) ys = ap (λ (zs : List ℕ). x ∷ zs) (take-again room xs ys)

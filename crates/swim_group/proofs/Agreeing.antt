@@ -2,7 +2,7 @@
 use Rattle.std.proofs.Common.{◌≡◌, ◌≢◌, ℕ, ◌==◌, ◌||◌, ◌⊎◌, inl, inr, not, Bool, true, false, cond, refl, sym, ◌∙◌, ap, subst, List, [], ◌∷◌, ◌++◌, zero, suc, Option, Some, None, IfSome}
 use Rattle.std.specs.List.{AllByRecursion, list_any, find}
 use Rattle.std.specs.Option.{option_map}
-use Rattle.std.proofs.lemmas.Bool.{eqb-true, eqb-false, false≢true}
+use Rattle.std.proofs.lemmas.Bool.{eqb-true, eqb-false, false≢true, not-true}
 use Rattle.swim_wire.specs.declared.rules.Rules.{Rules}
 use Rattle.swim_wire.specs.declared.update.Update.{Update}
 use Rattle.swim_rules.specs.declared.table.Row.{Row}
@@ -46,13 +46,9 @@ not-over rules u v (r ∷ rows) e k = at (overrides rules r.update v) refl k e (
     at false t (inl same) f more = ap (λ w. overrides rules w v) (sym same) ∙ t
     at false t (inr m) f more = more f m
 
-none-over : (b : Bool) → not b ≡ true → b ≡ false
-none-over true e = absurd (false≢true e)
-none-over false e = refl
-
 under-top : (rules : Rules) (u : Update) (rows : List Row) (r : Row) → top rules rows ≡ Some r → IsAmong u rows → overrides rules u r.update ≡ false
 under-top rules u rows r e k =
-    not-over rules u r.update rows (none-over (list_any (λ s. overrides rules s.update r.update) rows) (find-passes (λ t. not (list_any (λ s. overrides rules s.update t.update) rows)) rows r e)) k
+    not-over rules u r.update rows (not-true (list_any (λ s. overrides rules s.update r.update) rows) (find-passes (λ t. not (list_any (λ s. overrides rules s.update t.update) rows)) rows r e)) k
 
 -- where something is, there is a top
 some-top : (rules : Rules) (u : Update) (rows : List Row) → IsAmong u rows → top rules rows ≢ None

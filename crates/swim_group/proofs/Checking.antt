@@ -139,14 +139,6 @@ module _ (told : List (ℕ × List ℕ)) (sent : List Out) (same : Remembers tol
 
 -- Adding
 
--- one more number, and then one more update
-pub added-none : (who : ℕ) (ns : List ℕ) → IsAdded ns who [] ns
-added-none who ns n = (inl, none)
-  where
-    none : Contains ns n ⊎ ⊥ → Contains ns n
-    none (inl h) = h
-    none (inr h) = absurd h
-
 -- an update of another adds nothing
 pub added-other : (old now : List ℕ) (who : ℕ) (us : List Update) (u : Update) → u.who ≢ who → IsAdded old who us now → IsAdded old who (us ++ u ∷ []) now
 added-other old now who us u ne before n = (λ h. more ((before n).0 h), λ h. (before n).1 (fewer h))

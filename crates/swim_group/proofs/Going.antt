@@ -36,12 +36,7 @@ got-sent (o ∷ kept) (suc i) out e = inr (got-sent kept i out e)
 
 pub arrives-sent : (kept : List Out) (i : ℕ) (out : Out) (e : Event) → slice_get kept i ≡ Some out → Arrives out e → IsNotInvented kept e
 arrives-sent kept i out (event.Datagram from bytes) there a = subst (IsSentOrFaulty kept) (sym a.1) (got-sent kept i out there)
-arrives-sent kept i out (event.Tick deal) there a = absurd a
-arrives-sent kept i out event.ReceiveFailed there a = absurd a
-arrives-sent kept i out (event.SendFailed count) there a = absurd a
-arrives-sent kept i out (event.Join peer) there a = absurd a
-arrives-sent kept i out event.Leave there a = absurd a
-arrives-sent kept i out (event.Members cursor) there a = absurd a
+arrives-sent kept i out _ there a = absurd a
 
 module _ (old new : RealNodes) (which : ℕ) where
   -- after a call, by which this was sent after the rest

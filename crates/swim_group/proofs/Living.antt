@@ -1,5 +1,6 @@
 -- A life that was lived is one of a member: its state, its answers and its own number.
-use Rattle.std.proofs.Common.{◌≡◌, ℕ, ◌<◌, ◌≤◌, refl, sym, ◌∙◌, ap, subst, List, [], ◌∷◌, ◌++◌, append_assoc, append-nil, Option, Some, None, arith}
+use Rattle.std.proofs.Common.{◌≡◌, ◌≤◌, refl, sym, ◌∙◌, ap, subst, List, [], ◌∷◌, ◌++◌, append_assoc, append-nil, arith}
+use Rattle.swim_node.proofs.Nodes.{granted-grows}
 use Rattle.swim_disk.specs.Disk.{DiskState}
 use Rattle.swim_member.specs.declared.answer.Answer.{Answer}
 use Rattle.swim_member.specs.State.{State}
@@ -10,9 +11,7 @@ use Rattle.swim_member.specs.Events as events
 use Rattle.swim_member.specs.Machinery.Steps.{step_news}
 use Rattle.swim_member.proofs.Logs.{answer-step}
 use Rattle.swim_node.specs.declared.entry.Entry.{Entry}
-use Rattle.swim_node.specs.declared.entry.Save.{Save}
-use Rattle.swim_node.specs.declared.entry.Save.TheVariants.{Kept, Done, Failed}
-use Rattle.swim_node.specs.History.{Base, IsLegal, IsNext, AreNext, Saves, steps, step_of, granted_of, state_after, fresh_base}
+use Rattle.swim_node.specs.History.{Base, IsLegal, IsNext, AreNext, steps, step_of, granted_of, state_after, fresh_base}
 use Rattle.swim_node.specs.Lives.{Era, Life, AreJoined, ceiling_of}
 use Rattle.swim_node.specs.Node.{next_base}
 use Rattle.swim_node.proofs.Lists.{steps-append, granted_from-append}
@@ -54,14 +53,6 @@ module _ {D : Type 0} (state : D → DiskState) (life : Life D) (lived : WasLive
       same-after (new_state life.settings life.first) life.base.state (steps_in life.eras) [] (steps entries) (read-last.same ∙ sym read-last.starts.reads)
 
 -- Numbers
-
-granted-grows : (o : Option ℕ) (g : ℕ) (save : Save) (granted : ℕ) → Saves o g save granted → g ≤ granted
-granted-grows None g Kept granted h = omega arith
-granted-grows None g Done granted h = absurd h
-granted-grows None g Failed granted h = absurd h
-granted-grows (Some w) g Kept granted h = let same : granted ≡ g = h.1 in omega arith
-granted-grows (Some w) g Done granted h = let below : g < w = h.0 in let within : w ≤ granted = h.1 in omega arith
-granted-grows (Some w) g Failed granted h = let below : g ≤ granted = h.1 in below
 
 low-entries : (base : Base) (before history : List Entry) → AreNext base before history → (state_after base before).number ≤ granted_of base before → (state_after base (before ++ history)).number ≤ granted_of base (before ++ history)
 low-entries base before [] h l = subst (λ (xs : List Entry). (state_after base xs).number ≤ granted_of base xs) (sym (append-nil before)) l

@@ -1,7 +1,6 @@
 -- Names of members that begin together.
-use Rattle.std.proofs.Common.{◌≡◌, ℕ, ◌+◌, ◌<◌, ◌≤◌, ◌==◌, ◌||◌, false, refl, sym, ◌∙◌, ap, All, List, [], ◌∷◌, ◌++◌, drop, take, length, slice_index_or, zero, suc, arith}
-use Rattle.std.specs.List.{AllByRecursion, IsDistinct, list_any}
-use Rattle.std.proofs.lemmas.Bool.{or_parts}
+use Rattle.std.proofs.Common.{◌≡◌, ℕ, ◌+◌, ◌<◌, ◌≤◌, ◌==◌, sym, ◌∙◌, ap, All, List, [], ◌∷◌, ◌++◌, drop, take, length, slice_index_or, zero, suc, arith}
+use Rattle.std.specs.List.{IsDistinct}
 use Rattle.std.proofs.lemmas.List.Elements.{All-append, All-cons, All-nil}
 use Rattle.std.proofs.lemmas.Map.Keys.{IsDistinct-tail}
 use Rattle.swim_member.specs.declared.settings.Settings.{Settings}
@@ -25,15 +24,6 @@ distinct-past [] zero l = tt
 distinct-past [] (suc i) l = tt
 distinct-past (s ∷ settings) zero l = absurd (omega arith)
 distinct-past (s ∷ settings) (suc i) l = distinct-past settings i (omega arith)
-
--- none of these is x
-pub none-any : (x : ℕ) (ys : List ℕ) → list_any (λ y. x == y) ys ≡ false → AllByRecursion (λ y. (x == y) ≡ false) ys
-none-any x [] e = tt {0}
-none-any x (y ∷ ys) e = let parts = or_parts (x == y) (list_any (λ z. x == z) ys) e in (parts.0, none-any x ys parts.1)
-
-pub any-none : (x : ℕ) (ys : List ℕ) → AllByRecursion (λ y. (x == y) ≡ false) ys → list_any (λ y. x == y) ys ≡ false
-any-none x [] a = refl
-any-none x (y ∷ ys) a = ap (λ b. b || list_any (λ z. x == z) ys) a.0 ∙ any-none x ys a.1
 
 -- the settings up to a place, with one more
 pub take-last : {X : Type 0} → (xs : List X) (k : ℕ) (x : X) → k < length xs → x ≡ slice_index_or xs k x → take (k + 1) xs ≡ take k xs ++ x ∷ []

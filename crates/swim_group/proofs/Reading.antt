@@ -1,6 +1,6 @@
 -- A state that is read off a history reads as itself, so a history may go on from it. And the own number stays within the ceiling.
-use Rattle.std.proofs.Common.{◌≡◌, ℕ, ◌≤◌, nat_le, Bool, true, false, cond, refl, sym, ◌∙◌, ap, subst, inl, inr, List, [], ◌∷◌, ◌++◌, append_assoc, append-nil, map, Option, Some, None}
-use Rattle.std.proofs.lemmas.Bool.{cases_Bool, leb-true}
+use Rattle.std.proofs.Common.{◌≡◌, ℕ, ◌≤◌, Bool, true, false, cond, refl, sym, ◌∙◌, ap, subst, List, [], ◌∷◌, ◌++◌, append_assoc, append-nil, map}
+use Rattle.swim_node.proofs.Nodes.{number-low}
 use Rattle.swim_wire.specs.declared.datagram.Datagram.{Datagram}
 use Rattle.swim_gossip.specs.declared.buffer.Waiting.{Waiting}
 use Rattle.swim_gossip.specs.Queue.{AreApart, raise_all}
@@ -63,10 +63,6 @@ same-after a b xs ys (e ∷ zs) h =
     ∙ ap (state_of b) (append_assoc ys (e ∷ []) zs)
 
 -- Numbers
-
-number-low : (o : Option ℕ) (g n : ℕ) → n ≤ g → number_after o g n ≤ g
-number-low None g n h = h
-number-low (Some w) g n h = elim (cases_Bool (nat_le w g)) [ inl t ↦ rw t (leb-true w g t) | inr f ↦ rw f h ]
 
 -- the own number is within the ceiling after an event, if it was
 pub low-after : (base : State) (steps : List Step) (e : Step) → (state_of base steps).number ≤ e.granted → (state_of base (steps ++ e ∷ [])).number ≤ e.granted

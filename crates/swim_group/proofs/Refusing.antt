@@ -8,8 +8,7 @@ use Rattle.swim_state.specs.declared.layout.Slot.TheVariants.{A, B}
 use Rattle.swim_state.specs.declared.layout.Reading.{Reading}
 use Rattle.swim_state.specs.declared.layout.Reading.TheVariants.{Shut, Holds, Damaged}
 use Rattle.swim_state.specs.declared.fault.RecoverFault.{RecoverFault}
-use Rattle.swim_state.specs.declared.fault.RecoverFault.TheVariants.{Device, NotState, WrongOwner, NoSlot, Exhausted}
-use Rattle.swim_state.specs.declared.fault.RecoverFault.TheVariants as fault
+use Rattle.swim_state.specs.declared.fault.RecoverFault.TheVariants.{Device, NotState, WrongOwner, Exhausted}
 use Rattle.swim_state.specs.File.{floor, ceiling_of, head, letters, says, layout_of, version_in, IsSound}
 use Rattle.swim_state.specs.Held.{Held, Covers}
 use Rattle.swim_state.specs.Recovery.{fault_of, head_fault, slots_fault, first_fault, same_bytes}
@@ -25,14 +24,12 @@ use Rattle.swim_state.specs.declared.fault.InitFault.{InitFault}
 use Rattle.swim_state.specs.declared.fault.InitFault.TheVariants as init
 use Rattle.swim_member.specs.declared.answer.Out.{Out}
 use Rattle.swim_member.specs.declared.event.Event.{Event}
-use Rattle.swim_member.specs.declared.settings.Settings.{Settings}
 use Rattle.swim_group.specs.declared.fault.NodesFault.{NodesFault}
-use Rattle.swim_group.specs.declared.fault.NodesFault.TheVariants.{Unfit, NotOpened, NoNode, Gone, NoDatagram, Readable}
+use Rattle.swim_group.specs.declared.fault.NodesFault.TheVariants.{NotOpened, NoNode, Gone, NoDatagram, Readable}
 use Rattle.swim_group.specs.declared.fault.NodesFault.TheVariants as nodes
 use Rattle.swim_group.specs.declared.seat.Seat.{Seat}
-use Rattle.swim_group.specs.Real.{MayBegin}
 use Rattle.swim_group.specs.RealNodes.{RealNodes, NodeDisk, LeavesThere}
-use Rattle.swim_group.specs.Refusing.{IsNoLimit, IsUnrecovered, IsUnopened, IsUnopenedFirst, IsNotMade, IsUnentered, IsUnseated, AreUnbegun, IsDeaf, IsShut, IsUnheard, IsNoStep, IsNoDelivery, IsNoOpening, IsAbsent}
+use Rattle.swim_group.specs.Refusing.{IsNoLimit, IsUnrecovered, IsUnopened, IsUnopenedFirst, IsNotMade, IsUnentered, IsDeaf, IsShut, IsUnheard, IsNoStep, IsNoDelivery, IsNoOpening, IsAbsent}
 use Rattle.swim_group.proofs.Holding.{get-at}
 use Rattle.swim_group.proofs.Seating.{real, set-back, left-at}
 
@@ -122,10 +119,7 @@ unopened-first limit content (Refused why) zero h = only why h
     only : (fault : RecoverFault) → IsUnrecovered content fault → fault ≡ Device
     only Device k = refl
     only Exhausted k = absurd (omega arith)
-    only NotState k = absurd k
-    only WrongOwner k = absurd k
-    only NoSlot k = absurd k
-    only fault.Damaged k = absurd k
+    only _ k = absurd k
 unopened-first limit content Limit zero h = h
 unopened-first limit content NoMemory zero h = h
 
@@ -141,10 +135,6 @@ pub unentered : (node : NodeView NodeDisk) (tag : Tag) (fault : ApplyFault) → 
 unentered node tag EraFull turn h = h.1
 unentered node tag apply.NoMemory turn h = tt {0}
 unentered node tag OutOfTurn turn h = h turn
-
-pub unbegun : (settings : List Settings) (limit : ℕ) (fault : NodesFault) → MayBegin settings → IsUnseated limit fault → AreUnbegun settings limit fault
-unbegun settings limit (Unfit why) may h = absurd h
-unbegun settings limit fault may h = (may, h)
 
 -- Calls
 

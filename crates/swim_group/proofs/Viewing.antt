@@ -18,11 +18,10 @@ use Rattle.swim_rules.proofs.Tables.{row_of-put, row_of-remove}
 use Rattle.swim_rules.proofs.Changes.{found_here}
 use Rattle.swim_member.specs.declared.judge.Judgement.{Judgement}
 use Rattle.swim_member.specs.declared.judge.Judgement.TheVariants as judged
-use Rattle.swim_member.specs.declared.state.Phase.TheVariants.{Expelled}
 use Rattle.swim_member.specs.declared.state.Probe.{Probe}
 use Rattle.swim_member.specs.declared.settings.Settings.{Settings}
 use Rattle.swim_member.specs.Checks.{rules_of}
-use Rattle.swim_member.specs.State.{State, Change, Heard, Forgot, Sent, NumberRaised, Became, Looked, Listed, Passed, Paged}
+use Rattle.swim_member.specs.State.{State, Change}
 use Rattle.swim_member.specs.Readings.{state}
 use Rattle.swim_member.specs.Hearing.{hear_other, heard_with}
 use Rattle.swim_member.specs.Judge.{judge}
@@ -32,7 +31,7 @@ use Rattle.swim_member.specs.Probe.{is_at, blame, suspect_target, suspect_of}
 use Rattle.swim_member.specs.Events.{Action, Hear, Settle, Reply, Advance, Expire, Forget, Blame, Probe_next, Ask, Depart, Bye, Join_peer, Show, Take, Step, perform, changes_by, actions_of, tick_actions, each_from, log_of, state_of}
 use Rattle.swim_member.specs.Machinery.Steps.{apply_all}
 use Rattle.swim_member.proofs.Logs.{state-append, log_after-snoc}
-use Rattle.swim_member.proofs.FewRows.{order-read}
+use Rattle.swim_member.proofs.FewRows.{order-read, same_rows}
 use Rattle.swim_member.proofs.Keeping.{find-passes}
 use Rattle.swim_member.proofs.Showing.{Lacks, IsQuiet, Tells, perform-no, settled-other}
 use Rattle.swim_group.specs.Group.{Place, Group, Move, Happens, Restarts, begun, state_at, place_at, change_at, with_event, new_place, OfPlace, after_move, after_moves}
@@ -130,17 +129,7 @@ module _ (comes goes : Type 0) where
 
     -- changes of no row
     same-held : (fs : List Change) (s : State) → Lacks Tells fs → row_of (apply_all fs s).rows x ≡ row_of s.rows x
-    same-held [] s a = refl
-    same-held (Heard u ∷ fs) s a = absurd (a.0 refl)
-    same-held (Forgot y ∷ fs) s a = absurd (a.0 refl)
-    same-held (Paged updates ∷ fs) s a = same-held fs s a.1
-    same-held (NumberRaised n ∷ fs) s a = same-held fs s a.1
-    same-held (Became Expelled ∷ fs) s a = same-held fs s a.1
-    same-held (Looked names ∷ fs) s a = same-held fs s a.1
-    same-held (Listed names ∷ fs) s a = same-held fs s a.1
-    same-held (Passed n ∷ fs) s a = same-held fs s a.1
-    same-held (Sent to p ∷ fs) s a = same-held fs s a.1
-    same-held (_ ∷ fs) s a = same-held fs s a
+    same-held fs s a = ap (λ rows. row_of rows x) (same_rows fs s a)
 
     other-any : comes → (s : State) (u : Update) (a : Hearing) → GoesFrom s (heard_with a u)
     other-any may s u heard.Accepted = heard-any may (rules_of s.settings) x s.rows (record { update = u; since = s.time })
@@ -296,17 +285,7 @@ module _ (x : ℕ) (old : Row) (alive : old.update.kind ≡ Alive) where
       forgotten None e = held
       forgotten (Some r) e =
           row_of-remove s.rows r.update.who x order ∙ ap (λ b. cond b None (row_of s.rows x)) (not-due Confirm (λ i. cc) s.settings.forget s.time s.rows r order held e) ∙ held
-  early-perform s (Hear u) h order held = absurd h
-  early-perform s (Settle own granted) h order held = absurd h
-  early-perform s (Reply p) h order held = absurd h
-  early-perform s Blame h order held = absurd h
-  early-perform s (Probe_next deal) h order held = absurd h
-  early-perform s (Ask k) h order held = absurd h
-  early-perform s Depart h order held = absurd h
-  early-perform s (Bye k) h order held = absurd h
-  early-perform s (Join_peer peer) h order held = absurd h
-  early-perform s (Show cursor) h order held = absurd h
-  early-perform s (Take n) h order held = absurd h
+  early-perform s _ h order held = absurd h
 
   -- these actions before others
   early-actions : (base : State) (ms rest : List Action) → AllByRecursion IsEarly ms → (log : List Change) → row_of (state base log).rows x ≡ Some old

@@ -18,7 +18,7 @@ use crate::step::keep;
 use std::alloc::Global;
 use swim_disk::{Choice, FaultDisk, MemDisk};
 use swim_member::{Event, OUTS_MAX, Out, Settings};
-use swim_node::{Link, LinkFault, Node, Reply, Tag};
+use swim_node::{Link, LinkFault, Node, Reply};
 use swim_state::{InitFault, Owner, init};
 use swim_wire::Endpoint;
 
@@ -66,8 +66,8 @@ pub(crate) fn hear_there(seat: &mut Seat, event: Event) -> Result<Reply, NodesFa
     let Some(node) = &mut seat.node else {
         return Err(NodesFault::Gone);
     };
-    let turn = node.turns(0) + 1;
-    match hear(node, &mut Nowhere, Tag { caller: 0, turn }, event) {
+    let tag = node.next_tag(0);
+    match hear(node, &mut Nowhere, tag, event) {
         Ok(reply) => Ok(reply),
         Err(fault) => Err(NodesFault::Refused(fault)),
     }

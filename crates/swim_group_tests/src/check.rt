@@ -3,7 +3,7 @@
 use crate::same::{same, same_at};
 use std::alloc::{AllocError, Global};
 use std::process::Abort;
-use swim_check::{LineFault, Stop, check};
+use swim_check::{CaptureStop, LineFault, check};
 use swim_group::Breach;
 use swim_wire::{Endpoint, Update, UpdateKind, WireFault};
 
@@ -29,7 +29,7 @@ fn text(alloc: Global, lines: &[&str]) -> Result<Vec<u8>, AllocError> {
 }
 
 /// What the check of these lines says, if there is memory for them.
-fn says(alloc: Global, lines: &[&str]) -> Option<Result<usize, Stop>> {
+fn says(alloc: Global, lines: &[&str]) -> Option<Result<usize, CaptureStop>> {
     let text = text(alloc, lines).ok()?;
     Some(check(alloc, &text))
 }
@@ -47,13 +47,13 @@ fn keeps_or_breaks_the_law(rt: HostRuntime) {
     };
     same(&rt, says(rt.alloc(), &[]), Some(Ok(0)));
     same(&rt, says(rt.alloc(), &[TELLS, REPEATS, TELLS]), Some(Ok(3)));
-    let broken = Stop::Broken(3, passed, Breach::Passed);
+    let broken = CaptureStop::Broken(3, passed, Breach::Passed);
     same(
         &rt,
         says(rt.alloc(), &[TELLS, REPEATS, PASSES]),
         Some(Err(broken)),
     );
-    let early = Stop::Broken(1, repeated, Breach::Passed);
+    let early = CaptureStop::Broken(1, repeated, Breach::Passed);
     same(&rt, says(rt.alloc(), &[REPEATS, TELLS]), Some(Err(early)));
 }
 
@@ -74,12 +74,12 @@ fn refuses_lines(rt: HostRuntime) {
             &rt,
             &line,
             says(rt.alloc(), &[TELLS, line]),
-            Some(Err(Stop::Line(2, fault))),
+            Some(Err(CaptureStop::Line(2, fault))),
         );
     }
     // its datagram is by 10.0.0.1:7000
     let other =
         "10.0.0.3:7000 5357494d010101000000000000000007000000010a0000011b580a0000021b5801000a0000011b580000000000000003\n";
-    let sender = Stop::Line(1, LineFault::Sender);
+    let sender = CaptureStop::Line(1, LineFault::Sender);
     same(&rt, says(rt.alloc(), &[other]), Some(Err(sender)));
 }

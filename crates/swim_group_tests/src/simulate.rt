@@ -6,7 +6,7 @@ use crate::same::{given, holds, holds_at, same, same_at};
 use arrayvec::ArrayVec;
 use std::alloc::{AllocError, Global};
 use std::test::Fail;
-use swim_simulate::{Counts, Key, Law, Plan, endpoint_of, simulate};
+use swim_simulate::{LawRecord, Plan, PlanKey, RunCounts, endpoint_of, simulate};
 use swim_wire::{Cursor, Datagram, Kind, Rules, Update, UpdateKind};
 
 /// What a plan is refused for, and nothing where it is not.
@@ -45,8 +45,8 @@ fn plans_are_refused_by_key(rt: HostRuntime) -> Result<(), Fail> {
 #[test]
 fn a_default_plan_has_fifty_members(rt: HostRuntime) {
     let plan = Plan::default();
-    same(&rt, plan.get(Key::Members), 50);
-    same(&rt, plan.get(Key::Loss), 2);
+    same(&rt, plan.get(PlanKey::Members), 50);
+    same(&rt, plan.get(PlanKey::Loss), 2);
     same(&rt, plan.ticks(), 6000);
     same(&rt, plan.kill_tick(0), 1500);
     same(&rt, plan.kill_tick(2), 4500);
@@ -56,12 +56,13 @@ fn a_default_plan_has_fifty_members(rt: HostRuntime) {
 fn a_plan_takes_another_number_in_its_range(rt: HostRuntime) {
     let plan = Plan::default();
     let with = |key, number| plan.with(key, number).map(|plan| plan.get(key));
-    same(&rt, with(Key::Loss, 100), Some(100));
-    same(&rt, with(Key::Loss, 101), None);
-    same(&rt, with(Key::Members, 0), None);
+    same(&rt, with(PlanKey::Loss, 100), Some(100));
+    same(&rt, with(PlanKey::Loss, 101), None);
+    same(&rt, with(PlanKey::Members, 0), None);
     same(
         &rt,
-        plan.with(Key::Loss, 9).map(|plan| plan.get(Key::Members)),
+        plan.with(PlanKey::Loss, 9)
+            .map(|plan| plan.get(PlanKey::Members)),
         Some(50),
     );
 }
@@ -157,7 +158,7 @@ fn ping_that_says(who: usize, number: u64) -> Datagram
 
 #[test]
 fn a_number_that_nobody_told_breaks_the_law(rt: HostRuntime) -> Result<(), Fail> {
-    let mut law = Law::new(rt.alloc());
+    let mut law = LawRecord::new(rt.alloc());
     given(&rt, law.look(6, &ping_that_says(0, 5)));
     same(&rt, law.stop(), None);
     given(&rt, law.look(7, &ping_that_says(1, 5)));
@@ -171,10 +172,10 @@ fn a_number_that_nobody_told_breaks_the_law(rt: HostRuntime) -> Result<(), Fail>
 }
 
 /// The counts of a minute of five members that suspect one another, where of 100 saves so many fail.
-fn with_failing(alloc: Global, failing: u64) -> Result<Counts, Fail> {
+fn with_failing(alloc: Global, failing: u64) -> Result<RunCounts, Fail> {
     let text = b"members = 5\nminutes = 1\nloss = 50\nkills = 0\n";
     let plan = Plan::read(alloc, text)?;
-    let plan = plan.with(Key::FailingSyncs, failing).unwrap_or(plan);
+    let plan = plan.with(PlanKey::FailingSyncs, failing).unwrap_or(plan);
     Ok(simulate(alloc, &plan, 1, 0)?.measures.counts)
 }
 

@@ -4,7 +4,7 @@ use crate::same::{given, holds, holds_at, same, same_at};
 use std::alloc::{AllocError, Global};
 use std::test::Fail;
 use swim_group::Breach;
-use swim_simulate::{Broken, Key, Kill, Plan, SimulateFault, Stop, simulate};
+use swim_simulate::{Broken, Kill, LawBreak, Plan, PlanKey, SimulateFault, simulate};
 use swim_survey::{
     Gathered, Made, Series, Span, Stage, Sweep, Trial, draw_runs, draw_sweep, numbers_of, placed,
     read_span, report, run_all, run_sweep, shrunk, told, write_plan,
@@ -55,7 +55,7 @@ fn stages_count_from_the_kill_or_the_opening(rt: HostRuntime) {
 
 #[test]
 fn spans_are_read_in_the_range_of_a_key(rt: HostRuntime) {
-    let range = Key::Loss.range();
+    let range = PlanKey::Loss.range();
     let rows = [
         ("0..30", Some((0, 30, None))),
         ("5..5", Some((5, 5, None))),
@@ -187,10 +187,10 @@ impl Trial for Planted {
     fn fails(&mut self, plan: &Plan) -> Result<bool, SimulateFault> {
         self.tried = self.tried.saturating_add(1);
         Ok(
-            plan.get(Key::Members) >= 5
-                && plan.get(Key::Minutes) >= 2
-                && plan.get(Key::Kills) >= 3
-                && plan.get(Key::Loss) >= 7,
+            plan.get(PlanKey::Members) >= 5
+                && plan.get(PlanKey::Minutes) >= 2
+                && plan.get(PlanKey::Kills) >= 3
+                && plan.get(PlanKey::Loss) >= 7,
         )
     }
 }
@@ -225,7 +225,7 @@ fn a_run_is_told_as_a_plan(rt: HostRuntime) -> Result<(), Fail> {
     holds_at(&rt, &found, found.as_str().contains("# tick 400: member "));
     // it is a plan, and the same one
     let again = given(&rt, Plan::read(alloc, found.as_str().as_bytes()));
-    for key in Key::ALL {
+    for key in PlanKey::ALL {
         same_at(&rt, &key, again.get(key), plan.get(key));
     }
     Ok(())
@@ -271,14 +271,14 @@ fn what_is_gathered_adds_up(rt: HostRuntime) -> Result<(), Fail> {
 }
 
 /// A law that no member knows: a datagram of this tick breaks it.
-fn planted_stop(tick: u64) -> Stop {
+fn planted_stop(tick: u64) -> LawBreak {
     let who = Endpoint::new(0x0a00_0002, 7000).unwrap_or_default();
     let update = Update {
         kind: UpdateKind::Alive,
         who,
         number: 9,
     };
-    Stop {
+    LawBreak {
         tick,
         sender: who,
         update,

@@ -12,7 +12,7 @@ use Rattle.swim_shared.proofs.Crosses.{Shared-sync, Pass-send}
 use Rattle.swim_trace.specs.contracts.Trace as Trace
 use Rattle.swim_trace.proofs.Crosses.{Trace-send}
 use Rattle.swim_member.specs.contracts.event.Event as Event
-use Rattle.swim_handle.specs.contracts.board.Row as Row
+use Rattle.swim_handle.specs.contracts.board.CounterRow as CounterRow
 use Rattle.swim_handle.specs.contracts.call_log.CallLog as CallLog
 use Rattle.swim_handle.specs.contracts.handle.Handle as Handle
 use Rattle.swim_handle.specs.contracts.handle.Handle.TheInside as HandleInside
@@ -26,8 +26,8 @@ pub CallLog-field-send : IsSend CallLog.the_field.row
 CallLog-field-send = search (sendable, crosses, NoteLog-field-send) depth 60 fits 20000
 
 -- a row is read while its worker writes there
-pub Row-sync : IsSync Row.the_row
-Row-sync = search (sendable, crosses) depth 60 fits 20000
+pub CounterRow-sync : IsSync CounterRow.the_row
+CounterRow-sync = search (sendable, crosses) depth 60 fits 20000
 
 -- any of the workers ends the era
 pub Pace-sync : IsSync Pace.the_row
@@ -40,4 +40,4 @@ asked-send = Trace-send Event.the_row (search (sendable, crosses) depth 60 fits 
 -- a caller of a shared member
 module _ (x : NamedLft) (N D L R W : RattleType) (n : Name.Ghosts N.Denot) (d : Disk.Ghosts D.Denot) (l : Link.Ghosts L.Denot) (g : Log.Ghosts W.Denot) (ns : IsSend N) (ds : IsSend D) (ls : IsSend L) (rs : IsSend R) (ws : IsSync W) where
   pub Handle-send : IsSend (Handle.the_row x N D L R W n d l g)
-  Handle-send = view_send (HandleInside.the_row x N D L R W n d l g) _ _ _ _ (recorded_send (HandleInside.the_field x N D L R W n d l g).row _ _ (HandleInside.the_type x N D L R W n d l g).to_one (struct_send (shape (HandleInside.the_type x N D L R W n d l g)) (search sendable, (search (sendable, Shared-sync), (search (sendable, Pace-sync), (search (sendable, Pass-send), (search (sendable, Row-sync), (search (sendable, CallLog-field-send), (search sendable, (search (sendable, asked-send), tt))))))))))
+  Handle-send = view_send (HandleInside.the_row x N D L R W n d l g) _ _ _ _ (recorded_send (HandleInside.the_field x N D L R W n d l g).row _ _ (HandleInside.the_type x N D L R W n d l g).to_one (struct_send (shape (HandleInside.the_type x N D L R W n d l g)) (search sendable, (search (sendable, Shared-sync), (search (sendable, Pace-sync), (search (sendable, Pass-send), (search (sendable, CounterRow-sync), (search (sendable, CallLog-field-send), (search sendable, (search (sendable, asked-send), tt))))))))))

@@ -9,12 +9,12 @@ use crate::identity::Identity;
 use std::sync::atomic::{AtomicU64, Ordering};
 use std::time::Clock;
 use swim_shell::{
-    CALL_COUNTS, COUNTERS, Counters, Counts, ERA_COUNTS, NOTE_KINDS, NOTES_FROM, Who,
+    CALL_COUNTS, COUNTERS, CallCounts, Counters, ERA_COUNTS, NOTE_KINDS, NOTES_FROM, Who,
 };
 
 /// What one worker shows. It alone writes here, and nobody waits for another.
 #[derive(Drop)]
-pub struct Row {
+pub struct CounterRow {
     calls: [AtomicU64; CALL_COUNTS],
     notes: [AtomicU64; NOTE_KINDS],
 }
@@ -35,17 +35,17 @@ fn add_all(counts: &mut [u64], cells: &[AtomicU64]) {
     }
 }
 
-impl Row {
+impl CounterRow {
     /// Shows these counts at first.
-    fn new(counts: &Counts) -> Row {
-        Row {
+    fn new(counts: &CallCounts) -> CounterRow {
+        CounterRow {
             calls: counts.calls().map(|count| AtomicU64::new(count)),
             notes: counts.notes.map(|count| AtomicU64::new(count)),
         }
     }
 
     /// Shows the counts after a call, which may have had notes.
-    pub(crate) fn show(&self, counts: &Counts, has_notes: bool) {
+    pub(crate) fn show(&self, counts: &CallCounts, has_notes: bool) {
         show_all(&self.calls, &counts.calls());
         if has_notes {
             show_all(&self.notes, &counts.notes);
@@ -62,41 +62,41 @@ impl Row {
 /// What all workers of an era show. No contract can say what the others have shown: what is read here is what each of them
 /// counted up to one of its last calls, and it never falls.
 #[derive(Drop)]
-pub struct Board {
+pub struct SharedCounters {
     /// What became of the eras before.
     eras: [u64; ERA_COUNTS],
     /// Who the member is.
     identity: Identity,
     /// How many others it has to join.
     listed: usize,
-    rows: Crew<Row, Row, Row, Row>,
+    rows: Crew<CounterRow, CounterRow, CounterRow, CounterRow>,
 }
 
-impl Board {
+impl SharedCounters {
     /// Of an era of this member that begins, after so many others, and after those calls of its workers; it has so many others to join.
     pub fn new(
         eras: [u64; ERA_COUNTS],
         logs: &Crew<CallLog, CallLog, CallLog, CallLog>,
         identity: Identity,
         listed: usize,
-    ) -> Board
+    ) -> SharedCounters
         ensures { (result.identity ≡ identity) × (result.listed ≡ listed) }
     {
-        Board {
+        SharedCounters {
             eras,
             identity,
             listed,
             rows: Crew {
-                receiver: Row::new(logs.receiver.counts()),
-                ticker: Row::new(logs.ticker.counts()),
-                sender: Row::new(logs.sender.counts()),
-                control: Row::new(logs.control.counts()),
+                receiver: CounterRow::new(logs.receiver.counts()),
+                ticker: CounterRow::new(logs.ticker.counts()),
+                sender: CounterRow::new(logs.sender.counts()),
+                control: CounterRow::new(logs.control.counts()),
             },
         }
     }
 
     /// Where each worker shows what it counts.
-    pub fn rows(&self) -> &Crew<Row, Row, Row, Row> {
+    pub fn rows(&self) -> &Crew<CounterRow, CounterRow, CounterRow, CounterRow> {
         &self.rows
     }
 

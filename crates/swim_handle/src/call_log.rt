@@ -4,7 +4,7 @@
 ghost use Rattle.std.specs.Prelude.{◌≡◌, replicate, true, IfNone, IfSome};
 ghost use Rattle.swim_handle.specs.Companies.{holds_nobody};
 ghost use Rattle.swim_handle.specs.Numbers.{origin_of, said_in};
-ghost use Rattle.swim_shell.specs.Counts.{call_counts, counts_after, event_kind};
+ghost use Rattle.swim_shell.specs.CallCounts.{call_counts, counts_after, event_kind};
 
 use crate::company::Company;
 use crate::heard::Heard;
@@ -14,7 +14,7 @@ use log::Log;
 use std::time::Clock;
 use swim_member::Event;
 use swim_node::Reply;
-use swim_shell::{CALL_COUNTS, Counts, NOTE_KINDS};
+use swim_shell::{CALL_COUNTS, CallCounts, NOTE_KINDS};
 use swim_wire::{Endpoint, Rules};
 
 /// What a worker has logged and counted of its calls, from one era to the next.
@@ -23,7 +23,7 @@ pub struct CallLog {
     notes: NoteLog,
     company: Company,
     numbers: NumberLog,
-    counts: Counts,
+    counts: CallCounts,
 }
 
 impl CallLog {
@@ -39,12 +39,12 @@ impl CallLog {
             notes: NoteLog::new(rules),
             company: Company::new(),
             numbers: NumberLog::new(me, number),
-            counts: Counts::new(number),
+            counts: CallCounts::new(number),
         }
     }
 
     /// What its calls have come to.
-    pub fn counts(&self) -> &Counts
+    pub fn counts(&self) -> &CallCounts
         ensures { result.now ≡ self.now.counts }
     {
         &self.counts

@@ -7,7 +7,7 @@ ghost use Rattle.swim_handle.specs.Identities.{Tells};
 ghost use Rattle.swim_handle.specs.Notes.{has_note};
 ghost use Rattle.swim_handle.specs.Views.{view_of};
 
-use crate::board::{Board, Row};
+use crate::board::{CounterRow, SharedCounters};
 use crate::call_log::CallLog;
 use crate::note_log::has_note;
 use crate::pace::Pace;
@@ -33,7 +33,7 @@ pub struct Handle<'a, N: Name, D: Disk, L: Link, R: Wait + Drop, W: Wait + Log +
     pace: &'a Pace,
     pass: Pass<N>,
     /// Where it shows what it counts.
-    row: &'a Row,
+    row: &'a CounterRow,
     log: CallLog,
     /// Whether a call could not be read back, or found the pass behind the journal. Each later call is refused.
     is_spent: bool,
@@ -71,7 +71,7 @@ impl<'a, N: Name, D: Disk, L: Link, R: Wait + Drop, W: Wait + Log + Clock> Handl
         shared: &'a Shared<N, D, L, R>,
         pace: &'a Pace,
         pass: Pass<N>,
-        row: &'a Row,
+        row: &'a CounterRow,
         log: CallLog,
     ) -> Self
         ensures { result ≡ record { known = view_of pass false []; log = log } }
@@ -129,7 +129,7 @@ impl<'a, N: Name, D: Disk, L: Link, R: Wait + Drop, W: Wait + Log + Clock> Calle
     for Handle<'a, N, D, L, R, W> {
     ghost use Rattle.std.specs.Prelude.{◌≡◌, IfErr, IfOk, IfSome, OnErr};
     ghost use Rattle.swim_shell.specs.Calls.{NewCall, Refuses};
-    ghost use Rattle.swim_shell.specs.Counts.{counts_after, event_kind};
+    ghost use Rattle.swim_shell.specs.CallCounts.{counts_after, event_kind};
     ghost use Rattle.swim_handle.specs.Numbers.{said_in};
 
     ghost known = { λ h. h.known };
@@ -175,13 +175,13 @@ impl<'a, N: Name, D: Disk, L: Link, R: Wait + Drop, W: Wait + Log + Clock> Calle
 
 /// Calls a shared member, lets a watch know of each call that is answered, and reads what all callers have counted.
 #[derive(Drop)]
-pub struct Observing<'a, N: Name, D: Disk, L: Link, R: Wait + Drop, W: Wait + Log + Clock> {
+pub struct StatusCaller<'a, N: Name, D: Disk, L: Link, R: Wait + Drop, W: Wait + Log + Clock> {
     handle: Handle<'a, N, D, L, R, W>,
     watch: Watch<N>,
-    board: &'a Board,
+    board: &'a SharedCounters,
 }
 
-impl<'a, N: Name, D: Disk, L: Link, R: Wait + Drop, W: Wait + Log + Clock> Observing<
+impl<'a, N: Name, D: Disk, L: Link, R: Wait + Drop, W: Wait + Log + Clock> StatusCaller<
     'a,
     N,
     D,
@@ -190,10 +190,14 @@ impl<'a, N: Name, D: Disk, L: Link, R: Wait + Drop, W: Wait + Log + Clock> Obser
     W,
 > {
     /// Calls as this caller does, and reads by this watch and from this board.
-    pub fn new(handle: Handle<'a, N, D, L, R, W>, watch: Watch<N>, board: &'a Board) -> Self
+    pub fn new(
+        handle: Handle<'a, N, D, L, R, W>,
+        watch: Watch<N>,
+        board: &'a SharedCounters,
+    ) -> Self
         ensures handle { result.handle ≡ handle.entry }
     {
-        Observing {
+        StatusCaller {
             handle,
             watch,
             board,
@@ -202,7 +206,7 @@ impl<'a, N: Name, D: Disk, L: Link, R: Wait + Drop, W: Wait + Log + Clock> Obser
 }
 
 impl<'a, N: Name, D: Disk, L: Link, R: Wait + Drop, W: Wait + Log + Clock> IntoParts
-    for Observing<'a, N, D, L, R, W> {
+    for StatusCaller<'a, N, D, L, R, W> {
     ghost use Rattle.swim_handle.specs.Views.{HasParts};
 
     type Parts = CallerParts<N>;
@@ -213,7 +217,7 @@ impl<'a, N: Name, D: Disk, L: Link, R: Wait + Drop, W: Wait + Log + Clock> IntoP
         ensures parted { HasParts N.base self.entry.handle.known result.pass }
         ensures log { result.log ≡ self.entry.handle.log }
     {
-        let Observing {
+        let StatusCaller {
             handle,
             watch: _,
             board: _,
@@ -223,7 +227,7 @@ impl<'a, N: Name, D: Disk, L: Link, R: Wait + Drop, W: Wait + Log + Clock> IntoP
 }
 
 impl<'a, N: Name, D: Disk, L: Link, R: Wait + Drop, W: Wait + Log + Clock> Caller
-    for Observing<'a, N, D, L, R, W> {
+    for StatusCaller<'a, N, D, L, R, W> {
     ghost known = { λ o. o.handle.known };
 
     ghost limit = { N.base.limit };
@@ -232,6 +236,10 @@ impl<'a, N: Name, D: Disk, L: Link, R: Wait + Drop, W: Wait + Log + Clock> Calle
         match self.handle.call(event) {
             Ok(reply) => {
                 let handle = &mut self.handle;
+                // its worker may wait before the turn ends that rings: what it sends does not wait with it
+                if reply.sent > 0 {
+                    handle.pace.ring();
+                }
                 let _ = handle
                     .shared
                     .show(handle.rt, &mut handle.pass, &mut self.watch);
@@ -243,7 +251,7 @@ impl<'a, N: Name, D: Disk, L: Link, R: Wait + Drop, W: Wait + Log + Clock> Calle
 }
 
 impl<'a, N: Name, D: Disk, L: Link, R: Wait + Drop, W: Wait + Log + Clock> Observer
-    for Observing<'a, N, D, L, R, W> {
+    for StatusCaller<'a, N, D, L, R, W> {
     fn status(&mut self) -> Option<Status> {
         self.watch.read()
     }

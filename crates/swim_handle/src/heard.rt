@@ -1,7 +1,7 @@
 //! What is logged of an event that is entered.
 
 ghost use Rattle.std.specs.Prelude.{◌≡◌};
-ghost use Rattle.swim_shell.specs.Counts.{event_kind};
+ghost use Rattle.swim_shell.specs.CallCounts.{event_kind};
 ghost use Rattle.swim_handle.specs.Numbers.{origin_of, said_in};
 
 use crate::number_log::NumberLog;

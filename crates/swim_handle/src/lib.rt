@@ -15,10 +15,10 @@ mod number_log;
 mod pace;
 mod parts;
 
-pub use board::{Board, Row};
+pub use board::{CounterRow, SharedCounters};
 pub use call_log::CallLog;
 pub use crew::Crew;
-pub use handle::{Handle, Observing};
+pub use handle::{Handle, StatusCaller};
 pub use identity::Identity;
 pub use note_log::{LOGGED_MAX, NoteLog};
 pub use number_log::NumberLog;

@@ -1,9 +1,10 @@
 //! What the receiver writes to the log of the own number: that the group knows a greater one, and that none can be saved.
 
-ghost use Rattle.std.specs.Prelude.{◌≡◌, ◌≢◌, ◌+◌, ◌↔◌, IsTrue, false};
+ghost use Rattle.std.specs.Prelude.{◌≡◌, ◌≢◌, ◌<◌, ◌+◌, ◌↔◌, IsTrue, false, length, slice_index};
 ghost use Rattle.swim_member.specs.declared.note.Note.TheVariants as noted;
 ghost use Rattle.swim_wire.specs.Decoding.{decoded};
 ghost use Rattle.swim_handle.specs.Notes.{has_note};
+ghost use Rattle.swim_handle.specs.declared.number_log.TheConstants.{COUNT_AT};
 ghost use Rattle.swim_handle.specs.Numbers.{number_of, greatest_said, number_said, is_refusal, is_refused, IsOtherLife};
 
 use crate::note_log::has_note;
@@ -14,6 +15,9 @@ use swim_wire::{Endpoint, Update, decode};
 
 /// The most lines of numbers of other lives that are logged, so that no stranger can fill the disk by such numbers.
 const LIVES_MAX: u8 = 5;
+
+/// The byte of a datagram that counts its updates (docs/FORMATS.md).
+const COUNT_AT: usize = 6;
 
 /// What the log tells of the own number, each thing once: that the group knows a greater one, which no call of this life
 /// took, and that no number can be saved.
@@ -48,10 +52,23 @@ fn greatest_said(updates: &[Update], me: Endpoint) -> u64
     greatest
 }
 
-/// The greatest number that received bytes say of a member, or 0, and 0 where they spell no datagram.
+/// Whether received bytes say that no update follows their head, as those of most pings do.
+fn has_no_updates(bytes: &[u8]) -> bool
+    ensures { IsTrue result
+        ↔ ((COUNT_AT < length bytes.now) × (slice_index bytes.now COUNT_AT ≡ 0)) }
+{
+    bytes.len() > COUNT_AT && bytes[COUNT_AT] == 0
+}
+
+/// The greatest number that received bytes say of a member, or 0, and 0 where they spell no datagram. The member decodes them itself: here
+/// they are only where an update may say one.
+#[tactic(auto, using(crate::proofs::Numbers::said_nothing))]
 fn number_said(bytes: &[u8], me: Endpoint) -> u64
     ensures { result ≡ number_said me (decoded bytes.now) }
 {
+    if has_no_updates(bytes) {
+        return 0;
+    }
     match decode(bytes) {
         Ok(datagram) => greatest_said(datagram.updates.as_slice(), me),
         Err(_) => 0,

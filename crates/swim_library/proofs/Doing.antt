@@ -1,8 +1,7 @@
 -- A call that answers 0 did what it says.
 use Rattle.std.proofs.Common.{◌≡◌, ◌≢◌, ◌∙◌, ℕ, Option, None, Some, Result, Ok, Err, IfErr, OnOk, ap, arith, refl, sym}
 use Rattle.std.specs.Prelude.{IsErrOf}
-use Rattle.swim_library.specs.Codes.{NOTHING, NO_MEMORY, OK, code_of, code_of_result}
-use Rattle.swim_library.specs.Seeking.{code_of_fault}
+use Rattle.swim_library.specs.Codes.{NOTHING, NO_MEMORY, OK, code_of, code_of_fault, code_of_result}
 use Rattle.swim_library.specs.declared.refusal.Refusal.{Refusal}
 use Rattle.swim_library.specs.declared.refusal.Refusal.TheVariants as why
 

@@ -10,7 +10,7 @@ use Rattle.std_heap.proofs.Global.TheLaws as heap
 use Rattle.swim_library.specs.contracts.running.Running as Held
 use Rattle.swim_library.proofs.running.Running.TheLaws as running
 use Rattle.swim_library.specs.contracts.handle.parts.Parts as Parts
-use Rattle.swim_library.specs.contracts.handle.slot.Slot as Slots
+use Rattle.swim_library.specs.contracts.handle.slot.HandleSlot as Slots
 
 abbrev pub E : Bx
 E = record { row = Held.the_row; laws = running.the_row_laws; al = record { row = Heap.the_row; laws = heap.the_row_laws; g = ghosts; d = dict; drops = impl [] tnil dnil } }

@@ -1,5 +1,5 @@
 -- The codes of the calls, as swim.h names them.
-use Rattle.std.specs.Prelude.{◌≡◌, ◌⊎◌, ℕ, ◌+◌, Result, Ok, Err}
+use Rattle.std.specs.Prelude.{◌≡◌, ◌⊎◌, ℕ, ◌+◌, Option, None, Some, Result, Ok, Err}
 use Rattle.swim_member.specs.Texts.{setting_number}
 use Rattle.swim_node.specs.Fault.{number_of_open}
 use Rattle.swim_state.specs.Fault.{number_of_init, number_of_save}
@@ -29,6 +29,10 @@ code_of why.TooMany = 54
 abbrev pub code_of_result : {T : Type 0} → Result T Refusal → ℕ
 code_of_result (Ok done) = OK
 code_of_result (Err refusal) = code_of refusal
+
+abbrev pub code_of_fault : Option Refusal → ℕ
+code_of_fault None = OK
+code_of_fault (Some refusal) = code_of refusal
 
 -- the codes by which programs tell the most usual refusals
 abbrev pub NOTHING : ℕ

@@ -19,7 +19,6 @@ use Rattle.swim_start.specs.Starting.{peers_to_join}
 use Rattle.swim_state.specs.declared.peers.TheConstants.{PEERS_MAX}
 use Rattle.swim_wire.specs.declared.update.Update.{Update}
 use Rattle.swim_library.specs.Changes.{AddsAllPages, ReadsInVain}
-use Rattle.swim_library.specs.Codes.{OK, code_of}
 use Rattle.swim_library.specs.Outbox.{waiting_in}
 use Rattle.swim_library.specs.Running.{EntersEvent}
 use Rattle.swim_library.specs.Shapes.{number_of_endpoint}
@@ -61,11 +60,6 @@ abbrev pub seeds_fault : List SwimEndpoint → Option Refusal
 seeds_fault seeds =
     if nat_lt PEERS_MAX (length seeds) then Some TooMany
     else (if list_any names_nobody seeds then Some NoEndpoint else None)
-
--- the code of it
-abbrev pub code_of_fault : Option Refusal → ℕ
-code_of_fault None = OK
-code_of_fault (Some refusal) = code_of refusal
 
 -- the joiner of these peers has done nothing yet, and this word begins what draws others
 pub record IsNewJoiner (s : Seeking) (peers : List ℕ) (word : ℕ) (k : JoinerView) : Type 0 where

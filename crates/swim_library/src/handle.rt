@@ -10,7 +10,7 @@ mod slot;
 use crate::running::Running;
 use member::MARK;
 pub use member::SwimMember;
-use slot::Slot;
+use slot::HandleSlot;
 use std::mem;
 
 /// Takes the member out of an open handle, which then is closed.
@@ -27,7 +27,7 @@ pub(crate) fn take(member: &mut SwimMember) -> Option<Box<Running>>
     let shut = SwimMember {
         mark: 0,
         alloc,
-        slot: Slot::to_nothing(alloc),
+        slot: HandleSlot::to_nothing(alloc),
     };
     let SwimMember {
         mark: _,
@@ -44,7 +44,7 @@ pub(crate) fn put(member: &mut SwimMember, running: Box<Running>)
     *member = SwimMember {
         mark: MARK,
         alloc: member.alloc,
-        slot: Slot::holding(running),
+        slot: HandleSlot::holding(running),
     };
 }
 

@@ -2,10 +2,10 @@
 
 ghost use Rattle.std.specs.Prelude.{◌≡◌, ◌≢◌, [], None, Some, false, true, map, IfOk, IfErr, IsOk, OnErr, OnOk};
 ghost use Rattle.std.specs.Duration.{as_nanos};
-ghost use Rattle.swim_library.specs.Codes.{CLOSED, OK};
+ghost use Rattle.swim_library.specs.Codes.{CLOSED, OK, code_of_fault};
 ghost use Rattle.swim_library.specs.Holding.{HandleBecomes, held};
 ghost use Rattle.swim_library.specs.Outbox.{waiting_in};
-ghost use Rattle.swim_library.specs.Seeking.{HasJoiner, IsMoment, DoesTask, HasNoTurn, IsTimeAfter, LacksForTask, Seeks, SeeksInVain, SeeksPeers, SeesRows, TakesSeeds, TakesTurn, TurnsInVain, code_of_fault, ms_after, next_turn, seeds_fault};
+ghost use Rattle.swim_library.specs.Seeking.{HasJoiner, IsMoment, DoesTask, HasNoTurn, IsTimeAfter, LacksForTask, Seeks, SeeksInVain, SeeksPeers, SeesRows, TakesSeeds, TakesTurn, TurnsInVain, ms_after, next_turn, seeds_fault};
 ghost use Rattle.swim_library.specs.Shapes.{number_of_endpoint};
 ghost use Rattle.swim_library.specs.declared.refusal.Refusal.TheVariants as why;
 ghost use Rattle.swim_member.specs.Checks.{AreSound};

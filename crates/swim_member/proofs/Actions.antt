@@ -1,6 +1,6 @@
 -- Actions one after another.
 use Rattle.std.proofs.Common.{◌≡◌, ℕ, ◌+◌, ◌-◌, refl, sym, ◌∙◌, ap, List, [], ◌∷◌, ◌++◌, append_assoc, append-nil, replicate, zero, suc, ◌<◌, arith}
-use Rattle.swim_member.specs.State.{State, Change, Heard, Forgot, Queued, Sent, NumberRaised, Became, Ticked, SequenceTaken, Probed, Relayed, Unrelayed, Joined, Looked, Listed, Passed, Paged, Noted}
+use Rattle.swim_member.specs.State.{State, Change, Heard, Sent, Noted}
 use Rattle.swim_member.specs.Events.{Action, perform, each_from, outs, notes}
 use Rattle.swim_member.specs.Machinery.Steps.{apply, apply_all, changes_from, after, notes_by, outs_by}
 
@@ -25,42 +25,20 @@ apply_all-append (h ∷ fs) gs s = ap (apply h) (apply_all-append fs gs s)
 notes-append : (fs gs : List Change) → notes (fs ++ gs) ≡ notes gs ++ notes fs
 notes-append [] gs = sym (append-nil (notes gs))
 notes-append (Noted n ∷ fs) gs = ap (λ ns. ns ++ n ∷ []) (notes-append fs gs) ∙ append_assoc (notes gs) (notes fs) (n ∷ [])
-notes-append (Heard u ∷ fs) gs = notes-append fs gs
-notes-append (Forgot x ∷ fs) gs = notes-append fs gs
-notes-append (Queued u ∷ fs) gs = notes-append fs gs
-notes-append (Sent to p ∷ fs) gs = notes-append fs gs
-notes-append (NumberRaised n ∷ fs) gs = notes-append fs gs
-notes-append (Became p ∷ fs) gs = notes-append fs gs
-notes-append (Ticked ∷ fs) gs = notes-append fs gs
-notes-append (SequenceTaken ∷ fs) gs = notes-append fs gs
-notes-append (Probed p ∷ fs) gs = notes-append fs gs
-notes-append (Relayed r ∷ fs) gs = notes-append fs gs
-notes-append (Unrelayed r ∷ fs) gs = notes-append fs gs
-notes-append (Joined j ∷ fs) gs = notes-append fs gs
-notes-append (Looked names ∷ fs) gs = notes-append fs gs
-notes-append (Listed names ∷ fs) gs = notes-append fs gs
-notes-append (Passed n ∷ fs) gs = notes-append fs gs
-notes-append (Paged updates ∷ fs) gs = notes-append fs gs
+notes-append (_ ∷ fs) gs = notes-append fs gs
 
 pub outs-append : (fs gs : List Change) → outs (fs ++ gs) ≡ outs gs ++ outs fs
 outs-append [] gs = sym (append-nil (outs gs))
 outs-append (Sent to p ∷ fs) gs = ap (λ ns. ns ++ record { to = to; datagram = p } ∷ []) (outs-append fs gs) ∙ append_assoc (outs gs) (outs fs) (record { to = to; datagram = p } ∷ [])
-outs-append (Heard u ∷ fs) gs = outs-append fs gs
-outs-append (Forgot x ∷ fs) gs = outs-append fs gs
-outs-append (Queued u ∷ fs) gs = outs-append fs gs
-outs-append (Noted n ∷ fs) gs = outs-append fs gs
-outs-append (NumberRaised n ∷ fs) gs = outs-append fs gs
-outs-append (Became p ∷ fs) gs = outs-append fs gs
-outs-append (Ticked ∷ fs) gs = outs-append fs gs
-outs-append (SequenceTaken ∷ fs) gs = outs-append fs gs
-outs-append (Probed p ∷ fs) gs = outs-append fs gs
-outs-append (Relayed r ∷ fs) gs = outs-append fs gs
-outs-append (Unrelayed r ∷ fs) gs = outs-append fs gs
-outs-append (Joined j ∷ fs) gs = outs-append fs gs
-outs-append (Looked names ∷ fs) gs = outs-append fs gs
-outs-append (Listed names ∷ fs) gs = outs-append fs gs
-outs-append (Passed n ∷ fs) gs = outs-append fs gs
-outs-append (Paged updates ∷ fs) gs = outs-append fs gs
+outs-append (_ ∷ fs) gs = outs-append fs gs
+
+-- what happens by actions one after another, the newest first
+pub news-append : (s : State) (ms ns : List Action) → changes_from s (ms ++ ns) ≡ changes_from (after s ms) ns ++ changes_from s ms
+news-append s [] ns = sym (append-nil (changes_from s ns))
+news-append s (m ∷ ms) ns =
+    let t : State = apply_all (perform s m) s in
+    ap (λ happened. happened ++ perform s m) (news-append t ms ns)
+    ∙ append_assoc (changes_from (after t ms) ns) (changes_from t ms) (perform s m)
 
 pub after-news : (s : State) (ms : List Action) → apply_all (changes_from s ms) s ≡ after s ms
 after-news s [] = refl
@@ -95,22 +73,7 @@ after-idle (suc n) s m h = ap (λ p. after (apply_all p s) (replicate n m)) h �
 
 apply-settings : (h : Change) (s : State) → (apply h s).settings ≡ s.settings
 apply-settings (Heard u) s = refl
-apply-settings (Forgot x) s = refl
-apply-settings (Queued u) s = refl
-apply-settings (Sent to p) s = refl
-apply-settings (NumberRaised n) s = refl
-apply-settings (Became p) s = refl
-apply-settings Ticked s = refl
-apply-settings SequenceTaken s = refl
-apply-settings (Probed p) s = refl
-apply-settings (Relayed r) s = refl
-apply-settings (Unrelayed r) s = refl
-apply-settings (Joined j) s = refl
-apply-settings (Looked names) s = refl
-apply-settings (Listed names) s = refl
-apply-settings (Passed n) s = refl
-apply-settings (Paged updates) s = refl
-apply-settings (Noted n) s = refl
+apply-settings _ s = refl
 
 -- settings stay
 pub settings-apply_all : (happened : List Change) (s : State) → (apply_all happened s).settings ≡ s.settings

@@ -2,6 +2,7 @@
 use Rattle.std.proofs.Common.{◌≡◌, ℕ, zero, suc, ◌+◌, ◌≤◌, ◌&&◌, nat_lt, Bool, true, false, cond, not, refl, sym, ◌∙◌, ap, List, [], ◌∷◌, ◌++◌, map, take, drop, length, Option, Some, None, add-one, arith}
 use Rattle.std.specs.List.{filter, slice_get}
 use Rattle.std.proofs.lemmas.List.{map-append, take_all}
+use Rattle.swim_gossip.proofs.Falling.{take-again}
 use Rattle.swim_rules.specs.declared.table.Row.{Row}
 use Rattle.swim_rules.specs.Rows.{is_eligible}
 use Rattle.swim_wire.specs.declared.datagram.Kind.TheVariants.{PingReq}
@@ -91,14 +92,9 @@ filter-both p q (r ∷ rows) = at (q r) (p r) refl (filter-both p q rows)
     at true false e k = rw (e, k) refl
     at false b e k = k
 
-take-take_append : (n : ℕ) (xs ys : List ℕ) → take n (take n xs ++ ys) ≡ take n (xs ++ ys)
-take-take_append zero xs ys = refl
-take-take_append (suc n) [] ys = refl
-take-take_append (suc n) (x ∷ xs) ys = ap (λ rest. x ∷ rest) (take-take_append n xs ys)
-
 pub helpers-passes : (n x : ℕ) (rows : List Row) → take n (take n (map row_name (filter (is_helper x true) rows)) ++ map row_name (filter (is_helper x false) rows)) ≡ take n (map row_name (filter (λ r. nat_lt x (row_name r)) (filter is_eligible rows) ++ filter (λ r. nat_lt (row_name r) x) (filter is_eligible rows)))
 helpers-passes n x rows =
-    take-take_append n (map row_name (filter (is_helper x true) rows)) (map row_name (filter (is_helper x false) rows))
+    take-again n (map row_name (filter (is_helper x true) rows)) (map row_name (filter (is_helper x false) rows))
     ∙ ap (take n) (sym (map-append row_name (filter (is_helper x true) rows) (filter (is_helper x false) rows))
     ∙ ap (λ rs. map row_name (rs ++ filter (is_helper x false) rows)) (sym (filter-both (λ r. nat_lt x (row_name r)) is_eligible rows))
     ∙ ap (λ rs. map row_name (filter (λ r. nat_lt x (row_name r)) (filter is_eligible rows) ++ rs)) (sym (filter-both (λ r. nat_lt (row_name r) x) is_eligible rows)))

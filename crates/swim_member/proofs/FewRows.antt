@@ -18,8 +18,7 @@ use Rattle.swim_member.specs.declared.own_number.Suspicion.{Suspicion}
 use Rattle.swim_member.specs.declared.own_number.Suspicion.TheVariants as suspicion
 use Rattle.swim_member.specs.declared.state.Probe.{Probe}
 use Rattle.swim_member.specs.Checks.{rules_of}
-use Rattle.swim_member.specs.State.{State, Change, Heard, Forgot, Sent, NumberRaised, Became, Looked, Listed, Passed, Paged}
-use Rattle.swim_member.specs.declared.state.Phase.TheVariants.{Expelled}
+use Rattle.swim_member.specs.State.{State, Change, Heard, Forgot, Passed}
 use Rattle.swim_member.specs.Readings.{state, told_to_table}
 use Rattle.swim_member.specs.Hearing.{hear_other, heard_with}
 use Rattle.swim_member.specs.OwnNumber.{hear_own, note_of, suspicion_of}
@@ -95,18 +94,12 @@ remove-most (s ∷ rows) x = at (s.update.who == x) (remove-most rows x)
 
 -- Actions
 
-same_rows : (fs : List Change) (s : State) → Lacks Tells fs → (apply_all fs s).rows ≡ s.rows
+-- the rows stay where none is told
+pub same_rows : (fs : List Change) (s : State) → Lacks Tells fs → (apply_all fs s).rows ≡ s.rows
 same_rows [] s a = refl
 same_rows (Heard u ∷ fs) s a = absurd (a.0 refl)
 same_rows (Forgot x ∷ fs) s a = absurd (a.0 refl)
-same_rows (Paged updates ∷ fs) s a = same_rows fs s a.1
-same_rows (NumberRaised n ∷ fs) s a = same_rows fs s a.1
-same_rows (Became Expelled ∷ fs) s a = same_rows fs s a.1
-same_rows (Looked names ∷ fs) s a = same_rows fs s a.1
-same_rows (Listed names ∷ fs) s a = same_rows fs s a.1
-same_rows (Passed n ∷ fs) s a = same_rows fs s a.1
-same_rows (Sent to p ∷ fs) s a = same_rows fs s a.1
-same_rows (_ ∷ fs) s a = same_rows fs s a
+same_rows (_ ∷ fs) s a = same_rows fs s a.1
 
 few-other : (s : State) (u : Update) → AreInOrder s.rows → length s.rows ≤ 256 → length (apply_all (hear_other s u) s).rows ≤ 256
 few-other s u h l = at (answer_to (rules_of s.settings) s.rows u) refl
@@ -128,9 +121,7 @@ few-perform s m h l = by_action m
 
     noted : (x : Suspicion) → length (apply_all (note_of x) s).rows ≤ 256
     noted suspicion.Passed = l
-    noted suspicion.Leap = l
-    noted suspicion.Last = l
-    noted suspicion.Refutable = l
+    noted _ = l
 
     by_own : (u : Update) (b : Bool) → length (apply_all (cond b (hear_own (rules_of s.settings) s.number u) (hear_other s u)) s).rows ≤ 256
     by_own u true = noted (suspicion_of (rules_of s.settings) s.number u)

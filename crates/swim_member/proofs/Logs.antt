@@ -13,7 +13,7 @@ use Rattle.swim_member.specs.declared.state.Relay.{Relay}
 use Rattle.swim_member.specs.declared.event.Event.{Event}
 use Rattle.swim_member.specs.Machinery.Steps.{is_live, queue_after, apply, apply_all, changes_from, step_news}
 use Rattle.swim_member.specs.Checks.{rules_of}
-use Rattle.swim_member.specs.State.{State, Change, Heard, Forgot, Queued, Sent, NumberRaised, Became, Ticked, SequenceTaken, Probed, Relayed, Unrelayed, Joined, Looked, Listed, Passed, Paged, Noted}
+use Rattle.swim_member.specs.State.{State, Change, Heard, Forgot, Queued, Sent, Ticked, Relayed, Unrelayed}
 use Rattle.swim_member.specs.Readings.{time, told_to_table, waiting_updates, times_sent, queue, state, about_others, carries_updates, is_relay, without_relay, open_relays}
 use Rattle.swim_member.specs.Events.{Action, perform, changes_by, actions, Step, log_after, log_of, changes_of, state_of, answer, answer_in}
 
@@ -99,21 +99,12 @@ state-happening base log (Forgot x) =
     ∙ ap (λ q. record (state base log) { rows = remove_row (rows (rules_of base.settings) base.rows (told_to_table base log)) x; queue = q }) (without-counted (times_sent base log) x (waiting_updates base log))
 state-happening base log (Queued u) = ap (λ q. record (state base log) { queue = q }) (counted-apart (times_sent base log) 0 u (waiting_updates base log))
 state-happening base log (Sent to p) = ap (λ q. record (state base log) { queue = q }) (sent-counted (times_sent base log) p (waiting_updates base log))
-state-happening base log (NumberRaised n) = refl
-state-happening base log (Became p) = refl
 state-happening base log Ticked =
     ap (λ r. record (state base log) { time = time base log + 1; relays = r })
     (sym (filter-twice (is_live (time base log + 1) base.settings.period) (is_live (time base log) base.settings.period) (still-live (time base log) base.settings.period) (open_relays base log)))
-state-happening base log SequenceTaken = refl
-state-happening base log (Probed p) = refl
 state-happening base log (Relayed r) = ap (λ q. record (state base log) { relays = q }) (filter-append (is_live (time base log) base.settings.period) (open_relays base log) (r ∷ []))
 state-happening base log (Unrelayed r) = ap (λ q. record (state base log) { relays = q }) (without-filter (time base log) base.settings.period r (open_relays base log))
-state-happening base log (Joined j) = refl
-state-happening base log (Looked names) = refl
-state-happening base log (Listed names) = refl
-state-happening base log (Passed n) = refl
-state-happening base log (Paged updates) = refl
-state-happening base log (Noted n) = refl
+state-happening base log _ = refl
 
 pub state-append : (base : State) (happened log : List Change) → state base (happened ++ log) ≡ apply_all happened (state base log)
 state-append base [] log = refl

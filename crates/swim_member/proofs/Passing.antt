@@ -1,8 +1,9 @@
 -- That the state of a member passes the tests of a state from which one goes on.
 use Rattle.std.proofs.Common.{◌≡◌, ℕ, ◌+◌, ◌*◌, ◌≤◌, ◌==◌, ◌||◌, nat_le, nat_lt, Bool, true, false, cond, not, refl, sym, ◌∙◌, ap, List, [], ◌∷◌, length, Option, Some, None, arith, inl, inr}
-use Rattle.std.specs.List.{filter, list_all, list_any, AllByRecursion, IsDistinct}
-use Rattle.std.proofs.lemmas.Bool.{and_from, or_from, or_left, or_right, cases_Bool, lt-ltb, le-leb, eq-eqb, false≢true}
+use Rattle.std.specs.List.{filter, list_all, list_any, IsDistinct}
+use Rattle.std.proofs.lemmas.Bool.{and_from, or_left, or_right, cases_Bool, lt-ltb, le-leb, eq-eqb, false≢true}
 use Rattle.std.proofs.lemmas.Map.Keys.{IsDistinct-head, IsDistinct-tail}
+use Rattle.swim_member.proofs.TurnLists.{any-none}
 use Rattle.swim_wire.specs.declared.update.TheConstants.{NUMBER_MAX}
 use Rattle.swim_rules.specs.declared.table.Row.{Row}
 use Rattle.swim_rules.specs.Rules.{is_about}
@@ -89,15 +90,11 @@ all-filter p (x ∷ xs) h =
       | inr f ↦ let less : filter p xs ≡ x ∷ xs = rw f at h in let few = few-filter p xs in let long = ap length less in absurd (omega arith)
     ]
 
-unlike-any : (x : ℕ) (names : List ℕ) → AllByRecursion (λ y. (x == y) ≡ false) names → list_any (λ y. x == y) names ≡ false
-unlike-any x [] h = refl
-unlike-any x (y ∷ names) h = or_from (x == y) (list_any (λ z. x == z) names) h.0 (unlike-any x names h.1)
-
 distinct-kept : (names : List ℕ) → IsDistinct (λ x y. x == y) names → are_distinct names ≡ true
 distinct-kept [] h = refl
 distinct-kept (x ∷ names) h =
     and_from (not (list_any (λ y. x == y) names)) (are_distinct names)
-    (ap not (unlike-any x names (IsDistinct-head (λ x y. x == y) x names h)))
+    (ap not (any-none x names (IsDistinct-head (λ x y. x == y) x names h)))
     (distinct-kept names (IsDistinct-tail (λ x y. x == y) x names h))
 
 -- a member that is kept so has a state from which one goes on

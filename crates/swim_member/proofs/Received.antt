@@ -5,7 +5,7 @@ use Rattle.swim_wire.specs.declared.update.Update.{Update}
 use Rattle.swim_wire.specs.declared.update.UpdateKind.TheVariants.{Alive}
 use Rattle.swim_wire.specs.declared.datagram.Datagram.{Datagram}
 use Rattle.swim_rules.specs.declared.table.Heard.{Heard as Hearing}
-use Rattle.swim_rules.specs.declared.table.Heard.TheVariants.{Accepted, Kept, Unknown, Full}
+use Rattle.swim_rules.specs.declared.table.Heard.TheVariants.{Accepted}
 use Rattle.swim_rules.specs.Rows.{answer_to}
 use Rattle.swim_member.specs.declared.note.Note.{Note}
 use Rattle.swim_member.specs.declared.note.Note.TheVariants as note
@@ -17,7 +17,7 @@ use Rattle.swim_member.specs.OwnNumber.{own_with, hear_own, note_of, suspicion_o
 use Rattle.swim_member.specs.declared.own_number.OwnNumber.{OwnNumber}
 use Rattle.swim_member.specs.declared.own_number.OwnNumber.TheVariants.{Stays, Wanted, Confirmed}
 use Rattle.swim_member.specs.declared.own_number.Suspicion.{Suspicion}
-use Rattle.swim_member.specs.declared.own_number.Suspicion.TheVariants.{Passed, Leap, Last, Refutable}
+use Rattle.swim_member.specs.declared.own_number.Suspicion.TheVariants.{Passed}
 use Rattle.swim_member.specs.Hearing.{heard_with, hear_other}
 use Rattle.swim_member.specs.Machinery.Steps.{apply_all, after, notes_by, outs_by}
 use Rattle.swim_member.proofs.Actions.{after-append, notes_by-append, outs_by-append}
@@ -25,18 +25,14 @@ use Rattle.swim_member.proofs.Actions.{after-append, notes_by-append, outs_by-ap
 -- hearing sends nothing
 outs-note_of : (x : Suspicion) → outs (note_of x) ≡ []
 outs-note_of Passed = refl
-outs-note_of Leap = refl
-outs-note_of Last = refl
-outs-note_of Refutable = refl
+outs-note_of _ = refl
 
 outs-own : (rules : Rules) (old : ℕ) (u : Update) → outs (hear_own rules old u) ≡ []
 outs-own rules old u = outs-note_of (suspicion_of rules old u)
 
 pub outs-heard_with : (h : Hearing) (u : Update) → outs (heard_with h u) ≡ []
 outs-heard_with Accepted u = refl
-outs-heard_with Kept u = refl
-outs-heard_with Unknown u = refl
-outs-heard_with Full u = refl
+outs-heard_with _ u = refl
 
 outs-hear : (s : State) (u : Update) → outs (perform s (Hear u)) ≡ []
 outs-hear s u = pick (u.who == s.settings.me)

@@ -1,8 +1,9 @@
 -- What the tests of a state show, from which a member goes on.
 use Rattle.std.proofs.Common.{◌≡◌, ℕ, ◌+◌, ◌*◌, ◌≤◌, ◌==◌, ◌||◌, nat_le, nat_lt, Bool, true, false, cond, not, refl, sym, ◌∙◌, ap, List, [], ◌∷◌, length, Option, Some, None}
-use Rattle.std.specs.List.{filter, list_all, list_any, AllByRecursion, IsDistinct}
-use Rattle.std.proofs.lemmas.Bool.{and_parts, or_parts, not-true, ltb-true, leb-true, eqb-true, false≢true}
+use Rattle.std.specs.List.{filter, list_all, list_any, IsDistinct}
+use Rattle.std.proofs.lemmas.Bool.{and_parts, not-true, ltb-true, leb-true, eqb-true, false≢true}
 use Rattle.std.proofs.lemmas.Map.Keys.{IsDistinct-cons}
+use Rattle.swim_member.proofs.TurnLists.{none-any}
 use Rattle.swim_wire.specs.declared.update.TheConstants.{NUMBER_MAX}
 use Rattle.swim_rules.specs.declared.table.Row.{Row}
 use Rattle.swim_rules.specs.Rules.{is_about}
@@ -161,15 +162,9 @@ live-tested now period (r ∷ made) h =
     let parts : (is_live now period r ≡ true) × (list_all (is_live now period) made ≡ true) = and_parts (is_live now period r) (list_all (is_live now period) made) h in
     rw parts.0 (ap (λ (rest : List Relay). r ∷ rest) (live-tested now period made parts.1))
 
-unlike : (x : ℕ) (names : List ℕ) → list_any (λ y. x == y) names ≡ false → AllByRecursion (λ y. (x == y) ≡ false) names
-unlike x [] h = tt {0}
-unlike x (y ∷ names) h =
-    let parts : ((x == y) ≡ false) × (list_any (λ z. x == z) names ≡ false) = or_parts (x == y) (list_any (λ z. x == z) names) h in
-    (parts.0, unlike x names parts.1)
-
 pub distinct-tested : (names : List ℕ) → are_distinct names ≡ true → IsDistinct (λ x y. x == y) names
 unfolding IsDistinct
 distinct-tested [] h = tt {0}
 distinct-tested (x ∷ names) h =
     let parts : (not (list_any (λ y. x == y) names) ≡ true) × (are_distinct names ≡ true) = and_parts (not (list_any (λ y. x == y) names)) (are_distinct names) h in
-    IsDistinct-cons (λ x y. x == y) x names (unlike x names (not-true (list_any (λ y. x == y) names) parts.0)) (distinct-tested names parts.1)
+    IsDistinct-cons (λ x y. x == y) x names (none-any x names (not-true (list_any (λ y. x == y) names) parts.0)) (distinct-tested names parts.1)

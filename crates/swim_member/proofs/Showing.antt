@@ -67,73 +67,44 @@ abbrev LacksPing : Mark → Kind → Type 0
 LacksPing w Ping = w ≢ Pings
 LacksPing w _ = Unit {0}
 
+-- this change is not marked so
+abbrev pub Spares : Mark → Change → Type 0
+Spares w (Paged updates) = w ≢ Shown
+Spares w (NumberRaised n) = w ≢ Raised
+Spares w (Became Expelled) = w ≢ Expels
+Spares w (Heard u) = w ≢ Tells
+Spares w (Forgot x) = w ≢ Tells
+Spares w (Looked names) = w ≢ Turned
+Spares w (Listed names) = w ≢ Turned
+Spares w (state.Passed n) = w ≢ Turned
+Spares w (Sent to p) = LacksPing w p.kind
+Spares w _ = Unit {0}
+
 -- nothing marked so is in the log
 abbrev pub Lacks : Mark → List Change → Type 0
 Lacks w [] = Unit {0}
-Lacks w (Paged updates ∷ log) = (w ≢ Shown) × Lacks w log
-Lacks w (NumberRaised n ∷ log) = (w ≢ Raised) × Lacks w log
-Lacks w (Became Expelled ∷ log) = (w ≢ Expels) × Lacks w log
-Lacks w (Heard u ∷ log) = (w ≢ Tells) × Lacks w log
-Lacks w (Forgot x ∷ log) = (w ≢ Tells) × Lacks w log
-Lacks w (Looked names ∷ log) = (w ≢ Turned) × Lacks w log
-Lacks w (Listed names ∷ log) = (w ≢ Turned) × Lacks w log
-Lacks w (state.Passed n ∷ log) = (w ≢ Turned) × Lacks w log
-Lacks w (Sent to p ∷ log) = LacksPing w p.kind × Lacks w log
-Lacks w (_ ∷ log) = Lacks w log
+Lacks w (c ∷ log) = Spares w c × Lacks w log
 
 pub no-append : (w : Mark) (fs gs : List Change) → Lacks w fs → Lacks w gs → Lacks w (fs ++ gs)
 no-append w [] gs a b = b
-no-append w (Paged updates ∷ fs) gs a b = (a.0, no-append w fs gs a.1 b)
-no-append w (NumberRaised n ∷ fs) gs a b = (a.0, no-append w fs gs a.1 b)
-no-append w (Became Expelled ∷ fs) gs a b = (a.0, no-append w fs gs a.1 b)
-no-append w (Heard u ∷ fs) gs a b = (a.0, no-append w fs gs a.1 b)
-no-append w (Forgot x ∷ fs) gs a b = (a.0, no-append w fs gs a.1 b)
-no-append w (Looked names ∷ fs) gs a b = (a.0, no-append w fs gs a.1 b)
-no-append w (Listed names ∷ fs) gs a b = (a.0, no-append w fs gs a.1 b)
-no-append w (state.Passed n ∷ fs) gs a b = (a.0, no-append w fs gs a.1 b)
-no-append w (Sent to p ∷ fs) gs a b = (a.0, no-append w fs gs a.1 b)
-no-append w (_ ∷ fs) gs a b = no-append w fs gs a b
+no-append w (_ ∷ fs) gs a b = (a.0, no-append w fs gs a.1 b)
 
 no-page : (log : List Change) → Lacks Shown log → page log ≡ []
 no-page [] a = refl
 no-page (Paged updates ∷ log) a = absurd (a.0 refl)
-no-page (NumberRaised n ∷ log) a = no-page log a.1
-no-page (Became Expelled ∷ log) a = no-page log a.1
-no-page (Heard u ∷ log) a = no-page log a.1
-no-page (Forgot x ∷ log) a = no-page log a.1
-no-page (Looked names ∷ log) a = no-page log a.1
-no-page (Listed names ∷ log) a = no-page log a.1
-no-page (state.Passed n ∷ log) a = no-page log a.1
-no-page (Sent to p ∷ log) a = no-page log a.1
-no-page (_ ∷ log) a = no-page log a
+no-page (_ ∷ log) a = no-page log a.1
 
 no-number : (log : List Change) (s : State) → Lacks Raised log → (apply_all log s).number ≡ s.number
 no-number [] s a = refl
-no-number (Paged updates ∷ log) s a = no-number log s a.1
 no-number (NumberRaised n ∷ log) s a = absurd (a.0 refl)
-no-number (Became Expelled ∷ log) s a = no-number log s a.1
-no-number (Heard u ∷ log) s a = no-number log s a.1
-no-number (Forgot x ∷ log) s a = no-number log s a.1
-no-number (Looked names ∷ log) s a = no-number log s a.1
-no-number (Listed names ∷ log) s a = no-number log s a.1
-no-number (state.Passed n ∷ log) s a = no-number log s a.1
-no-number (Sent to p ∷ log) s a = no-number log s a.1
-no-number (_ ∷ log) s a = no-number log s a
+no-number (_ ∷ log) s a = no-number log s a.1
 
 no-expulsion : (log : List Change) (s : State) → Lacks Expels log → s.phase ≢ Expelled → (apply_all log s).phase ≢ Expelled
 no-expulsion [] s a h = h
-no-expulsion (Paged updates ∷ log) s a h = no-expulsion log s a.1 h
-no-expulsion (NumberRaised n ∷ log) s a h = no-expulsion log s a.1 h
 no-expulsion (Became Running ∷ log) s a h = λ e. cc
 no-expulsion (Became Left ∷ log) s a h = λ e. cc
 no-expulsion (Became Expelled ∷ log) s a h = absurd (a.0 refl)
-no-expulsion (Heard u ∷ log) s a h = no-expulsion log s a.1 h
-no-expulsion (Forgot x ∷ log) s a h = no-expulsion log s a.1 h
-no-expulsion (Looked names ∷ log) s a h = no-expulsion log s a.1 h
-no-expulsion (Listed names ∷ log) s a h = no-expulsion log s a.1 h
-no-expulsion (state.Passed n ∷ log) s a h = no-expulsion log s a.1 h
-no-expulsion (Sent to p ∷ log) s a h = no-expulsion log s a.1 h
-no-expulsion (_ ∷ log) s a h = no-expulsion log s a h
+no-expulsion (_ ∷ log) s a h = no-expulsion log s a.1 h
 
 either : (w : Mark) → (b : Bool) (x y : List Change) → Lacks w x → Lacks w y → Lacks w (cond b x y)
 either w true x y p q = p
@@ -141,18 +112,18 @@ either w false x y p q = q
 
 note_of-no : (w : Mark) → (x : Suspicion) → Lacks w (note_of x)
 note_of-no w Passed = tt
-note_of-no w Leap = tt
-note_of-no w Last = tt
+note_of-no w Leap = (tt, tt)
+note_of-no w Last = (tt, tt)
 note_of-no w Refutable = tt
 
 own-no : (w : Mark) → (rules : Rules) (old : ℕ) (u : Update) → Lacks w (hear_own rules old u)
 own-no w rules old u = note_of-no w (suspicion_of rules old u)
 
 heard-no : (w : Mark) → w ≢ Tells → (h : Hearing) (u : Update) → Lacks w (heard_with h u)
-heard-no w t heard.Accepted u = (t, tt)
+heard-no w t heard.Accepted u = (tt, (t, tt))
 heard-no w t heard.Kept u = (t, tt)
 heard-no w t heard.Unknown u = tt
-heard-no w t heard.Full u = tt
+heard-no w t heard.Full u = (tt, tt)
 
 -- what becomes of the own number is not marked so
 abbrev pub IsSettled : Mark → OwnNumber → Type 0
@@ -162,45 +133,45 @@ IsSettled w Confirmed = w ≢ Expels
 
 settle_number-no : (w : Mark) → (s : State) (own : OwnNumber) (granted : ℕ) → IsSettled w own → Lacks w (perform s (Settle own granted))
 settle_number-no w s Stays granted h = tt
-settle_number-no w s Confirmed granted h = (h, tt)
+settle_number-no w s Confirmed granted h = (tt, (tt, (h, tt)))
 settle_number-no w s (Wanted n) granted h = at (nat_le n granted)
   where
     at : (c : Bool) → Lacks w (cond c (Queued (own_with s Alive n) ∷ NumberRaised n ∷ []) (Noted note.SaveFailed ∷ []))
-    at true = (h, tt)
-    at false = tt
+    at true = (tt, (h, tt))
+    at false = (tt, tt)
 
 ping-no : (w : Mark) → (s : State) (p : Datagram) → Lacks w (on_ping s p)
-ping-no w s p = either w (p.subject == s.settings.me) (send s p.sender Ack p.seq s.settings.me ∷ []) (Noted note.Misdirected ∷ []) (tt, tt) tt
+ping-no w s p = either w (p.subject == s.settings.me) (send s p.sender Ack p.seq s.settings.me ∷ []) (Noted note.Misdirected ∷ []) (tt, tt) (tt, tt)
 
 ping_req-no : (w : Mark) → w ≢ Pings → (s : State) (p : Datagram) → Lacks w (on_ping_req s p)
 ping_req-no w h s p = at (p.subject == s.settings.me) (not (is_eligible_name s p.subject)) (length s.relays == 16)
   where
     at : (a b c : Bool) → Lacks w (cond a (send s p.sender Ack p.seq s.settings.me ∷ []) (cond b (Noted note.UnknownTarget ∷ []) (cond c (Noted note.RelaysFull ∷ []) (relay_ping s p))))
     at true b c = (tt, tt)
-    at false true c = tt
-    at false false true = tt
-    at false false false = (h, tt)
+    at false true c = (tt, tt)
+    at false false true = (tt, tt)
+    at false false false = (h, (tt, (tt, tt)))
 
 other_ack-no : (w : Mark) → (s : State) (p : Datagram) → Lacks w (on_other_ack s p)
 other_ack-no w s p = by_relay (find (is_answered p) s.relays)
   where
     by_relay : (o : Option Relay) → Lacks w (on_relayed_ack s p o)
-    by_relay None = tt
-    by_relay (Some r) = (tt, tt)
+    by_relay None = (tt, tt)
+    by_relay (Some r) = (tt, (tt, tt))
 
 ack-no : (w : Mark) → (s : State) (p : Datagram) (o : Option Probe) → Lacks w (on_ack s p o)
 ack-no w s p None = other_ack-no w s p
 ack-no w s p (Some q) =
-    either w (is_for p q.seq q.target) (Probed (Some (record { target = q.target; seq = q.seq; answered = true })) ∷ []) (on_other_ack s p) tt (other_ack-no w s p)
+    either w (is_for p q.seq q.target) (Probed (Some (record { target = q.target; seq = q.seq; answered = true })) ∷ []) (on_other_ack s p) (tt, tt) (other_ack-no w s p)
 
 page-no : (w : Mark) → (s : State) (p : Datagram) (o : Option Joining) → Lacks w (on_page s p o)
-page-no w s p None = tt
+page-no w s p None = (tt, tt)
 page-no w s p (Some j) = at (p.sender == j.peer && p.seq == j.seq && p.subject == j.cursor) (length p.updates.items == 30 && nat_lt j.cursor (last_name p.updates.items))
   where
     at : (a b : Bool) → Lacks w (cond a (cond b (join_to s j.peer (last_name p.updates.items)) (Joined None ∷ [])) (Noted note.Unasked ∷ []))
-    at true true = (tt, tt)
-    at true false = tt
-    at false b = tt
+    at true true = (tt, (tt, (tt, tt)))
+    at true false = (tt, tt)
+    at false b = (tt, tt)
 
 reply-no : (w : Mark) → w ≢ Pings → (s : State) (p : Datagram) (phase : Phase) (kind : Kind) → Lacks w (when_running phase (reply s kind p))
 reply-no w h s p Left kind = tt
@@ -213,7 +184,7 @@ reply-no w h s p Running Page = page-no w s p s.joining
 
 expire-no : (w : Mark) → w ≢ Tells → (o : Option Row) → Lacks w (expire_first o)
 expire-no w h None = tt
-expire-no w h (Some r) = (h, tt)
+expire-no w h (Some r) = (tt, (h, tt))
 
 forget-no : (w : Mark) → w ≢ Tells → (o : Option Row) → Lacks w (forget_first o)
 forget-no w h None = tt
@@ -228,12 +199,12 @@ blame-no w h s None = tt
 blame-no w h s (Some q) = either w q.answered [] (suspect_target s (row_of s.rows q.target)) tt (suspected-no w h s (row_of s.rows q.target))
 
 turn-no : (w : Mark) → (w ≢ Turned) × (w ≢ Pings) → (s : State) (deal : List ℕ) (o : Option ℕ) → Lacks w (take_turn s deal o)
-turn-no w h s deal (Some x) = (h.1, (h.0, tt))
+turn-no w h s deal (Some x) = (h.1, (tt, (tt, (h.0, tt))))
 turn-no w h s deal None = begun (dealt (eligible_names s) deal)
   where
     begun : (made : List ℕ) → Lacks w (begin_turn s made)
-    begun [] = (h.0, tt)
-    begun (x ∷ names) = (h.1, (h.0, (h.0, tt)))
+    begun [] = (tt, (h.0, tt))
+    begun (x ∷ names) = (h.1, (tt, (tt, (h.0, (h.0, tt)))))
 
 look-no : (w : Mark) → (w ≢ Turned) × (w ≢ Pings) → (s : State) (deal : List ℕ) → Lacks w (look s deal)
 look-no w h s deal = no-append w (take_turn s deal (next_listed s)) (Looked (eligible_names s) ∷ []) (turn-no w h s deal (next_listed s)) (h.0, tt)
@@ -248,7 +219,7 @@ ask-no w s (Some q) k = either w (not q.answered && is_eligible_name s q.target)
 
 bye-no : (w : Mark) → w ≢ Pings → (s : State) (o : Option Row) → Lacks w (bye s o)
 bye-no w h s None = tt
-bye-no w h s (Some r) = (h, tt)
+bye-no w h s (Some r) = (h, (tt, tt))
 
 -- an action by which nothing marked so happens
 abbrev pub IsQuiet : Mark → Action → Type 0
@@ -271,17 +242,17 @@ pub perform-no : (w : Mark) → (s : State) (m : Action) → IsQuiet w m → Lac
 perform-no w s (Hear u) h = either w (u.who == s.settings.me) (hear_own (rules_of s.settings) s.number u) (hear_other s u) (own-no w (rules_of s.settings) s.number u) (heard-no w h (answer_to (rules_of s.settings) s.rows u) u)
 perform-no w s (Settle own granted) h = settle_number-no w s own granted h
 perform-no w s (Reply p) h = reply-no w h s p s.phase p.kind
-perform-no w s Advance h = tt
+perform-no w s Advance h = (tt, tt)
 perform-no w s Expire h = expire-no w h (find (is_due Suspect s.settings.suspect s.time) s.rows)
 perform-no w s Forget h = forget-no w h (find (is_due Confirm s.settings.forget s.time) s.rows)
 perform-no w s Blame h = either w (is_at s 0) (blame s s.probe) [] (blame-no w h s s.probe) tt
 perform-no w s (Probe_next deal) h = either w (is_at s 0) (look s deal) [] (look-no w h s deal) tt
 perform-no w s (Ask k) h = either w (is_at s s.settings.direct) (ask s s.probe k) [] (ask-no w s s.probe k) tt
-perform-no w s Depart h = tt
+perform-no w s Depart h = (tt, (tt, tt))
 perform-no w s (Bye k) h = either w (nat_le k s.settings.helpers) (bye s (slice_get (eligible s) k)) [] (bye-no w h s (slice_get (eligible s) k)) tt
-perform-no w s (Join_peer peer) h = either w (peer == s.settings.me) (Noted note.Misdirected ∷ []) (join_to s peer 0) tt (tt, tt)
+perform-no w s (Join_peer peer) h = either w (peer == s.settings.me) (Noted note.Misdirected ∷ []) (join_to s peer 0) (tt, tt) (tt, (tt, (tt, tt)))
 perform-no w s (Show cursor) h = (h, tt)
-perform-no w s (Take n) h = tt
+perform-no w s (Take n) h = (tt, tt)
 
 pub news-no : (w : Mark) → (s : State) (ms : List Action) → AreQuiet w ms → Lacks w (changes_from s ms)
 news-no w s [] h = tt
@@ -395,12 +366,8 @@ raised n g (Some w) h = at (nat_le w g) h.0
 
 -- it does not fall
 pub number-grown : (s : State) (j : Judgement) (g : ℕ) → MayAct s j → s.number ≤ number_after (number_wanted j) g s.number
-number-grown s (judged.Note n) g h = omega arith
-number-grown s (judged.Tick deal) g h = omega arith
 number-grown s (judged.Datagram p own) g h = raised s.number g (wanted_number own) h.1
-number-grown s (judged.Join peer) g h = omega arith
-number-grown s judged.Leave g h = omega arith
-number-grown s (judged.Members cursor) g h = omega arith
+number-grown s _ g h = omega arith
 
 -- what is wanted is not above the last
 pub low-wanted : (n : ℕ) (o : Option ℕ) → IfSome o (λ w. (n < w) × (w ≤ 2 ^ 62)) → IfSome o (λ w. w ≤ 2 ^ 62)
@@ -432,12 +399,7 @@ quiet-event w shown tells pings s e granted own turned = by_phase s.phase e turn
   where
     stopped : (e : Event) → AreQuiet w (actions_of (judge_stopped e) granted)
     stopped (event.Members cursor) = (shown, tt)
-    stopped (event.Tick deal) = (tt, tt)
-    stopped (event.Datagram from bytes) = (tt, tt)
-    stopped event.ReceiveFailed = (tt, tt)
-    stopped (event.SendFailed count) = (tt, tt)
-    stopped (event.Join peer) = (tt, tt)
-    stopped event.Leave = (tt, tt)
+    stopped _ = (tt, tt)
 
     read : (p : Datagram) (refusal : Option Note) → AreQuiet w (actions_of (judge_read s p refusal) granted)
     read p (Some n) = (tt, tt)

@@ -1,7 +1,7 @@
 -- Lists of turns: who is met first, and who is dealt.
 use Rattle.std.proofs.Common.{◌≡◌, ℕ, ◌+◌, ◌<◌, ◌≤◌, ◌==◌, Bool, true, false, cond, ◌||◌, refl, sym, ◌∙◌, ap, inl, inr, List, [], ◌∷◌, ◌++◌, map, drop, length, zero, suc, Option, Some, None, arith}
 use Rattle.std.specs.List.{filter, find, list_any, position_or_len, cons_option, slice_get, IsDistinct, AllByRecursion}
-use Rattle.std.proofs.lemmas.Bool.{cases_Bool, false≢true, eqb-true, eqb-false, eq-eqb, ne_eqb}
+use Rattle.std.proofs.lemmas.Bool.{cases_Bool, false≢true, eqb-true, eqb-false, eq-eqb, ne_eqb, or_parts, or_from}
 use Rattle.std.proofs.lemmas.List.Elements.{recursion_from_All}
 use Rattle.std.proofs.lemmas.Map.Steps.{length-le_from_distinct_below}
 use Rattle.swim_rules.specs.declared.table.Row.{Row}
@@ -115,13 +115,14 @@ taken (y ∷ names) (suc n) x e = behind (y == x) (taken names n x e)
     behind true h = refl
     behind false h = h
 
-lacks : (n : ℕ) (deal : List ℕ) → list_any (λ m. n == m) deal ≡ false → AllByRecursion (λ m. (n == m) ≡ false) deal
-lacks n [] h = tt
-lacks n (m ∷ deal) h = at (n == m) refl h (λ k. lacks n deal k)
-  where
-    at : (b : Bool) → (n == m) ≡ b → (b || list_any (λ m. n == m) deal) ≡ false → (list_any (λ m. n == m) deal ≡ false → AllByRecursion (λ m. (n == m) ≡ false) deal) → ((n == m) ≡ false) × AllByRecursion (λ m. (n == m) ≡ false) deal
-    at true e k f = absurd (false≢true (sym k))
-    at false e k f = (e, f k)
+-- x is none of these
+pub none-any : (x : ℕ) (ys : List ℕ) → list_any (λ y. x == y) ys ≡ false → AllByRecursion (λ y. (x == y) ≡ false) ys
+none-any x [] h = tt
+none-any x (y ∷ ys) h = let parts = or_parts (x == y) (list_any (λ z. x == z) ys) h in (parts.0, none-any x ys parts.1)
+
+pub any-none : (x : ℕ) (ys : List ℕ) → AllByRecursion (λ y. (x == y) ≡ false) ys → list_any (λ y. x == y) ys ≡ false
+any-none x [] a = refl
+any-none x (y ∷ ys) a = or_from (x == y) (list_any (λ z. x == z) ys) a.0 (any-none x ys a.1)
 
 low : (deal : List ℕ) → AllByRecursion (λ n. n < 256) deal → (q : ℕ) → list_any (λ m. q == m) deal ≡ true → q < 256
 low [] a q h = absurd (false≢true h)
@@ -137,7 +138,7 @@ unfolding IsDistinct
 all-dealt deal d n l = elim (cases_Bool (list_any (λ m. n == m) deal)) [
   | inl t ↦ t
   | inr f ↦
-      let most : length (n ∷ deal) ≤ 256 = length-le_from_distinct_below (n ∷ deal) 256 (lacks n deal f, d.once) below in
+      let most : length (n ∷ deal) ≤ 256 = length-le_from_distinct_below (n ∷ deal) 256 (none-any n deal f, d.once) below in
       let many : length deal ≡ 256 = d.all in
       absurd (too_many (length deal) most many)
 ]

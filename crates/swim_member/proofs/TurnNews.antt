@@ -3,7 +3,7 @@ use Rattle.std.proofs.Common.{◌≡◌, ◌≢◌, ℕ, ◌+◌, ◌≤◌, ◌
 use Rattle.std.specs.List.{filter}
 use Rattle.std.proofs.lemmas.List.{map-append}
 use Rattle.swim_wire.specs.declared.datagram.Kind.{Kind}
-use Rattle.swim_wire.specs.declared.datagram.Kind.TheVariants.{Ping, PingReq, Ack, Join, Page}
+use Rattle.swim_wire.specs.declared.datagram.Kind.TheVariants.{Ping, Join}
 use Rattle.swim_rules.specs.Rows.{AreInOrder}
 use Rattle.swim_member.specs.declared.answer.Out.{Out}
 use Rattle.swim_member.specs.declared.event.Event.{Event}
@@ -14,7 +14,7 @@ use Rattle.swim_member.specs.declared.state.Phase.{Phase}
 use Rattle.swim_member.specs.declared.state.Phase.TheVariants.{Running, Left, Expelled}
 use Rattle.swim_member.specs.declared.tick.TheConstants.{LAST_TIME}
 use Rattle.swim_member.specs.Deals.{IsDeal}
-use Rattle.swim_member.specs.State.{State, Change, Heard, Forgot, Sent, NumberRaised, Became, Looked, Listed, Passed, Paged}
+use Rattle.swim_member.specs.State.{State, Change, Sent, Looked, Listed, Passed}
 use Rattle.swim_member.specs.Readings.{state}
 use Rattle.swim_member.specs.Member.{eligible, is_eligible_name}
 use Rattle.swim_member.specs.Probe.{is_at}
@@ -24,7 +24,7 @@ use Rattle.swim_member.specs.Looks.{lists_in, looks_in, is_ping, pinged_by, prob
 use Rattle.swim_member.specs.Judge.{judge_in}
 use Rattle.swim_member.specs.Events.{Action, Advance, Expire, Forget, Blame, Probe_next, Ask, perform, outs, each_from, actions, actions_of}
 use Rattle.swim_member.specs.Machinery.Steps.{apply_all, changes_from, step_news}
-use Rattle.swim_member.proofs.Actions.{outs-append, apply_all-append}
+use Rattle.swim_member.proofs.Actions.{outs-append, apply_all-append, after-news, news-append}
 use Rattle.swim_member.proofs.Logs.{filter-append, state-append}
 use Rattle.swim_member.proofs.Dealing.{distinct-dealt, distinct-names}
 use Rattle.swim_member.proofs.Showing.{Lacks, Turned, Pings, news-no, quiet-append, quiet-early, quiet-each, quiet-event, settled-other}
@@ -59,52 +59,22 @@ pings-append fs gs = ap pinged_by (outs-append fs gs) ∙ pinged-append (outs gs
 no-looks : (fs : List Change) → Lacks Turned fs → looks_in fs ≡ []
 no-looks [] a = refl
 no-looks (Looked names ∷ fs) a = absurd (a.0 refl)
-no-looks (Listed names ∷ fs) a = absurd (a.0 refl)
-no-looks (Passed n ∷ fs) a = absurd (a.0 refl)
-no-looks (Heard u ∷ fs) a = no-looks fs a.1
-no-looks (Forgot x ∷ fs) a = no-looks fs a.1
-no-looks (Paged updates ∷ fs) a = no-looks fs a.1
-no-looks (NumberRaised n ∷ fs) a = no-looks fs a.1
-no-looks (Became Expelled ∷ fs) a = no-looks fs a.1
-no-looks (Sent to p ∷ fs) a = no-looks fs a.1
-no-looks (_ ∷ fs) a = no-looks fs a
+no-looks (_ ∷ fs) a = no-looks fs a.1
 
 no-lists : (fs : List Change) → Lacks Turned fs → lists_in fs ≡ []
 no-lists [] a = refl
-no-lists (Looked names ∷ fs) a = absurd (a.0 refl)
 no-lists (Listed names ∷ fs) a = absurd (a.0 refl)
-no-lists (Passed n ∷ fs) a = absurd (a.0 refl)
-no-lists (Heard u ∷ fs) a = no-lists fs a.1
-no-lists (Forgot x ∷ fs) a = no-lists fs a.1
-no-lists (Paged updates ∷ fs) a = no-lists fs a.1
-no-lists (NumberRaised n ∷ fs) a = no-lists fs a.1
-no-lists (Became Expelled ∷ fs) a = no-lists fs a.1
-no-lists (Sent to p ∷ fs) a = no-lists fs a.1
-no-lists (_ ∷ fs) a = no-lists fs a
+no-lists (_ ∷ fs) a = no-lists fs a.1
 
 same-left : (fs : List Change) (s : State) → Lacks Turned fs → still_listed (apply_all fs s) ≡ still_listed s
 same-left [] s a = refl
 same-left (Looked names ∷ fs) s a = absurd (a.0 refl)
 same-left (Listed names ∷ fs) s a = absurd (a.0 refl)
 same-left (Passed n ∷ fs) s a = absurd (a.0 refl)
-same-left (Heard u ∷ fs) s a = same-left fs s a.1
-same-left (Forgot x ∷ fs) s a = same-left fs s a.1
-same-left (Paged updates ∷ fs) s a = same-left fs s a.1
-same-left (NumberRaised n ∷ fs) s a = same-left fs s a.1
-same-left (Became Expelled ∷ fs) s a = same-left fs s a.1
-same-left (Sent to p ∷ fs) s a = same-left fs s a.1
-same-left (_ ∷ fs) s a = same-left fs s a
+same-left (_ ∷ fs) s a = same-left fs s a.1
 
 no-pings : (fs : List Change) → Lacks Pings fs → pings fs ≡ []
 no-pings [] a = refl
-no-pings (Looked names ∷ fs) a = no-pings fs a.1
-no-pings (Listed names ∷ fs) a = no-pings fs a.1
-no-pings (Passed n ∷ fs) a = no-pings fs a.1
-no-pings (Heard u ∷ fs) a = no-pings fs a.1
-no-pings (Forgot x ∷ fs) a = no-pings fs a.1
-no-pings (Paged updates ∷ fs) a = no-pings fs a.1
-no-pings (NumberRaised n ∷ fs) a = no-pings fs a.1
-no-pings (Became Expelled ∷ fs) a = no-pings fs a.1
 no-pings (Sent to p ∷ fs) a =
     pinged-append (outs fs) (record { to = to; datagram = p } ∷ [])
     ∙ ap (λ xs. xs ++ pinged_by (record { to = to; datagram = p } ∷ [])) (no-pings fs a.1)
@@ -112,11 +82,8 @@ no-pings (Sent to p ∷ fs) a =
   where
     alone : (k : Kind) → p.kind ≡ k → pinged_by (record { to = to; datagram = p } ∷ []) ≡ []
     alone Ping e = absurd ((rw e at a.0) refl)
-    alone PingReq e = rw e refl
-    alone Ack e = rw e refl
-    alone Join e = rw e refl
-    alone Page e = rw e refl
-no-pings (_ ∷ fs) a = no-pings fs a
+    alone _ e = rw e refl
+no-pings (_ ∷ fs) a = no-pings fs a.1
 
 -- Turns
 
@@ -192,13 +159,7 @@ turn-after s early now a b few t =
     by_rows (Begins made names c d all e f g h) = Begins made names c d (λ n. all (few n)) e f g h
 
 changes-append : (s : State) (ms more : List Action) → changes_from s (ms ++ more) ≡ changes_from (apply_all (changes_from s ms) s) more ++ changes_from s ms
-changes-append s [] more = sym (append-nil (changes_from s more))
-changes-append s (m ∷ ms) more =
-    let done : List Change = perform s m in
-    let rest : List Change = changes_from (apply_all done s) ms in
-    ap (λ fs. fs ++ done) (changes-append (apply_all done s) ms more)
-    ∙ append_assoc (changes_from (apply_all rest (apply_all done s)) more) rest done
-    ∙ ap (λ (t : State). changes_from t more ++ (rest ++ done)) (sym (apply_all-append rest done s))
+changes-append s ms more = news-append s ms more ∙ ap (λ t. changes_from t more ++ changes_from s ms) (sym (after-news s ms))
 
 -- a tick that counts
 tick-turn : (base : State) (log : List Change) (n k : ℕ) (deal : List ℕ) → IsDeal deal → Turns (state base log) (changes_from (state base log) (Advance ∷ replicate n Expire ++ replicate k Forget ++ Blame ∷ Probe_next deal ∷ each_from 0 8 (λ j. Ask j)))

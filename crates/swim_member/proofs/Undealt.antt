@@ -1,8 +1,8 @@
 -- A tick that ends no period does the same, whatever it deals.
-use Rattle.std.proofs.Common.{◌≡◌, ℕ, zero, suc, ◌+◌, ◌%◌, ◌==◌, Bool, true, false, cond, refl, sym, ◌∙◌, ap, List, [], ◌∷◌, ◌++◌, replicate, append-nil, append_assoc, Option, Some, None}
+use Rattle.std.proofs.Common.{◌≡◌, ℕ, zero, suc, ◌+◌, ◌%◌, ◌==◌, Bool, true, false, cond, refl, sym, ◌∙◌, ap, List, [], ◌∷◌, ◌++◌, replicate, Option, Some, None}
 use Rattle.std.specs.List.{find}
 use Rattle.swim_rules.specs.declared.table.Heard.{Heard as Hearing}
-use Rattle.swim_rules.specs.declared.table.Heard.TheVariants.{Accepted, Kept, Unknown, Full}
+use Rattle.swim_rules.specs.declared.table.Heard.TheVariants.{Accepted}
 use Rattle.swim_rules.specs.declared.table.Row.{Row}
 use Rattle.swim_rules.specs.Rows.{answer_to, is_kind, is_due, row_of}
 use Rattle.swim_wire.specs.declared.update.Update.{Update}
@@ -24,7 +24,7 @@ use Rattle.swim_member.specs.Probe.{blame, suspect_target, suspect_of, is_at, en
 use Rattle.swim_member.specs.State.{State}
 use Rattle.swim_member.specs.Turn.{look}
 use Rattle.swim_member.specs.Machinery.Steps.{apply_all, changes_from, step_news, after}
-use Rattle.swim_member.proofs.Actions.{after-append, settings-apply_all, settings-after}
+use Rattle.swim_member.proofs.Actions.{after-append, settings-apply_all, settings-after, news-append}
 use Rattle.swim_member.proofs.Logs.{answer-step, state_of-snoc}
 
 -- Time goes on by nothing but its advance
@@ -45,9 +45,7 @@ time-forget s = by_row (find (is_due Confirm s.settings.forget s.time) s.rows)
 
 time-heard_with : (s : State) (h : Hearing) (u : Update) → (apply_all (heard_with h u) s).time ≡ s.time
 time-heard_with s Accepted u = refl
-time-heard_with s Kept u = refl
-time-heard_with s Unknown u = refl
-time-heard_with s Full u = refl
+time-heard_with s _ u = refl
 
 time-blame : (s : State) → (apply_all (perform s Blame) s).time ≡ s.time
 time-blame s = at (is_at s 0) s.probe
@@ -75,13 +73,6 @@ time-replicate m h (suc n) s = time-replicate m h n (apply_all (perform s m) s) 
 
 -- The deal is read where a period begins
 
-changes_from-append : (s : State) (fs gs : List Action) → changes_from s (fs ++ gs) ≡ changes_from (after s fs) gs ++ changes_from s fs
-changes_from-append s [] gs = sym (append-nil (changes_from s gs))
-changes_from-append s (m ∷ fs) gs =
-    let t = apply_all (perform s m) s in
-    ap (λ happened. happened ++ perform s m) (changes_from-append t fs gs)
-    ∙ append_assoc (changes_from (after t fs) gs) (changes_from t fs) (perform s m)
-
 unlooked : (s : State) (deal : List ℕ) → is_at s 0 ≡ false → perform s (Probe_next deal) ≡ []
 unlooked s deal within = ap (λ b. cond b (look s deal) []) within
 
@@ -90,9 +81,9 @@ alike : (s : State) (front asks : List Action) (a b : List ℕ) → is_at (apply
 alike s front asks a b within =
     let t = after s front in
     let u = apply_all (perform t Blame) t in
-    changes_from-append s front (Blame ∷ Probe_next a ∷ asks)
+    news-append s front (Blame ∷ Probe_next a ∷ asks)
     ∙ ap (λ happened. changes_from (apply_all happened u) asks ++ happened ++ perform t Blame ++ changes_from s front) (unlooked u a within ∙ sym (unlooked u b within))
-    ∙ sym (changes_from-append s front (Blame ∷ Probe_next b ∷ asks))
+    ∙ sym (news-append s front (Blame ∷ Probe_next b ∷ asks))
 
 -- what is done before a target is looked for
 abbrev front_of : ℕ → ℕ → List Action

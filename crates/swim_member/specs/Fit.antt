@@ -11,7 +11,7 @@ use Rattle.swim_rules.specs.declared.table.Row.{Row}
 use Rattle.swim_gossip.specs.declared.buffer.Waiting.{Waiting}
 use Rattle.swim_member.specs.declared.answer.Out.{Out}
 
--- the number of the update is at most NUMBER_MAX
+-- the number of the update is at most the greatest one
 abbrev pub is_low : Update → Bool
 is_low u = nat_le u.number NUMBER_MAX
 

@@ -22,7 +22,7 @@ use std::marker::Model;
 use std::{error, fmt};
 use swim_gossip::{Buffer, WAITING_MAX, Waiting};
 use swim_rules::{ROWS_MAX, Row, Table};
-use swim_wire::{Endpoint, NUMBER_MAX};
+use swim_wire::{Endpoint, NUMBER_MAX, copied};
 
 /// All that a member has, as plain data. Times are counts of ticks.
 #[derive(Drop)]
@@ -377,33 +377,6 @@ fn copy_rows(rows: &[Row]) -> ArrayVec<Row, ROWS_MAX>
     copy
 }
 
-fn copy_queue(queue: &[Waiting]) -> ArrayVec<Waiting, WAITING_MAX>
-    requires { length queue.now ≤ WAITING_MAX }
-    ensures { result.items ≡ queue.now }
-{
-    let mut copy = ArrayVec::new();
-    let _ = copy.try_extend_from_slice(queue);
-    copy
-}
-
-fn copy_relays(relays: &[Relay]) -> ArrayVec<Relay, RELAYS_MAX>
-    requires { length relays.now ≤ RELAYS_MAX }
-    ensures { result.items ≡ relays.now }
-{
-    let mut copy = ArrayVec::new();
-    let _ = copy.try_extend_from_slice(relays);
-    copy
-}
-
-fn copy_listed(listed: &[Endpoint]) -> ArrayVec<Endpoint, ROWS_MAX>
-    requires { length listed.now ≤ ROWS_MAX }
-    ensures { result.items ≡ listed.now }
-{
-    let mut copy = ArrayVec::new();
-    let _ = copy.try_extend_from_slice(listed);
-    copy
-}
-
 impl MemberState {
     /// The same once more. It takes no memory.
     pub fn copy(&self) -> MemberState
@@ -414,13 +387,13 @@ impl MemberState {
             number: self.number,
             phase: self.phase,
             time: self.time,
-            rows: copy_rows(self.rows.as_slice()),
-            queue: copy_queue(self.queue.as_slice()),
+            rows: copied(&self.rows),
+            queue: copied(&self.queue),
             seq: self.seq,
             probe: self.probe,
-            relays: copy_relays(self.relays.as_slice()),
+            relays: copied(&self.relays),
             joining: self.joining,
-            listed: copy_listed(self.listed.as_slice()),
+            listed: copied(&self.listed),
             place: self.place,
         }
     }
@@ -463,7 +436,7 @@ impl Member {
             queue: self.buffer.queue(),
             seq: self.seq,
             probe: self.probe,
-            relays: copy_relays(&self.relays),
+            relays: copied(&self.relays),
             joining: self.joining,
             listed: self.turn.list(),
             place: self.turn.place(),

@@ -14,7 +14,7 @@ use crate::member::{Member, has_eligible};
 use arrayvec::ArrayVec;
 use std::marker::Model;
 use swim_rules::{ROWS_MAX, Row, Table};
-use swim_wire::Endpoint;
+use swim_wire::{Endpoint, copied};
 
 /// The turn list, and how far the probing is in it.
 #[derive(Drop)]
@@ -106,9 +106,7 @@ impl Turn {
     pub(crate) fn list(&self) -> ArrayVec<Endpoint, ROWS_MAX>
         ensures { result.items ≡ self.now.listed }
     {
-        let mut copy = ArrayVec::new();
-        let _ = copy.try_extend_from_slice(&self.listed);
-        copy
+        copied(&self.listed)
     }
 
     /// How many of its members were probed or passed over.

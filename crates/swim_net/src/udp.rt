@@ -44,7 +44,7 @@ pub fn endpoint_of(from: SocketAddr) -> Option<Endpoint>
 }
 
 /// Datagrams that go out over UDP, one a send. A short send is a failure. It does not tell what it took: what a socket
-/// takes is not known here. To whom one was not sent, and why, is logged at level warn, once a minute.
+/// takes is not known here. To whom the system refused to send one, and why, is logged at level warn, once a minute.
 #[derive(Drop)]
 pub struct UdpLink<'a, C: Clock + Log> {
     socket: SendingSocket,

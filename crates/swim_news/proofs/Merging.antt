@@ -1,16 +1,14 @@
 -- Two lists of rows, merged member by member.
-use Rattle.std.proofs.Common.{◌≡◌, ℕ, ◌+◌, ◌<◌, ◌≤◌, List, [], ◌∷◌, ◌++◌, Option, Some, None, length, refl, ap, sym, subst, ◌∙◌, arith, append_assoc, true, false, rules}
+use Rattle.std.proofs.Common.{◌≡◌, ℕ, ◌+◌, ◌≤◌, List, [], ◌∷◌, ◌++◌, Option, Some, None, length, refl, ap, sym, subst, ◌∙◌, arith, append_assoc, true, false}
 use Rattle.std.specs.Ordering.{is_lt, nat_cmp}
 use Rattle.std.proofs.lemmas.List.{append-nil}
 use Rattle.std.proofs.lemmas.Map.Keys.{ge_from_not_lt}
+use Rattle.swim_news.proofs.Order.{lt_from_is_lt}
 use Rattle.swim_wire.specs.declared.update.Update.{Update}
 use Rattle.swim_news.specs.declared.change.Change.{Change}
 use Rattle.swim_news.specs.declared.change.Change.TheVariants.{New, Changed, Gone}
 use Rattle.swim_news.specs.News.{Became, Stays, Turns, old_of, new_of, change_of, who_of, IsOneMember, old_rows, new_rows, changes_in, AreFrom, AreInTurn, AreNews}
 use Rattle.swim_news.specs.Machinery.Merging.{listed, Takes}
-
-lt_from_is_lt : (a b : ℕ) → is_lt (nat_cmp a b) ≡ true → a < b
-lt_from_is_lt a b less = search (rules, less)
 
 pub takes_last : (old new : List Update) (r : Update) (older : List Update) → old ≡ r ∷ older → length new ≡ 0 → Takes old new (Some (Gone r)) older new
 takes_last old [] r older o n = record { fate = Turns (Gone r); one = tt; old_is = o; new_is = refl; change_is = refl; order = rw o (λ x p q. (p.0, p.1, tt)) }

@@ -42,7 +42,7 @@ last_below : (rows : List Update) (row last : Update) → AreFrom 0 (rows ++ row
 last_below [] row last all is = absurd cc
 last_below (r ∷ rows) row last all is = below_at 0 (length (r ∷ rows) - 1) (r ∷ rows) row last (omega arith) is all
 
-lt_from_is_lt : (a b : ℕ) → is_lt (nat_cmp a b) ≡ true → a < b
+pub lt_from_is_lt : (a b : ℕ) → is_lt (nat_cmp a b) ≡ true → a < b
 lt_from_is_lt a b less = search (rules, less)
 
 -- whether a row comes after the last

@@ -1,5 +1,5 @@
 -- Lemmas on entries, datagrams and outcomes, one after another.
-use Rattle.std.proofs.Common.{Result, Ok, Err, OnOk, ◌≡◌, ℕ, zero, suc, ◌+◌, ◌-◌, slice_index_or, ◌==◌, ◌<◌, ◌≤◌, take, slice_set, List, [], ◌∷◌, ◌++◌, length, refl, ap, sym, ◌∙◌, arith, append_assoc, append-nil, length-append, Option, inl, inr}
+use Rattle.std.proofs.Common.{◌≡◌, ℕ, zero, suc, ◌+◌, ◌-◌, slice_index_or, ◌==◌, ◌<◌, ◌≤◌, take, slice_set, List, [], ◌∷◌, ◌++◌, length, refl, ap, sym, ◌∙◌, arith, append_assoc, append-nil, length-append, Option, inl, inr}
 use Rattle.std.proofs.Math.Seq.{get_or-append_seam}
 use Rattle.std.proofs.lemmas.Bool.{cases_Bool}
 use Rattle.std.proofs.lemmas.List.Elements.{filter-append}
@@ -123,8 +123,3 @@ pub last-snoc : (xs : List Entry) (e d : Entry) → slice_index_or (xs ++ e ∷ 
 last-snoc xs e d =
     let end : length (xs ++ e ∷ []) - 1 ≡ length xs = let grown : length (xs ++ e ∷ []) ≡ length xs + 1 = length-append xs (e ∷ []) in omega arith in
     ap (λ i. slice_index_or (xs ++ e ∷ []) i d) end ∙ get_or-append_seam xs e [] d
-
--- what follows from a success
-pub on_ok : {T E : Type 0} (P Q : Type 0) (result : Result T E) → (P → Q) → OnOk result P → OnOk result Q
-on_ok P Q (Ok v) so p = so p
-on_ok P Q (Err e) so p = p

@@ -12,7 +12,7 @@ use Rattle.swim_member.specs.Judge.{wanted, HasDeal}
 use Rattle.swim_member.specs.Fit.{AreAll, own_numbers_in}
 use Rattle.swim_node.specs.declared.entry.Entry.{Entry}
 use Rattle.swim_node.specs.declared.entry.Save.{Save}
-use Rattle.swim_node.specs.declared.entry.Save.TheVariants.{Failed}
+use Rattle.swim_node.specs.declared.entry.Save.TheVariants.{Kept, Done, Failed}
 use Rattle.swim_node.specs.History.{Base, IsLegal, IsNext, AreNext, Saves, steps, granted_of, state_after, status_at, answer_in, taken_in, lost_in}
 use Rattle.swim_node.specs.Machinery.Entering.{Steps}
 use Rattle.swim_node.specs.Sending.{HasTexts}
@@ -33,9 +33,17 @@ pub legal-snoc : (base : Base) (xs : List Entry) (e : Entry) → IsLegal base xs
 legal-snoc base xs e h k room = record { each = next-snoc base [] xs e h.each k; within = omega (arith, room, length-append xs (e ∷ [])) }
 
 -- the own number stays within the ceiling
-number-low : (o : Option ℕ) (g n : ℕ) → n ≤ g → number_after o g n ≤ g
+pub number-low : (o : Option ℕ) (g n : ℕ) → n ≤ g → number_after o g n ≤ g
 number-low None g n h = h
 number-low (Some w) g n h = elim (cases_Bool (nat_le w g)) [ inl t ↦ rw t (leb-true w g t) | inr f ↦ rw f h ]
+
+-- a save leaves a ceiling that is at least the one before
+pub granted-grows : (o : Option ℕ) (g : ℕ) (save : Save) (granted : ℕ) → Saves o g save granted → g ≤ granted
+granted-grows None g Kept granted h = omega (arith, h)
+granted-grows None g _ granted h = absurd h
+granted-grows (Some w) g Kept granted h = let same = h.1 in omega arith
+granted-grows (Some w) g Done granted h = omega (arith, h.0, h.1)
+granted-grows (Some w) g Failed granted h = h.1
 
 -- a failed save leaves the own number
 pub number-failed : (o : Option ℕ) (low g n : ℕ) → Saves o low Failed g → number_after o g n ≡ n
@@ -137,7 +145,7 @@ greatest-at_least : (f : ℕ) (o : Option ℕ) (ns : List ℕ) → AreAtLeast f 
 greatest-at_least f o [] h k = h
 greatest-at_least f o (n ∷ ns) h k = greatest-at_least f (greater_of o n) ns (more-at_least f o n k.0) k.1
 
-greatest-one : (o : Option ℕ) → greatest_of (option_to_list o ++ []) ≡ o
+pub greatest-one : (o : Option ℕ) → greatest_of (option_to_list o ++ []) ≡ o
 greatest-one None = refl
 greatest-one (Some n) = refl
 

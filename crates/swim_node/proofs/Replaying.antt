@@ -6,6 +6,7 @@ use Rattle.std.proofs.lemmas.Bool.{ltb-false}
 use Rattle.std.proofs.lemmas.List.Elements.{All-nil}
 use Rattle.std.proofs.Math.Seq.{take-append_seam}
 use Rattle.std.proofs.lemmas.Map.Keys.{IsDistinct-tail}
+use Rattle.swim_node.proofs.Nodes.{greatest-one}
 use Rattle.swim_rules.specs.declared.table.TheConstants.{ROWS_MAX}
 use Rattle.swim_member.specs.declared.answer.Answer.{Answer}
 use Rattle.swim_member.specs.declared.event.Event.{Event}
@@ -22,7 +23,7 @@ use Rattle.swim_node.specs.declared.opening.TheConstants.{LIMIT_MAX}
 use Rattle.swim_node.specs.declared.replay.Cause.{Cause}
 use Rattle.swim_node.specs.History.{Base, AreNext, IsLegal, IsNext, Saves, answer_in, granted_of, lost_in, state_after, status_at, steps, taken_in}
 use Rattle.swim_node.specs.Node.{HasCaller, IsNode}
-use Rattle.swim_node.specs.Owns.{AreAtLeast, AreAtMost, greatest_of}
+use Rattle.swim_node.specs.Owns.{AreAtLeast, AreAtMost}
 use Rattle.swim_node.specs.Probing.{IsStart}
 use Rattle.swim_node.specs.Replaying.{IsTold, begin_fault, cause_of, is_above}
 use Rattle.swim_node.specs.Sending.{HasTexts}
@@ -43,10 +44,6 @@ least-any : (past : Option ℕ) → AreAtLeast 0 (option_to_list past ++ [])
 least-any None = tt {0}
 least-any (Some n) = (omega arith, tt {0})
 
-greatest-past : (past : Option ℕ) → greatest_of (option_to_list past ++ []) ≡ past
-greatest-past None = refl
-greatest-past (Some n) = refl
-
 -- a node whose era begins with this state, of a life of which nothing is asked
 pub node-begun : (s : State) (granted : ℕ) (past : Option ℕ) (limit : ℕ) → state_of s [] ≡ s → begin_fault (record { state = s; granted = granted; past = past; limit = limit }) ≡ None → IsDistinct (λ x y. x == y) s.listed → length s.rows ≤ ROWS_MAX → s.number ≤ granted → is_above granted past ≡ false → limit ≤ LIMIT_MAX → IsNode (record { state = s; granted = granted; past = past; limit = limit }) [] 0 s granted past
 node-begun s granted past limit reads begins once few low above short = record {
@@ -61,7 +58,7 @@ node-begun s granted past limit reads begins once few low above short = record {
   high = omega arith;
   covers = most-tested granted past above;
   begun = least-any past;
-  most = greatest-past past;
+  most = greatest-one past;
   texts = All-nil HasTexts;
   callers = All-nil HasCaller;
   short = short;

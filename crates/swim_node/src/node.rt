@@ -153,6 +153,18 @@ impl<D: Disk> Node<D> {
         self.journal.turns(caller)
     }
 
+    /// The tag of the next call of a caller, below 16: a call with it is in turn.
+    pub fn next_tag(&self, caller: u8) -> Tag
+        requires { caller < 16 }
+        ensures turn { IsTurn self.now.entries result }
+        ensures caller { result.caller ≡ caller }
+    {
+        Tag {
+            caller,
+            turn: self.turns(caller) + 1,
+        }
+    }
+
     /// The disk. Each content that a crash may leave there has a floor of at least each own number that was sent, and
     /// none of those is below the number with which this life began.
     pub fn disk(&self) -> &D
@@ -349,7 +361,7 @@ impl<D: Disk> Node<D> {
     }
 
     /// Whether a call may be entered: in turn, and while the era has room.
-    fn judge(&self, tag: Tag) -> Result<(), ApplyFault>
+    fn admit(&self, tag: Tag) -> Result<(), ApplyFault>
         requires { tag.caller < 16 }
         ensures ok { OnOk result (IsTurn self.now.entries tag
             × (length self.now.entries < self.now.base.limit)) }
@@ -409,7 +421,7 @@ impl<D: Disk> Node<D> {
             → LeavesAlone (IsBeside (target_in (D.state self.old.disk).content))
             (D.state self.old.disk) (D.state self.new.disk) }
     {
-        self.judge(tag)?;
+        self.admit(tag)?;
         if self.journal.reserve().is_err() {
             return Err(ApplyFault::NoMemory);
         }

@@ -17,7 +17,7 @@ ghost use Rattle.swim_node.specs.declared.entry.Save.{Save as Saved};
 
 use crate::base::Base;
 use crate::beginning::check_bounds;
-use crate::copies::{copy_event, copy_outcomes};
+use crate::copies::copy_event;
 use crate::counts::greatest_own;
 use crate::entering::Done;
 use crate::journal::Journal;
@@ -27,6 +27,7 @@ use arrayvec::ArrayVec;
 use std::alloc::Global;
 use std::marker::Model;
 use swim_member::{Answer, Event, Member, OUTS_MAX};
+use swim_wire::copied;
 
 /// Of an entry all that the member did not make.
 #[derive(Drop)]
@@ -50,7 +51,7 @@ impl Cause {
             tag: entry.tag,
             event: copy_event(&entry.event),
             granted: entry.granted,
-            outcomes: copy_outcomes(&entry.outcomes),
+            outcomes: copied(&entry.outcomes),
         }
     }
 }
@@ -211,7 +212,7 @@ impl Replay {
     }
 
     /// Whether a call may be entered: in turn, and while the era has room.
-    fn judge(&self, tag: Tag) -> Result<(), ApplyFault>
+    fn admit(&self, tag: Tag) -> Result<(), ApplyFault>
         requires { tag.caller < 16 }
         ensures ok { OnOk result (IsTurn self.now.entries tag
             × (length self.now.entries < self.now.base.limit)) }
@@ -250,7 +251,7 @@ impl Replay {
         ensures refused { IfErr result (λ fault.
             Refused self.old.base self.old.entries cause.tag fault) }
     {
-        self.judge(cause.tag)?;
+        self.admit(cause.tag)?;
         if self.journal.reserve().is_err() {
             return Err(ApplyFault::NoMemory);
         }

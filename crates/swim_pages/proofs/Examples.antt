@@ -19,8 +19,8 @@ use Rattle.swim_pages.specs.declared.answer.Content.TheVariants as content
 use Rattle.swim_pages.specs.declared.request.Method.TheVariants as method
 use Rattle.swim_pages.specs.declared.request.Path.{Path}
 use Rattle.swim_pages.specs.declared.request.Path.TheVariants as path
-use Rattle.swim_pages.specs.declared.request.Reading.{Reading}
-use Rattle.swim_pages.specs.declared.request.Reading.TheVariants.{Asked, Bad, TooLong}
+use Rattle.swim_pages.specs.declared.request.RequestReading.{RequestReading}
+use Rattle.swim_pages.specs.declared.request.RequestReading.TheVariants.{Asked, Bad, TooLong}
 
 -- a query is no part of the path, and a path is served as it is written
 queried : path_in (codes "/metrics?job=swim") ≡ codes "/metrics"
@@ -32,7 +32,7 @@ plain_path = refl
 got : IsMethod (codes "GET") method.Get
 got = refl
 
-abbrev get : Path → Reading
+abbrev get : Path → RequestReading
 get p = Asked (record { method = method.Get; path = Some p })
 
 -- a running member is healthy; one that left, or was expelled, or does not answer is not

@@ -6,7 +6,7 @@ use Rattle.swim_member.specs.Texts.{phase_word}
 use Rattle.swim_member.specs.declared.state.Phase.{Phase}
 use Rattle.swim_member.specs.declared.state.Phase.TheVariants.{Running}
 use Rattle.swim_node.specs.declared.entry.Status.{Status}
-use Rattle.swim_pages.specs.declared.answer.Answer.{Answer}
+use Rattle.swim_pages.specs.declared.answer.Response.{Response}
 use Rattle.swim_pages.specs.declared.answer.Code.{Code}
 use Rattle.swim_pages.specs.declared.answer.Code.TheVariants as code
 use Rattle.swim_pages.specs.declared.answer.Content.{Content}
@@ -15,9 +15,9 @@ use Rattle.swim_pages.specs.declared.request.Method.{Method}
 use Rattle.swim_pages.specs.declared.request.Method.TheVariants as method
 use Rattle.swim_pages.specs.declared.request.Path.{Path}
 use Rattle.swim_pages.specs.declared.request.Path.TheVariants as path
-use Rattle.swim_pages.specs.declared.request.Reading.{Reading}
-use Rattle.swim_pages.specs.declared.request.Reading.TheVariants.{More, Asked, Bad, TooLong}
-use Rattle.swim_pages.specs.declared.request.Request.{Request}
+use Rattle.swim_pages.specs.declared.request.RequestReading.{RequestReading}
+use Rattle.swim_pages.specs.declared.request.RequestReading.TheVariants.{More, Asked, Bad, TooLong}
+use Rattle.swim_pages.specs.declared.request.HttpRequest.{HttpRequest}
 use Rattle.swim_pages.specs.declared.seen.Seen.{Seen}
 use Rattle.swim_shell.specs.declared.about.About.{About}
 use Rattle.swim_pages.specs.Metrics.{metrics_text}
@@ -36,7 +36,7 @@ code_line code.NotAllowed = codes "405 Method Not Allowed"
 code_line code.TooLong = codes "431 Request Header Fields Too Large"
 code_line code.Unavailable = codes "503 Service Unavailable"
 
-abbrev pub answer_with : Code → Content → Answer
+abbrev pub answer_with : Code → Content → Response
 answer_with c t = record { code = c; content = t }
 
 -- a member is healthy exactly while it is running
@@ -45,7 +45,7 @@ health_code (Some Running) = code.Fine
 health_code _ = code.Unavailable
 
 -- what is served at each path
-abbrev pub served : Path → Option Phase → Answer
+abbrev pub served : Path → Option Phase → Response
 served path.Page _ = answer_with code.Fine content.Page
 served path.Metrics _ = answer_with code.Fine content.Metrics
 served path.Members None = answer_with code.Unavailable content.Code
@@ -53,16 +53,16 @@ served path.Members (Some _) = answer_with code.Fine content.Members
 served path.Health phase = answer_with (health_code phase) content.Phase
 
 -- a request is judged by its method, and then by its path
-abbrev pub judged : Method → Option Path → Option Phase → Answer
+abbrev pub judged : Method → Option Path → Option Phase → Response
 judged method.Other _ _ = answer_with code.NotAllowed content.Code
 judged _ None _ = answer_with code.NotFound content.Code
 judged _ (Some p) phase = served p phase
 
-abbrev pub answer_asked : Request → Option Phase → Answer
+abbrev pub answer_asked : HttpRequest → Option Phase → Response
 answer_asked asked phase = judged asked.method asked.path phase
 
 -- what came on a connection gets this answer
-abbrev pub answer_for : Reading → Option Phase → Answer
+abbrev pub answer_for : RequestReading → Option Phase → Response
 answer_for (Asked asked) phase = answer_asked asked phase
 answer_for TooLong _ = answer_with code.TooLong content.Code
 answer_for Bad _ = answer_with code.Bad content.Code
@@ -119,7 +119,7 @@ safety_text =
     ++ codes "form-action 'none'; frame-ancestors 'none'\r\n\r\n"
 
 -- the head of an answer whose body has so many bytes
-abbrev pub http_head : Answer → ℕ → List ℕ
+abbrev pub http_head : Response → ℕ → List ℕ
 http_head a size = code_head a.code ++ type_text a.content ++ size_text size ++ safety_text
 
 -- what the body of an answer says: of a page and of the rows nothing is said here
@@ -130,7 +130,7 @@ IsContent content.Members _ seen body = Unit {0}
 IsContent content.Phase _ seen body = body ≡ health_line seen
 IsContent content.Code code seen body = body ≡ code_line code ++ codes "\n"
 
-abbrev pub IsBody : Answer → Seen → List ℕ → Type 0
+abbrev pub IsBody : Response → Seen → List ℕ → Type 0
 IsBody a seen body = IsContent a.content a.code seen body
 
 -- a request for the head alone
@@ -138,18 +138,18 @@ abbrev pub is_head : Method → Bool
 is_head method.Head = true
 is_head _ = false
 
-abbrev pub wants_head : Reading → Bool
+abbrev pub wants_head : RequestReading → Bool
 wants_head (Asked asked) = is_head asked.method
 wants_head _ = false
 
 -- what is sent where the head alone may be wanted
-abbrev pub sent_text : Reading → Answer → List ℕ → List ℕ
+abbrev pub sent_text : RequestReading → Response → List ℕ → List ℕ
 sent_text reading a body =
     http_head a (length body) ++ (if wants_head reading then [] else body)
 
 -- what is sent where this came, as the member was seen: the head of the answer, and its body unless
 -- the head is wanted alone
-pub record IsResponse (reading : Reading) (seen : Seen) (text : List ℕ) : Type 0 where
+pub record IsResponse (reading : RequestReading) (seen : Seen) (text : List ℕ) : Type 0 where
   pub body : List ℕ
   pub says : IsBody (answer_for reading (phase_in seen.status)) seen body
   pub whole : text ≡ sent_text reading (answer_for reading (phase_in seen.status)) body

@@ -17,14 +17,14 @@ use Rattle.swim_pages.specs.Members.{flag, info_sample}
 use Rattle.swim_pages.specs.Metrics.{count_kind}
 use Rattle.swim_pages.specs.declared.group_metrics.Family.{Family}
 use Rattle.swim_pages.specs.declared.group_metrics.Family.TheVariants as family
-use Rattle.swim_pages.specs.declared.group.Group.{Group}
+use Rattle.swim_pages.specs.declared.group.SeenGroup.{SeenGroup}
 
 -- no member answers
 abbrev pub is_unanswered_by : Option Phase → Bool
 is_unanswered_by None = true
 is_unanswered_by (Some phase) = false
 
-abbrev pub is_unanswered : Group → Bool
+abbrev pub is_unanswered : SeenGroup → Bool
 is_unanswered g = is_unanswered_by (phase_in g.seen.status)
 
 -- a member answers that is in another phase than Running
@@ -33,16 +33,16 @@ is_other_by None = false
 is_other_by (Some Running) = false
 is_other_by (Some _) = true
 
-abbrev pub is_other : Group → Bool
+abbrev pub is_other : SeenGroup → Bool
 is_other g = is_other_by (phase_in g.seen.status)
 
 -- the phase of the group that was found, or else Running
-abbrev pub phase_found : Option Group → Option Phase
+abbrev pub phase_found : Option SeenGroup → Option Phase
 phase_found None = Some Running
 phase_found (Some g) = phase_in g.seen.status
 
 -- none where a group has no member that answers, else that of the first which is not Running
-abbrev pub phase_of_all : List Group → Option Phase
+abbrev pub phase_of_all : List SeenGroup → Option Phase
 phase_of_all groups =
     if list_any is_unanswered groups then None else phase_found (find is_other groups)
 
@@ -103,7 +103,7 @@ rows_told None _ group rows = []
 rows_told (Some s) true group rows = group_states group rows
 rows_told (Some s) false group rows = group_kinds group rows
 
-abbrev pub rows_of : Bool → Group → List ℕ
+abbrev pub rows_of : Bool → SeenGroup → List ℕ
 rows_of states g = rows_told g.seen.status states g.number g.seen.rows
 
 -- which member answers, where one does and tells that
@@ -111,7 +111,7 @@ abbrev pub info_told : Option Status → Option About → List ℕ
 info_told (Some s) (Some about) = info_sample about.who
 info_told _ _ = []
 
-abbrev pub info_of : Group → List ℕ
+abbrev pub info_of : SeenGroup → List ℕ
 info_of g = info_told g.seen.status g.seen.about
 
 -- whether it is alone
@@ -120,11 +120,11 @@ alone_told (Some s) (Some about) group =
     group_sample (codes "swim_alone") group (flag about.is_alone)
 alone_told _ _ group = []
 
-abbrev pub alone_of : Group → List ℕ
+abbrev pub alone_of : SeenGroup → List ℕ
 alone_of g = alone_told g.seen.status g.seen.about g.number
 
 -- what a metric says of a group
-abbrev pub family_sample : Family → Group → List ℕ
+abbrev pub family_sample : Family → SeenGroup → List ℕ
 family_sample family.Up g = group_sample (codes "swim_up") g.number (is_up g.seen.status)
 family_sample family.Quiet g = group_sample (codes "swim_quiet_seconds") g.number g.seen.quiet
 family_sample family.Kinds g = rows_of false g
@@ -133,12 +133,12 @@ family_sample family.Info g = info_of g
 family_sample family.Alone g = alone_of g
 
 -- a metric of all groups
-abbrev pub family_text : Family → List Group → List ℕ
+abbrev pub family_text : Family → List SeenGroup → List ℕ
 family_text f groups =
     gauge_head (family_name f) (family_help f) ++ flat_map (family_sample f) groups
 
 -- all numbers of several groups
-abbrev pub directory_text : List Group → List ℕ
+abbrev pub directory_text : List SeenGroup → List ℕ
 directory_text groups =
     family_text family.Up groups ++ (family_text family.Quiet groups
     ++ (family_text family.Kinds groups ++ (family_text family.States groups

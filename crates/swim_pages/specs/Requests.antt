@@ -9,9 +9,9 @@ use Rattle.swim_pages.specs.declared.request.Method.{Method}
 use Rattle.swim_pages.specs.declared.request.Method.TheVariants as method
 use Rattle.swim_pages.specs.declared.request.Path.{Path}
 use Rattle.swim_pages.specs.declared.request.Path.TheVariants as path
-use Rattle.swim_pages.specs.declared.request.Reading.{Reading}
-use Rattle.swim_pages.specs.declared.request.Reading.TheVariants.{More, Asked, Bad, TooLong}
-use Rattle.swim_pages.specs.declared.request.Request.{Request}
+use Rattle.swim_pages.specs.declared.request.RequestReading.{RequestReading}
+use Rattle.swim_pages.specs.declared.request.RequestReading.TheVariants.{More, Asked, Bad, TooLong}
+use Rattle.swim_pages.specs.declared.request.HttpRequest.{HttpRequest}
 use Rattle.swim_pages.specs.declared.request.TheConstants.{FIELDS_MAX, HEAD_MAX}
 
 -- the name is this method's
@@ -55,7 +55,7 @@ IsPathOf target path =
     ⊎ (¬ IsAbsolute (path_in target) × (path ≡ path_in target))
 
 -- what the head asks for
-pub record AsksFor (h : RequestHead) (asked : Request) : Type 0 where
+pub record AsksFor (h : RequestHead) (asked : HttpRequest) : Type 0 where
   pub method : IsMethod h.method asked.method
   pub text : List ℕ
   pub of_target : IsPathOf h.target text
@@ -63,7 +63,7 @@ pub record AsksFor (h : RequestHead) (asked : Request) : Type 0 where
 
 -- what the bytes that came say: the head of a request is at their front, or more of one is to come,
 -- or none can come, or it is too long or has too many fields
-abbrev pub IsReading : List ℕ → Reading → Type 0
+abbrev pub IsReading : List ℕ → RequestReading → Type 0
 IsReading bytes (Asked asked) =
     (h : RequestHead) × (rest : List ℕ) × ReadsRequest bytes h rest × AsksFor h asked
 IsReading bytes More =

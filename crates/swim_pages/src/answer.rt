@@ -3,7 +3,7 @@
 ghost use Rattle.std.specs.Prelude.{◌≡◌};
 ghost use Rattle.swim_pages.specs.Answers.{answer_for, answer_asked, code_line, health_code, served};
 
-use crate::request::{Method, Path, Reading, Request};
+use crate::request::{HttpRequest, Method, Path, RequestReading};
 use swim_member::Phase;
 
 /// The code of an answer.
@@ -56,7 +56,7 @@ pub enum Content {
 
 /// An answer.
 #[derive(Clone, Copy, Debug, PartialEq, Eq)]
-pub struct Answer {
+pub struct Response {
     /// Its code.
     pub code: Code,
     /// What it has in its body.
@@ -74,35 +74,35 @@ fn health_code(phase: Option<Phase>) -> Code
 }
 
 /// An answer that says its code alone.
-fn plain(code: Code) -> Answer
+fn plain(code: Code) -> Response
     ensures code { result.code ≡ code }
     ensures content { result.content ≡ Content.Code }
 {
-    Answer {
+    Response {
         code,
         content: Content::Code,
     }
 }
 
 /// The answer to what a path is asked for.
-fn served(path: Path, phase: Option<Phase>) -> Answer
+fn served(path: Path, phase: Option<Phase>) -> Response
     ensures { result ≡ served path phase }
 {
     match path {
-        Path::Page => Answer {
+        Path::Page => Response {
             code: Code::Fine,
             content: Content::Page,
         },
-        Path::Metrics => Answer {
+        Path::Metrics => Response {
             code: Code::Fine,
             content: Content::Metrics,
         },
-        Path::Members if phase.is_some() => Answer {
+        Path::Members if phase.is_some() => Response {
             code: Code::Fine,
             content: Content::Members,
         },
         Path::Members => plain(Code::Unavailable),
-        Path::Health => Answer {
+        Path::Health => Response {
             code: health_code(phase),
             content: Content::Phase,
         },
@@ -110,7 +110,7 @@ fn served(path: Path, phase: Option<Phase>) -> Answer
 }
 
 /// The answer to a request, by the member's phase; none where the member does not answer.
-fn asked(request: Request, phase: Option<Phase>) -> Answer
+fn asked(request: HttpRequest, phase: Option<Phase>) -> Response
     ensures { result ≡ answer_asked request phase }
 {
     if request.method == Method::Other {
@@ -124,12 +124,12 @@ fn asked(request: Request, phase: Option<Phase>) -> Answer
 
 /// The answer to what came on a connection, by the member's phase, which is none where the member does not answer. What has not
 /// come whole when its time is over is no request.
-pub fn answer_for(reading: Reading, phase: Option<Phase>) -> Answer
+pub fn answer_for(reading: RequestReading, phase: Option<Phase>) -> Response
     ensures { result ≡ answer_for reading phase }
 {
     match reading {
-        Reading::Asked(request) => asked(request, phase),
-        Reading::TooLong => plain(Code::TooLong),
-        Reading::Bad | Reading::More => plain(Code::Bad),
+        RequestReading::Asked(request) => asked(request, phase),
+        RequestReading::TooLong => plain(Code::TooLong),
+        RequestReading::Bad | RequestReading::More => plain(Code::Bad),
     }
 }

@@ -3,17 +3,17 @@
 ghost use Rattle.std.specs.Prelude.{◌≡◌, ◌++◌, OnOk, IfOk, flat_map};
 ghost use Rattle.swim_pages.specs.Directory.{IsBodyOfAll, IsDirectory, group_health};
 
-use crate::answer::{Answer, Content, answer_for};
+use crate::answer::{Content, Response, answer_for};
 use crate::directory_page::{write_directory_page, write_directory_rows};
-use crate::group::{Group, phase_of_all};
+use crate::group::{SeenGroup, phase_of_all};
 use crate::group_metrics::write_group_metrics;
-use crate::request::Reading;
+use crate::request::RequestReading;
 use crate::writing::{sent, write_code, write_phase};
 use std::alloc::{AllocError, Global};
 use std::fmt::Write;
 
 /// Adds a group's number and what is said of the health of its member.
-fn write_health(text: &mut String, group: &Group) -> Result<(), AllocError>
+fn write_health(text: &mut String, group: &SeenGroup) -> Result<(), AllocError>
     ensures { OnOk result (text.new.bytes.items
         ≡ text.old.bytes.items ++ group_health group.now) }
 {
@@ -23,7 +23,7 @@ fn write_health(text: &mut String, group: &Group) -> Result<(), AllocError>
 }
 
 /// Adds the same of all groups.
-fn write_all_health(text: &mut String, groups: &[Group]) -> Result<(), AllocError>
+fn write_all_health(text: &mut String, groups: &[SeenGroup]) -> Result<(), AllocError>
     ensures { OnOk result (text.new.bytes.items
         ≡ text.old.bytes.items ++ flat_map group_health groups.now) }
 {
@@ -34,7 +34,7 @@ fn write_all_health(text: &mut String, groups: &[Group]) -> Result<(), AllocErro
 }
 
 /// The body of an answer.
-fn body_of_all(alloc: Global, answer: Answer, groups: &[Group]) -> Result<String, AllocError>
+fn body_of_all(alloc: Global, answer: Response, groups: &[SeenGroup]) -> Result<String, AllocError>
     ensures { IfOk result (λ body. IsBodyOfAll answer groups.now body.bytes.items) }
 {
     let mut body = String::new(alloc);
@@ -51,8 +51,8 @@ fn body_of_all(alloc: Global, answer: Answer, groups: &[Group]) -> Result<String
 /// What is sent on a connection on which this came, as the groups were seen: their numbers, rows and health together.
 pub fn directory_response(
     alloc: Global,
-    reading: Reading,
-    groups: &[Group],
+    reading: RequestReading,
+    groups: &[SeenGroup],
 ) -> Result<String, AllocError>
     ensures { IfOk result (λ text. IsDirectory reading groups.now text.bytes.items) }
 {

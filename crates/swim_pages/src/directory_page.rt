@@ -1,6 +1,6 @@
 //! Several groups as a page, and all their rows.
 
-use crate::group::Group;
+use crate::group::SeenGroup;
 use crate::metrics::count_kind;
 use crate::page::{HEAD, STYLE, TAIL, remark};
 use std::alloc::AllocError;
@@ -9,7 +9,7 @@ use swim_news::state_name;
 use swim_wire::{Update, UpdateKind};
 
 /// How many rows of this kind the groups have that answer.
-fn count_in_all(kind: UpdateKind, groups: &[Group]) -> usize {
+fn count_in_all(kind: UpdateKind, groups: &[SeenGroup]) -> usize {
     let mut all: usize = 0;
     for group in groups {
         if group.seen.status.is_some() {
@@ -20,7 +20,7 @@ fn count_in_all(kind: UpdateKind, groups: &[Group]) -> usize {
 }
 
 /// Adds what the page is about: how many groups, and how many members are alive of those that are known.
-fn write_title(text: &mut String, groups: &[Group]) -> Result<(), AllocError> {
+fn write_title(text: &mut String, groups: &[SeenGroup]) -> Result<(), AllocError> {
     let count = groups.len();
     let alive = count_in_all(UpdateKind::Alive, groups);
     let suspected = count_in_all(UpdateKind::Suspect, groups);
@@ -30,7 +30,7 @@ fn write_title(text: &mut String, groups: &[Group]) -> Result<(), AllocError> {
 }
 
 /// Adds the row of a group.
-fn write_group(text: &mut String, group: &Group) -> Result<(), AllocError> {
+fn write_group(text: &mut String, group: &SeenGroup) -> Result<(), AllocError> {
     let (number, quiet, rows) = (group.number, group.seen.quiet, group.seen.rows.as_slice());
     let Some(status) = group.seen.status else {
         return write!(
@@ -53,7 +53,7 @@ fn write_group(text: &mut String, group: &Group) -> Result<(), AllocError> {
 }
 
 /// Adds the table of groups.
-fn write_groups(text: &mut String, groups: &[Group]) -> Result<(), AllocError> {
+fn write_groups(text: &mut String, groups: &[SeenGroup]) -> Result<(), AllocError> {
     text.push_str(
         "<table>\n<caption>Groups</caption>\n<thead><tr><th scope=\"col\">Group</th><th scope=\"col\">Says</th><th scope=\"col\" class=\"number\">Alive</th><th scope=\"col\" class=\"number\">Suspect</th><th scope=\"col\" class=\"number\">Failed</th><th scope=\"col\" class=\"number\">Last change</th></tr></thead>\n<tbody>\n",
     )?;
@@ -64,7 +64,7 @@ fn write_groups(text: &mut String, groups: &[Group]) -> Result<(), AllocError> {
 }
 
 /// Adds the row of a member of a group.
-fn write_member(text: &mut String, group: &Group, row: &Update) -> Result<(), AllocError> {
+fn write_member(text: &mut String, group: &SeenGroup, row: &Update) -> Result<(), AllocError> {
     let (who, state, number) = (row.who, state_name(row.kind), row.number);
     let (of, remark) = (group.number, remark(group.seen.leavers.as_slice(), who));
     write!(
@@ -74,7 +74,7 @@ fn write_member(text: &mut String, group: &Group, row: &Update) -> Result<(), Al
 }
 
 /// Adds the members of a group that are not alive.
-fn write_others(text: &mut String, group: &Group) -> Result<(), AllocError> {
+fn write_others(text: &mut String, group: &SeenGroup) -> Result<(), AllocError> {
     for row in group.seen.rows.as_slice() {
         if row.kind != UpdateKind::Alive {
             write_member(text, group, row)?;
@@ -84,7 +84,7 @@ fn write_others(text: &mut String, group: &Group) -> Result<(), AllocError> {
 }
 
 /// Adds the table of all members that are not alive.
-fn write_all_others(text: &mut String, groups: &[Group]) -> Result<(), AllocError> {
+fn write_all_others(text: &mut String, groups: &[SeenGroup]) -> Result<(), AllocError> {
     text.push_str(
         "<table>\n<caption>Members that are not alive</caption>\n<thead><tr><th scope=\"col\">Group</th><th scope=\"col\">Member</th><th scope=\"col\">State</th><th scope=\"col\" class=\"number\">Incarnation</th></tr></thead>\n<tbody>\n",
     )?;
@@ -95,7 +95,10 @@ fn write_all_others(text: &mut String, groups: &[Group]) -> Result<(), AllocErro
 }
 
 /// Adds the whole page.
-pub(crate) fn write_directory_page(text: &mut String, groups: &[Group]) -> Result<(), AllocError> {
+pub(crate) fn write_directory_page(
+    text: &mut String,
+    groups: &[SeenGroup],
+) -> Result<(), AllocError> {
     text.push_str(HEAD)?;
     write_title(text, groups)?;
     text.push_str(STYLE)?;
@@ -107,7 +110,7 @@ pub(crate) fn write_directory_page(text: &mut String, groups: &[Group]) -> Resul
 }
 
 /// Adds the rows of a group as JSON, an object a line, each with the number of its group.
-fn write_rows(text: &mut String, group: &Group) -> Result<(), AllocError> {
+fn write_rows(text: &mut String, group: &SeenGroup) -> Result<(), AllocError> {
     let of = group.number;
     for row in group.seen.rows.as_slice() {
         let (who, kind, number) = (row.who, row.kind.name(), row.number);
@@ -120,7 +123,10 @@ fn write_rows(text: &mut String, group: &Group) -> Result<(), AllocError> {
 }
 
 /// Adds the rows of all groups.
-pub(crate) fn write_directory_rows(text: &mut String, groups: &[Group]) -> Result<(), AllocError> {
+pub(crate) fn write_directory_rows(
+    text: &mut String,
+    groups: &[SeenGroup],
+) -> Result<(), AllocError> {
     for group in groups {
         write_rows(text, group)?;
     }

@@ -9,7 +9,7 @@ use swim_member::Phase;
 
 /// A group, and what was read of one of its members.
 #[derive(Drop)]
-pub struct Group {
+pub struct SeenGroup {
     /// Its number.
     pub number: u64,
     /// What was read of the member.
@@ -17,7 +17,7 @@ pub struct Group {
 }
 
 /// Whether no member of the group answers.
-fn is_unanswered(group: &Group) -> bool
+fn is_unanswered(group: &SeenGroup) -> bool
     ensures { result ≡ is_unanswered group.now }
 {
     match group.seen.phase() {
@@ -27,7 +27,7 @@ fn is_unanswered(group: &Group) -> bool
 }
 
 /// Whether a member of the group answers, and is in another phase than Running.
-fn is_other(group: &Group) -> bool
+fn is_other(group: &SeenGroup) -> bool
     ensures { result ≡ is_other group.now }
 {
     match group.seen.phase() {
@@ -37,21 +37,21 @@ fn is_other(group: &Group) -> bool
 }
 
 /// Whether a group has no member that answers.
-fn has_unanswered(groups: &[Group]) -> bool
+fn has_unanswered(groups: &[SeenGroup]) -> bool
     ensures { result ≡ list_any is_unanswered groups.now }
 {
     groups.iter().any(|group| is_unanswered(group))
 }
 
 /// The first group whose member is in another phase than Running.
-fn first_other(groups: &[Group]) -> Option<&Group>
+fn first_other(groups: &[SeenGroup]) -> Option<&SeenGroup>
     ensures { option_map (λ group. group.now) result ≡ find is_other groups.now }
 {
     groups.iter().find(|group| is_other(group))
 }
 
 /// None where a group has no member that answers. Else the phase of the first member that is in another one than Running, or Running.
-pub(crate) fn phase_of_all(groups: &[Group]) -> Option<Phase>
+pub(crate) fn phase_of_all(groups: &[SeenGroup]) -> Option<Phase>
     ensures { result ≡ phase_of_all groups.now }
 {
     if has_unanswered(groups) {

@@ -4,7 +4,7 @@ ghost use Rattle.std.specs.Prelude.{◌≡◌, ◌++◌, OnOk, flat_map};
 ghost use Rattle.swim_pages.specs.Groups.{alone_of, directory_text, family_help, family_name, family_sample, family_text, group_count, group_kind, group_kinds, group_sample, group_state, group_states, info_of, rows_of};
 
 use crate::gauges::write_head;
-use crate::group::Group;
+use crate::group::SeenGroup;
 use crate::members::write_labels;
 use crate::metrics::count_kind;
 use std::alloc::AllocError;
@@ -128,7 +128,7 @@ fn write_states(text: &mut String, group: u64, rows: &[Update]) -> Result<(), Al
 }
 
 /// Adds which member of a group answers, where one does and tells that.
-fn write_info(text: &mut String, group: &Group) -> Result<(), AllocError>
+fn write_info(text: &mut String, group: &SeenGroup) -> Result<(), AllocError>
     ensures { OnOk result (text.new.bytes.items ≡ text.old.bytes.items ++ info_of group.now) }
 {
     match (&group.seen.status, &group.seen.about) {
@@ -138,7 +138,7 @@ fn write_info(text: &mut String, group: &Group) -> Result<(), AllocError>
 }
 
 /// Adds whether that member is alone, where it tells that.
-fn write_alone(text: &mut String, group: &Group) -> Result<(), AllocError>
+fn write_alone(text: &mut String, group: &SeenGroup) -> Result<(), AllocError>
     ensures { OnOk result (text.new.bytes.items ≡ text.old.bytes.items ++ alone_of group.now) }
 {
     match (&group.seen.status, &group.seen.about) {
@@ -151,7 +151,7 @@ fn write_alone(text: &mut String, group: &Group) -> Result<(), AllocError>
 }
 
 /// Adds what a metric of rows says of a group, of which a member answers.
-fn write_rows(text: &mut String, group: &Group, has_states: bool) -> Result<(), AllocError>
+fn write_rows(text: &mut String, group: &SeenGroup, has_states: bool) -> Result<(), AllocError>
     ensures { OnOk result (text.new.bytes.items
         ≡ text.old.bytes.items ++ rows_of has_states group.now) }
 {
@@ -167,7 +167,7 @@ fn write_rows(text: &mut String, group: &Group, has_states: bool) -> Result<(), 
 }
 
 /// Adds what a metric says of a group.
-fn write_sample(text: &mut String, family: Family, group: &Group) -> Result<(), AllocError>
+fn write_sample(text: &mut String, family: Family, group: &SeenGroup) -> Result<(), AllocError>
     ensures { OnOk result (text.new.bytes.items
         ≡ text.old.bytes.items ++ family_sample family group.now) }
 {
@@ -185,7 +185,7 @@ fn write_sample(text: &mut String, family: Family, group: &Group) -> Result<(), 
 }
 
 /// Adds what a metric says of each group.
-fn write_samples(text: &mut String, family: Family, groups: &[Group]) -> Result<(), AllocError>
+fn write_samples(text: &mut String, family: Family, groups: &[SeenGroup]) -> Result<(), AllocError>
     ensures { OnOk result (text.new.bytes.items
         ≡ text.old.bytes.items ++ flat_map (family_sample family) groups.now) }
 {
@@ -196,7 +196,7 @@ fn write_samples(text: &mut String, family: Family, groups: &[Group]) -> Result<
 }
 
 /// Adds a metric of all groups.
-fn write_family(text: &mut String, family: Family, groups: &[Group]) -> Result<(), AllocError>
+fn write_family(text: &mut String, family: Family, groups: &[SeenGroup]) -> Result<(), AllocError>
     ensures { OnOk result (text.new.bytes.items
         ≡ text.old.bytes.items ++ family_text family groups.now) }
 {
@@ -205,7 +205,7 @@ fn write_family(text: &mut String, family: Family, groups: &[Group]) -> Result<(
 }
 
 /// Adds the numbers of several groups, as Prometheus reads them.
-pub(crate) fn write_group_metrics(text: &mut String, groups: &[Group]) -> Result<(), AllocError>
+pub(crate) fn write_group_metrics(text: &mut String, groups: &[SeenGroup]) -> Result<(), AllocError>
     ensures { OnOk result (text.new.bytes.items
         ≡ text.old.bytes.items ++ directory_text groups.now) }
 {

@@ -18,10 +18,10 @@ mod rows;
 mod seen;
 mod writing;
 
-pub use answer::{Answer, Code, Content, answer_for};
+pub use answer::{Code, Content, Response, answer_for};
 pub use directory::directory_response;
-pub use group::Group;
+pub use group::SeenGroup;
 pub use metrics::write_metrics;
-pub use request::{FIELDS_MAX, HEAD_MAX, Method, Path, Reading, Request, read_request};
+pub use request::{FIELDS_MAX, HEAD_MAX, HttpRequest, Method, Path, RequestReading, read_request};
 pub use seen::{Members, Seen};
 pub use writing::response;

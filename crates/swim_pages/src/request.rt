@@ -117,7 +117,7 @@ fn path_of(target: &[u8]) -> &[u8]
 
 /// A request.
 #[derive(Clone, Copy, Debug, PartialEq, Eq)]
-pub struct Request {
+pub struct HttpRequest {
     /// What it is to do.
     pub method: Method,
     /// What it asks for; none where nothing is served there.
@@ -126,11 +126,11 @@ pub struct Request {
 
 /// What the bytes that came on a connection say.
 #[derive(Clone, Copy, Debug, PartialEq, Eq)]
-pub enum Reading {
+pub enum RequestReading {
     /// A head that has not ended.
     More,
     /// A request. What follows its head is not looked at.
-    Asked(Request),
+    Asked(HttpRequest),
     /// No request, whatever follows.
     Bad,
     /// A head of `HEAD_MAX` bytes that has not ended, or one of more than `FIELDS_MAX` fields.
@@ -138,23 +138,23 @@ pub enum Reading {
 }
 
 /// What the bytes say that came so far.
-pub fn read_request(bytes: &[u8]) -> Reading
+pub fn read_request(bytes: &[u8]) -> RequestReading
     ensures { IsReading bytes.now result }
 {
     let mut fields = [EMPTY_HEADER_SPAN; FIELDS_MAX];
     match parse_request(bytes, &mut fields) {
-        Ok(Status::Complete(head)) => Reading::Asked(Request {
+        Ok(Status::Complete(head)) => RequestReading::Asked(HttpRequest {
             method: Method::of(head.method.of(bytes)),
             path: Path::of(path_of(head.path.of(bytes))),
         }),
         Ok(Status::Partial) => {
             if bytes.len() < HEAD_MAX {
-                Reading::More
+                RequestReading::More
             } else {
-                Reading::TooLong
+                RequestReading::TooLong
             }
         }
-        Err(Error::TooManyHeaders) => Reading::TooLong,
-        Err(_) => Reading::Bad,
+        Err(Error::TooManyHeaders) => RequestReading::TooLong,
+        Err(_) => RequestReading::Bad,
     }
 }

@@ -3,10 +3,10 @@
 ghost use Rattle.std.specs.Prelude.{◌≡◌, ◌++◌, ◌∷◌, [], OnOk, IfOk};
 ghost use Rattle.swim_pages.specs.Answers.{IsBody, IsResponse, allow_text, alone_words, health_line, code_line, content_type, http_head, code_head, phase_in, safety_text, sent_text, size_text, type_text, wants_head};
 
-use crate::answer::{Answer, Code, Content, answer_for};
+use crate::answer::{Code, Content, Response, answer_for};
 use crate::metrics::write_metrics;
 use crate::page::write_page;
-use crate::request::{Method, Reading, Request};
+use crate::request::{HttpRequest, Method, RequestReading};
 use crate::rows::write_members;
 use crate::seen::Seen;
 use std::alloc::{AllocError, Global};
@@ -74,7 +74,7 @@ fn write_safety(text: &mut String) -> Result<(), AllocError>
 }
 
 /// Adds the head of an answer whose body has so many bytes.
-fn write_head(text: &mut String, answer: Answer, size: usize) -> Result<(), AllocError>
+fn write_head(text: &mut String, answer: Response, size: usize) -> Result<(), AllocError>
     ensures { OnOk result (text.new.bytes.items
         ≡ text.old.bytes.items ++ http_head answer size) }
 {
@@ -115,7 +115,7 @@ pub(crate) fn write_code(text: &mut String, code: Code) -> Result<(), AllocError
 }
 
 /// The body of an answer.
-fn body_of(alloc: Global, answer: Answer, seen: &Seen) -> Result<String, AllocError>
+fn body_of(alloc: Global, answer: Response, seen: &Seen) -> Result<String, AllocError>
     ensures { IfOk result (λ body. IsBody answer seen.now body.bytes.items) }
 {
     let mut body = String::new(alloc);
@@ -130,12 +130,12 @@ fn body_of(alloc: Global, answer: Answer, seen: &Seen) -> Result<String, AllocEr
 }
 
 /// Whether the head of the answer is wanted alone.
-fn wants_head(reading: Reading) -> bool
+fn wants_head(reading: RequestReading) -> bool
     ensures { result ≡ wants_head reading }
 {
     matches!(
         reading,
-        Reading::Asked(Request {
+        RequestReading::Asked(HttpRequest {
             method: Method::Head,
             ..
         })
@@ -145,8 +145,8 @@ fn wants_head(reading: Reading) -> bool
 /// An answer with this body, or its head alone where that is wanted.
 pub(crate) fn sent(
     alloc: Global,
-    reading: Reading,
-    answer: Answer,
+    reading: RequestReading,
+    answer: Response,
     body: &str,
 ) -> Result<String, AllocError>
     ensures { IfOk result (λ text. text.bytes.items ≡ sent_text reading answer body.now) }
@@ -160,7 +160,7 @@ pub(crate) fn sent(
 }
 
 /// What is sent on a connection on which this came, as the member was seen.
-pub fn response(alloc: Global, reading: Reading, seen: &Seen) -> Result<String, AllocError>
+pub fn response(alloc: Global, reading: RequestReading, seen: &Seen) -> Result<String, AllocError>
     ensures { IfOk result (λ text. IsResponse reading seen.now text.bytes.items) }
 {
     let answer = answer_for(reading, seen.phase());

@@ -310,7 +310,7 @@ fn run(alloc: Global, commands: Vec<Command>) -> Result<Transcript, AllocError>
 /// era begins afresh, and each next one with what the one before left. The lives of each run were lived by one owner on
 /// one disk, one after another, and every own number of a later one is above every own number of an earlier one; between
 /// them an opening is refused only by its settings or limit, a failed call of the disk, or for want of a number. Err: the
-/// first fault of the first faulty line, and nothing has run; or 5 NoMemory with line 0, where memory ran out.
+/// first fault of the first faulty line, and nothing has run; or `5 NoMemory` with line 0, where memory ran out.
 pub fn play(alloc: Global, script: &[u8]) -> Result<Transcript, ScriptFault>
     ensures played { IfOk result (λ transcript. (commands : List Commands)
         × IsScript script.now commands

@@ -118,24 +118,14 @@ back-begun phase.Expelled n t s pl g (Some m) = refl
 
 back-line : (l : Line) → back (head_in l) (arguments_of l) ≡ Some l
 unfolding back back_member back_times back_rowalive back_rowsuspect back_rowconfirm back_sayalive back_saysuspect back_sayconfirm back_probe back_answered back_relay back_joining back_listed back_caller back_granted back_lost
-back-line (line.Member g me la r) = refl
-back-line (line.Times times) = refl
 back-line (line.Row Alive x n t) = refl
 back-line (line.Row Suspect x n t) = refl
 back-line (line.Row Confirm x n t) = refl
 back-line (line.Say Alive x n t) = refl
 back-line (line.Say Suspect x n t) = refl
 back-line (line.Say Confirm x n t) = refl
-back-line (line.Probe x s) = refl
-back-line (line.Answered x s) = refl
-back-line (line.Relay x s y r t) = refl
-back-line (line.Joining x s) = refl
-back-line (line.JoiningAfter x s y) = refl
-back-line (line.Listed x) = refl
 back-line (line.Begin start) = back-begun start.phase start.number start.time start.seq start.place start.granted start.past
-back-line (line.Caller n) = refl
-back-line (line.Granted n) = refl
-back-line (line.Lost n) = refl
+back-line _ = refl
 
 -- a text says one line
 pub same_line : (text : List ℕ) (l m : Line) → Says text l → Says text m → l ≡ m

@@ -1,16 +1,15 @@
 -- Where lines end.
-use Rattle.std.proofs.Common.{◌≡◌, ℕ, ◌/◌, ◌%◌, ◌^◌, ◌<◌, Bool, true, false, cond, List, [], ◌∷◌, ◌++◌, inl, inr, refl, sym, ap, ◌∙◌, arith, append_assoc, length, length-append, Some, zero, suc}
+use Rattle.std.proofs.Common.{◌≡◌, ℕ, ◌/◌, ◌%◌, ◌^◌, ◌<◌, Bool, true, false, cond, List, [], ◌∷◌, ◌++◌, inl, inr, refl, sym, ap, ◌∙◌, arith, append_assoc, Some, zero, suc}
 use Rattle.std.specs.Prelude.{◌≢◌, ◌==◌, ◌||◌, All, codes, slice_index}
 use Rattle.std.specs.Str.{bytes_eq}
 use Rattle.std.specs.Fmt.{decimal}
 use Rattle.std.proofs.lemmas.List.Elements.{All-append, All-cons, All-head, All-nil, All-tail}
 use Rattle.hex.specs.Hex.{IsBytes, encode_lower, encode_with, hex_digit_value, lower_digits}
 use Rattle.hex.proofs.HexLemmas.{IsDigits-lower_digits}
-use Rattle.swim_wire.specs.Numbers.{IsEndpoint}
 use Rattle.swim_words.specs.Words.{Lacks, No, endpoint_text, split_by}
 use Rattle.swim_words.proofs.Digits.{lacks_decimal}
-use Rattle.swim_words.proofs.Endpoints.{from_fourth, from_second, from_third, port_text}
-use Rattle.swim_words.proofs.Splits.{differs, lacks_byte, lacks_split, no_split, same_split}
+use Rattle.swim_words.proofs.Endpoints.{endpoint_apart}
+use Rattle.swim_words.proofs.Splits.{differs, lacks_byte, no_split, same_split}
 use Rattle.swim_member.specs.Deals.{IsDeal}
 use Rattle.swim_member.specs.declared.event.Event.{Event}
 use Rattle.swim_member.specs.declared.event.Event.TheVariants as event
@@ -36,17 +35,9 @@ use Rattle.swim_record.proofs.Writing.{lines-append}
 number-ends : (n : ℕ) → n < 2 ^ 64 → Lacks 10 (decimal n)
 number-ends n fits = lacks_decimal 10 n fits (inl (omega arith))
 
-endpoint-ends : (e : ℕ) → IsEndpoint e → Lacks 10 (endpoint_text e)
-endpoint-ends e is =
-    let bound = is.six_bytes in
-    lacks_split 10 46 (decimal (e / 65536 / 16777216)) (from_second e) (λ same. omega arith) (number-ends (e / 65536 / 16777216) (omega arith))
-    (lacks_split 10 46 (decimal (e / 65536 / 65536 % 256)) (from_third e) (λ same. omega arith) (number-ends (e / 65536 / 65536 % 256) (omega arith))
-    (lacks_split 10 46 (decimal (e / 65536 / 256 % 256)) (from_fourth e) (λ same. omega arith) (number-ends (e / 65536 / 256 % 256) (omega arith))
-    (lacks_split 10 58 (decimal (e / 65536 % 256)) (port_text e) (λ same. omega arith) (number-ends (e / 65536 % 256) (omega arith)) (number-ends (e % 65536) (omega arith)))))
-
 argument-ends : (a : Argument) → IsArgument a → Lacks 10 (argument_text a)
 argument-ends (Number n) is = number-ends n is
-argument-ends (Who e) is = endpoint-ends e is
+argument-ends (Who e) is = endpoint_apart 10 e (omega arith) is
 
 pub arguments-ends : (args : List Argument) → All IsArgument args → Lacks 10 (arguments_text args)
 arguments-ends [] are = All-nil (differs 10)
@@ -55,25 +46,8 @@ arguments-ends (a ∷ args) are =
     (All-append (differs 10) (argument_text a) (arguments_text args) (argument-ends a (All-head IsArgument a args are)) (arguments-ends args (All-tail IsArgument a args are)))
 
 head-ends : (h : Head) → Lacks 10 (head_word h)
-head-ends head.Member = lacks_byte 10 (codes "member") refl
-head-ends head.Times = lacks_byte 10 (codes "times") refl
-head-ends head.RowAlive = lacks_byte 10 (codes "alive") refl
-head-ends head.RowSuspect = lacks_byte 10 (codes "suspect") refl
-head-ends head.RowConfirm = lacks_byte 10 (codes "confirm") refl
-head-ends head.SayAlive = lacks_byte 10 (codes "+alive") refl
-head-ends head.SaySuspect = lacks_byte 10 (codes "+suspect") refl
-head-ends head.SayConfirm = lacks_byte 10 (codes "+confirm") refl
-head-ends head.Probe = lacks_byte 10 (codes "probe") refl
-head-ends head.Answered = lacks_byte 10 (codes "answered") refl
-head-ends head.Relay = lacks_byte 10 (codes "relay") refl
-head-ends head.Joining = lacks_byte 10 (codes "joining") refl
-head-ends head.Listed = lacks_byte 10 (codes "listed") refl
-head-ends head.Running = lacks_byte 10 (codes "running") refl
-head-ends head.Left = lacks_byte 10 (codes "left") refl
-head-ends head.Expelled = lacks_byte 10 (codes "expelled") refl
-head-ends head.Caller = lacks_byte 10 (codes "caller") refl
-head-ends head.Granted = lacks_byte 10 (codes "granted") refl
-head-ends head.Lost = lacks_byte 10 (codes "lost") refl
+head-ends head.Member = lacks_byte 10 (head_word head.Member) refl
+head-ends h = lacks_byte 10 (head_word h) refl
 
 pub line_ends : (l : Line) → IsFit l → Lacks 10 (line_text l)
 line_ends l fit = All-append (differs 10) (head_word (head_in l)) (arguments_text (arguments_of l)) (head-ends (head_in l)) (arguments-ends (arguments_of l) fit)
@@ -105,13 +79,8 @@ bytes-ends [] are = lacks_byte 10 (codes "-") refl
 bytes-ends (b ∷ bytes) are = hex-ends (b ∷ bytes) are
 
 word-ends : (k : EventWord) → Lacks 10 (event_word k)
-word-ends word.Deal = lacks_byte 10 (codes "deal") refl
-word-ends word.Received = lacks_byte 10 (codes "recv") refl
-word-ends word.ReceiveFailed = lacks_byte 10 (codes "recvfail") refl
-word-ends word.SendFailed = lacks_byte 10 (codes "sendfail") refl
-word-ends word.Join = lacks_byte 10 (codes "join") refl
-word-ends word.Leave = lacks_byte 10 (codes "leave") refl
-word-ends word.Members = lacks_byte 10 (codes "members") refl
+word-ends word.Deal = lacks_byte 10 (event_word word.Deal) refl
+word-ends k = lacks_byte 10 (event_word k) refl
 
 spaced-ends : (text : List ℕ) → Lacks 10 text → Lacks 10 (32 ∷ text)
 spaced-ends text lacks = All-cons (differs 10) 32 text (λ same. omega arith) lacks
@@ -120,17 +89,17 @@ after-ends : (e : Event) → IsEvent e → Lacks 10 (words_after e)
 after-ends (event.Tick deal) is = spaced-ends (encode_lower deal) (hex-ends deal (deal_bytes deal is))
 after-ends (event.Datagram from bytes) is =
     spaced-ends (endpoint_text from ++ 32 ∷ bytes_text bytes.items)
-    (All-append (differs 10) (endpoint_text from) (32 ∷ bytes_text bytes.items) (endpoint-ends from is.0) (spaced-ends (bytes_text bytes.items) (bytes-ends bytes.items is.1)))
+    (All-append (differs 10) (endpoint_text from) (32 ∷ bytes_text bytes.items) (endpoint_apart 10 from (omega arith) is.0) (spaced-ends (bytes_text bytes.items) (bytes-ends bytes.items is.1)))
 after-ends event.ReceiveFailed is = All-nil (differs 10)
 after-ends (event.SendFailed count) is = spaced-ends (decimal count) (number-ends count (omega (arith, is)))
-after-ends (event.Join peer) is = spaced-ends (endpoint_text peer) (endpoint-ends peer is)
+after-ends (event.Join peer) is = spaced-ends (endpoint_text peer) (endpoint_apart 10 peer (omega arith) is)
 after-ends event.Leave is = All-nil (differs 10)
 after-ends (event.Members after) (inl none) = rw none (All-nil (differs 10))
 after-ends (event.Members after) (inr is) = at (after == 0)
   where
     at : (b : Bool) → Lacks 10 (cond b [] (32 ∷ endpoint_text after))
     at true = All-nil (differs 10)
-    at false = spaced-ends (endpoint_text after) (endpoint-ends after is)
+    at false = spaced-ends (endpoint_text after) (endpoint_apart 10 after (omega arith) is)
 
 pub event_ends : (e : Event) → IsEvent e → Lacks 10 (event_words e)
 event_ends e is = rw event_parts (All-append (differs 10) (event_word (word_of e)) (words_after e) (word-ends (word_of e)) (after-ends e is))
@@ -145,34 +114,12 @@ is_word text =
 is-word : (k : EventWord) → is_word (event_word k) ≡ true
 unfolding is_word
 is-word word.Deal = refl
-is-word word.Received = refl
-is-word word.ReceiveFailed = refl
-is-word word.SendFailed = refl
-is-word word.Join = refl
-is-word word.Leave = refl
-is-word word.Members = refl
+is-word _ = refl
 
 no-word : (h : Head) → is_word (head_word h) ≡ false
 unfolding is_word
 no-word head.Member = refl
-no-word head.Times = refl
-no-word head.RowAlive = refl
-no-word head.RowSuspect = refl
-no-word head.RowConfirm = refl
-no-word head.SayAlive = refl
-no-word head.SaySuspect = refl
-no-word head.SayConfirm = refl
-no-word head.Probe = refl
-no-word head.Answered = refl
-no-word head.Relay = refl
-no-word head.Joining = refl
-no-word head.Listed = refl
-no-word head.Running = refl
-no-word head.Left = refl
-no-word head.Expelled = refl
-no-word head.Caller = refl
-no-word head.Granted = refl
-no-word head.Lost = refl
+no-word _ = refl
 
 pub event_alone : (e : Event) (after : List ℕ) → IsEvent e → HasNoLine (event_words e ++ 10 ∷ after)
 event_alone e after is l rest starts =
@@ -218,9 +165,6 @@ lines_more text rest after lines l read starts =
     ∙ ap (λ (t : List ℕ). lines_text lines ++ t) (starts.0 ∙ sym (append_assoc (line_text l) (10 ∷ []) after))
     ∙ sym (append_assoc (lines_text lines) (line_text l ++ 10 ∷ []) after)
     ∙ ap (λ (t : List ℕ). t ++ after) (sym (lines-append lines (l ∷ [])))
-
-pub rest_shorter : (rest after : List ℕ) (l : Line) → StartsWith rest l after → length after < length rest
-rest_shorter rest after l starts = omega (arith, ap length starts.0, length-append (line_text l) (10 ∷ after))
 
 pub fit_more : (lines : List Line) (l : Line) → AreFit lines → IsFit l → AreFit (lines ++ l ∷ [])
 fit_more lines l fit one = All-append IsFit lines (l ∷ []) fit (All-cons IsFit l [] one (All-nil IsFit))

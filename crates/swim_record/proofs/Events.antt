@@ -1,7 +1,6 @@
 -- Event lines, read back.
 use Rattle.std.proofs.Common.{◌≡◌, ℕ, ◌^◌, ◌<◌, ◌≤◌, ◌⊎◌, Bool, true, false, cond, List, [], ◌∷◌, ◌++◌, inl, inr, refl, sym, ap, subst, ◌∙◌, arith, append_assoc, length, Option, Some, None, Result, Ok, Err}
-use Rattle.std.specs.Prelude.{◌==◌, IfNone, IfSome, IsSomeAnd, MatchResult, SomeIff, codes, if◌then◌else◌}
-use Rattle.std.specs.Str.{bytes_eq}
+use Rattle.std.specs.Prelude.{◌==◌, IfNone, IfSome, IsSomeAnd, MatchResult, SomeIff, codes}
 use Rattle.std.specs.Fmt.{decimal}
 use Rattle.std.proofs.lemmas.Fmt.{decimal_injective}
 use Rattle.std.proofs.lemmas.Bool.{eq-eqb, eqb-true}
@@ -41,13 +40,9 @@ datagram-parts : (from bytes : List ℕ) → codes "recv " ++ from ++ codes " " 
 datagram-parts from bytes = first-space ((from ++ codes " ") ++ bytes) ∙ ap (λ (t : List ℕ). codes "recv" ++ 32 ∷ t) (append_assoc from (codes " ") bytes ∙ ap (λ (t : List ℕ). from ++ t) (space-before bytes))
 
 pub event_parts : (e : Event) → event_words e ≡ event_word (word_of e) ++ words_after e
-event_parts (event.Tick deal) = refl
 event_parts (event.Datagram from bytes) = datagram-parts (endpoint_text from) (bytes_text bytes.items)
-event_parts event.ReceiveFailed = refl
-event_parts (event.SendFailed count) = refl
-event_parts (event.Join peer) = refl
-event_parts event.Leave = refl
 event_parts (event.Members after) = members-parts (after == 0) (endpoint_text after)
+event_parts _ = refl
 
 cut-members : (b : Bool) (text : List ℕ) → IsCutOff (cond b [] (32 ∷ text))
 cut-members true text = inl refl
@@ -63,41 +58,13 @@ cut_words event.Leave = inl refl
 cut_words (event.Members after) = cut-members (after == 0) (endpoint_text after)
 
 pub word_lacks : (k : EventWord) → Lacks 32 (event_word k)
-word_lacks word.Deal = lacks_byte 32 (codes "deal") refl
-word_lacks word.Received = lacks_byte 32 (codes "recv") refl
-word_lacks word.ReceiveFailed = lacks_byte 32 (codes "recvfail") refl
-word_lacks word.SendFailed = lacks_byte 32 (codes "sendfail") refl
-word_lacks word.Join = lacks_byte 32 (codes "join") refl
-word_lacks word.Leave = lacks_byte 32 (codes "leave") refl
-word_lacks word.Members = lacks_byte 32 (codes "members") refl
-
--- the word of a word's text
-abbrev named : List ℕ → EventWord
-named text =
-    if bytes_eq text (codes "deal") then word.Deal else
-    if bytes_eq text (codes "recv") then word.Received else
-    if bytes_eq text (codes "recvfail") then word.ReceiveFailed else
-    if bytes_eq text (codes "sendfail") then word.SendFailed else
-    if bytes_eq text (codes "join") then word.Join else
-    if bytes_eq text (codes "leave") then word.Leave else
-    word.Members
-
-named-text : (k : EventWord) → named (event_word k) ≡ k
-named-text word.Deal = refl
-named-text word.Received = refl
-named-text word.ReceiveFailed = refl
-named-text word.SendFailed = refl
-named-text word.Join = refl
-named-text word.Leave = refl
-named-text word.Members = refl
+word_lacks word.Deal = lacks_byte 32 (event_word word.Deal) refl
+word_lacks k = lacks_byte 32 (event_word k) refl
 
 -- a text that is cut at its first space is the line of an event whose first word stands before it
 pub event_split : (text first rest : List ℕ) (e : Event) → text ≡ first ++ rest → Lacks 32 first → IsCutOff rest → text ≡ event_words e → (first ≡ event_word (word_of e)) × (rest ≡ words_after e)
 event_split text first rest e parts lacks cut says =
     same_word first rest (event_word (word_of e)) (words_after e) lacks (word_lacks (word_of e)) cut (cut_words e) (sym parts ∙ says ∙ event_parts e)
-
-pub same_event_word : (h k : EventWord) → event_word h ≡ event_word k → h ≡ k
-same_event_word h k same = sym (named-text h) ∙ ap named same ∙ named-text k
 
 -- Arguments
 
@@ -143,17 +110,7 @@ pub record Received (e : Event) (text : List ℕ) : Type 0 where
 
 pub received : (e : Event) (text : List ℕ) → IsEvent e → word_of e ≡ word.Received → text ≡ words_after e → Received e text
 received (event.Datagram from bytes) text fits begins says = record { from = from; bytes = bytes; is = refl; endpoint = fits.0; are = fits.1; few = fits.2; says = says }
-received (event.Tick deal) text fits begins says = absurd (cc)
-received event.ReceiveFailed text fits begins says = absurd (cc)
-received (event.SendFailed count) text fits begins says = absurd (cc)
-received (event.Join peer) text fits begins says = absurd (cc)
-received event.Leave text fits begins says = absurd (cc)
-received (event.Members after) text fits begins says = absurd (cc)
-
-pub datagram_is : (e : Event) (from : ℕ) (bytes : ArrayVec ℕ) (text : List ℕ) (r : Received e text) → from ≡ r.from → bytes.items ≡ r.bytes.items → event.Datagram from bytes ≡ e
-datagram_is e from bytes text r same items =
-    let whole : bytes ≡ r.bytes = ap (λ (l : List ℕ). record { items = l }) items in
-    ap (λ (f : ℕ). event.Datagram f bytes) same ∙ ap (λ (b : ArrayVec ℕ). event.Datagram r.from b) whole ∙ sym r.is
+received _ text fits begins says = absurd (cc)
 
 -- The next members
 
@@ -169,12 +126,7 @@ asked-by after text false is (inl none) says = absurd (let same : true ≡ false
 
 pub asked : (e : Event) (text : List ℕ) → IsEvent e → word_of e ≡ word.Members → text ≡ words_after e → Asked e text
 asked (event.Members after) text fits begins says = record { after = after; is = refl; says = asked-by after text (after == 0) refl fits says }
-asked (event.Datagram from bytes) text fits begins says = absurd (cc)
-asked (event.Tick deal) text fits begins says = absurd (cc)
-asked event.ReceiveFailed text fits begins says = absurd (cc)
-asked (event.SendFailed count) text fits begins says = absurd (cc)
-asked (event.Join peer) text fits begins says = absurd (cc)
-asked event.Leave text fits begins says = absurd (cc)
+asked _ text fits begins says = absurd (cc)
 
 -- What a tick deals
 
@@ -192,9 +144,4 @@ refused fault.Unknown P is = absurd (cc)
 
 pub join_is : (e : Event) (text : List ℕ) (peer : ℕ) → IsEvent e → word_of e ≡ word.Join → text ≡ words_after e → ((who : ℕ) → IsEndpoint who → text ≡ 32 ∷ endpoint_text who → peer ≡ who) → event.Join peer ≡ e
 join_is (event.Join who) text peer fits begins says read = ap (λ (n : ℕ). event.Join n) (read who fits says)
-join_is (event.Datagram from bytes) text peer fits begins says read = absurd (cc)
-join_is (event.Tick deal) text peer fits begins says read = absurd (cc)
-join_is event.ReceiveFailed text peer fits begins says read = absurd (cc)
-join_is (event.SendFailed count) text peer fits begins says read = absurd (cc)
-join_is event.Leave text peer fits begins says read = absurd (cc)
-join_is (event.Members after) text peer fits begins says read = absurd (cc)
+join_is _ text peer fits begins says read = absurd (cc)

@@ -1,26 +1,17 @@
--- Each head is in the table.
-use Rattle.std.proofs.Common.{Contains, refl, lit<}
+-- Each head is in the table, and has a word of its own.
+use Rattle.std.proofs.Common.{◌≡◌, Contains, Some, refl}
+use Rattle.swim_words.proofs.Tables.{named_in, in_table, same_value}
 use Rattle.swim_record.specs.declared.head.Head.{Head}
 use Rattle.swim_record.specs.declared.head.Head.TheVariants as head
 use Rattle.swim_record.specs.declared.head.TheConstants.Head.{ALL}
+use Rattle.swim_record.specs.Text.{head_word}
+
+heads : (h : Head) → named_in head_word ALL (head_word h) ≡ Some h
+heads head.Member = refl
+heads _ = refl
 
 pub all_heads : (h : Head) → Contains ALL h
-all_heads head.Member = (0, lit< tt, refl)
-all_heads head.Times = (1, lit< tt, refl)
-all_heads head.RowAlive = (2, lit< tt, refl)
-all_heads head.RowSuspect = (3, lit< tt, refl)
-all_heads head.RowConfirm = (4, lit< tt, refl)
-all_heads head.SayAlive = (5, lit< tt, refl)
-all_heads head.SaySuspect = (6, lit< tt, refl)
-all_heads head.SayConfirm = (7, lit< tt, refl)
-all_heads head.Probe = (8, lit< tt, refl)
-all_heads head.Answered = (9, lit< tt, refl)
-all_heads head.Relay = (10, lit< tt, refl)
-all_heads head.Joining = (11, lit< tt, refl)
-all_heads head.Listed = (12, lit< tt, refl)
-all_heads head.Running = (13, lit< tt, refl)
-all_heads head.Left = (14, lit< tt, refl)
-all_heads head.Expelled = (15, lit< tt, refl)
-all_heads head.Caller = (16, lit< tt, refl)
-all_heads head.Granted = (17, lit< tt, refl)
-all_heads head.Lost = (18, lit< tt, refl)
+all_heads h = in_table head_word ALL (head_word h) h (heads h)
+
+pub same_head : (h k : Head) → head_word h ≡ head_word k → h ≡ k
+same_head h k same = same_value head_word ALL heads h k same

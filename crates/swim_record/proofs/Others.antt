@@ -17,20 +17,9 @@ five-seven a b c d e a' b' c' d' e' f' g' None is = absurd (cc)
 five-seven a b c d e a' b' c' d' e' f' g' (Some n) is = absurd (cc)
 
 pub not_timed : (h : Head) (l : Line) (t : Times) → (h ≡ head.Times → ⊥) → head_in l ≡ h → arguments_of l ≡ arguments_of (line.Times t) → ⊥
-not_timed h (line.Member group me lambda rules) t other begins is = absurd (cc)
-not_timed h (line.Row kind who number since) t other begins is = absurd (cc)
-not_timed h (line.Say kind who number count) t other begins is = absurd (cc)
-not_timed h (line.Probe target seq) t other begins is = absurd (cc)
-not_timed h (line.Answered target seq) t other begins is = absurd (cc)
-not_timed h (line.Relay target seq asker asked made) t other begins is = absurd (cc)
-not_timed h (line.Joining peer seq) t other begins is = absurd (cc)
-not_timed h (line.JoiningAfter peer seq after) t other begins is = absurd (cc)
-not_timed h (line.Listed who) t other begins is = absurd (cc)
-not_timed h (line.Caller caller) t other begins is = absurd (cc)
-not_timed h (line.Granted ceiling) t other begins is = absurd (cc)
-not_timed h (line.Lost place) t other begins is = absurd (cc)
 not_timed h (line.Times times) t other begins is = other (sym begins)
 not_timed h (line.Begin start) t other begins is = five-seven start.number start.time start.seq start.place start.granted t.period t.direct t.suspect t.forget t.helpers t.block t.limit start.past is
+not_timed h _ t other begins is = absurd (cc)
 
 -- the head of a beginning is that of a phase
 by_phase : (h : Head) (p : Phase) → (h ≡ head.Running → ⊥) → (h ≡ head.Left → ⊥) → (h ≡ head.Expelled → ⊥) → phase_head p ≡ h → ⊥
@@ -39,17 +28,6 @@ by_phase h phase.Left running left expelled is = left (sym is)
 by_phase h phase.Expelled running left expelled is = expelled (sym is)
 
 pub not_begun : (h : Head) (l : Line) (s : Start) → (h ≡ head.Running → ⊥) → (h ≡ head.Left → ⊥) → (h ≡ head.Expelled → ⊥) → head_in l ≡ h → arguments_of l ≡ arguments_of (line.Begin s) → ⊥
-not_begun h (line.Member group me lambda rules) s running left expelled begins is = absurd (cc)
-not_begun h (line.Row kind who number since) s running left expelled begins is = absurd (cc)
-not_begun h (line.Say kind who number count) s running left expelled begins is = absurd (cc)
-not_begun h (line.Probe target seq) s running left expelled begins is = absurd (cc)
-not_begun h (line.Answered target seq) s running left expelled begins is = absurd (cc)
-not_begun h (line.Relay target seq asker asked made) s running left expelled begins is = absurd (cc)
-not_begun h (line.Joining peer seq) s running left expelled begins is = absurd (cc)
-not_begun h (line.JoiningAfter peer seq after) s running left expelled begins is = absurd (cc)
-not_begun h (line.Listed who) s running left expelled begins is = absurd (cc)
-not_begun h (line.Caller caller) s running left expelled begins is = absurd (cc)
-not_begun h (line.Granted ceiling) s running left expelled begins is = absurd (cc)
-not_begun h (line.Lost place) s running left expelled begins is = absurd (cc)
 not_begun h (line.Times t) s running left expelled begins is = five-seven s.number s.time s.seq s.place s.granted t.period t.direct t.suspect t.forget t.helpers t.block t.limit s.past (sym is)
 not_begun h (line.Begin start) s running left expelled begins is = by_phase h start.phase running left expelled begins
+not_begun h _ s running left expelled begins is = absurd (cc)

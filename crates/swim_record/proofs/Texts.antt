@@ -1,15 +1,14 @@
 -- What is written is read in one way.
-use Rattle.std.proofs.Common.{◌≡◌, ℕ, ◌/◌, ◌%◌, ◌^◌, ◌<◌, ◌≤◌, ◌⊎◌, List, [], ◌∷◌, ◌++◌, inl, inr, refl, sym, ap, ◌∙◌, arith, append_assoc, append-nil, length, length-append, Option, Some, None}
-use Rattle.std.specs.Prelude.{◌≢◌, All, IfNone, codes, if◌then◌else◌}
-use Rattle.std.specs.Str.{bytes_eq}
+use Rattle.std.proofs.Common.{◌≡◌, ℕ, ◌/◌, ◌≤◌, ◌⊎◌, List, [], ◌∷◌, ◌++◌, inl, inr, refl, sym, ap, ◌∙◌, arith, append_assoc, append-nil, length, length-append, Option, Some, None}
+use Rattle.std.specs.Prelude.{◌≢◌, All}
 use Rattle.std.specs.Fmt.{decimal}
 use Rattle.std.proofs.lemmas.Fmt.{decimal_injective}
 use Rattle.std.proofs.lemmas.List.Elements.{All-append, All-cons, All-head, All-nil, All-tail}
-use Rattle.swim_wire.specs.Numbers.{IsEndpoint}
-use Rattle.swim_words.specs.Words.{No, Lacks, endpoint_text, split_by}
+use Rattle.swim_record.proofs.Heads.{same_head}
+use Rattle.swim_words.specs.Words.{No, Lacks}
 use Rattle.swim_words.proofs.Digits.{lacks_decimal}
-use Rattle.swim_words.proofs.Endpoints.{endpoint_lacks, from_fourth, from_second, from_third, port_text}
-use Rattle.swim_words.proofs.Splits.{differs, lacks_byte, no_split, same_split}
+use Rattle.swim_words.proofs.Endpoints.{endpoint_lacks, from_second, same_endpoint}
+use Rattle.swim_words.proofs.Splits.{differs, lacks_byte, no_split}
 use Rattle.swim_record.specs.declared.argument.Argument.{Argument}
 use Rattle.swim_record.specs.declared.argument.Argument.TheVariants.{Number, Who}
 use Rattle.swim_record.specs.declared.head.Head.{Head}
@@ -46,25 +45,6 @@ argument_lacks (Number n) is = lacks_decimal 32 n is (inl (omega arith))
 argument_lacks (Who e) is = endpoint_lacks e is
 
 -- An endpoint's text is that of no other, and of no number
-
-parted : (byte n m : ℕ) (rest after : List ℕ) → (byte < 48) ⊎ (57 < byte) → n < 2 ^ 64 → m < 2 ^ 64 → split_by byte (decimal n) rest ≡ split_by byte (decimal m) after → (n ≡ m) × (rest ≡ after)
-parted byte n m rest after apart small lesser same =
-    let parts = same_split byte (split_by byte (decimal n) rest) (decimal n) rest (decimal m) after (lacks_decimal byte n small apart) refl (lacks_decimal byte m lesser apart) same in
-    (decimal_injective n m small lesser parts.0, parts.1)
-
-whole : (n m : ℕ) → n < 2 ^ 48 → m < 2 ^ 48 → n / 65536 / 16777216 ≡ m / 65536 / 16777216 → n / 65536 / 65536 % 256 ≡ m / 65536 / 65536 % 256 → n / 65536 / 256 % 256 ≡ m / 65536 / 256 % 256 → n / 65536 % 256 ≡ m / 65536 % 256 → n % 65536 ≡ m % 65536 → n ≡ m
-whole n m small lesser first second third fourth port = omega arith
-
-same_endpoint : (d e : ℕ) → IsEndpoint d → IsEndpoint e → endpoint_text d ≡ endpoint_text e → d ≡ e
-same_endpoint d e is other same =
-    let small = is.six_bytes in
-    let lesser = other.six_bytes in
-    let first = parted 46 (d / 65536 / 16777216) (e / 65536 / 16777216) (from_second d) (from_second e) (inl (omega arith)) (omega arith) (omega arith) same in
-    let second = parted 46 (d / 65536 / 65536 % 256) (e / 65536 / 65536 % 256) (from_third d) (from_third e) (inl (omega arith)) (omega arith) (omega arith) first.1 in
-    let third = parted 46 (d / 65536 / 256 % 256) (e / 65536 / 256 % 256) (from_fourth d) (from_fourth e) (inl (omega arith)) (omega arith) (omega arith) second.1 in
-    let fourth = parted 58 (d / 65536 % 256) (e / 65536 % 256) (port_text d) (port_text e) (inr (omega arith)) (omega arith) (omega arith) third.1 in
-    let port = decimal_injective (d % 65536) (e % 65536) (omega arith) (omega arith) fourth.1 in
-    whole d e (omega arith) (omega arith) first.0 second.0 third.0 fourth.0 port
 
 pub same_argument : (a b : Argument) → IsArgument a → IsArgument b → argument_text a ≡ argument_text b → a ≡ b
 same_argument (Number n) (Number m) is other same = ap (λ (k : ℕ). Number k) (decimal_injective n m is other same)
@@ -134,72 +114,8 @@ all_more rest after word next args before others a is parts lacks cut spelled fi
 -- Heads
 
 pub head_lacks : (h : Head) → Lacks 32 (head_word h)
-head_lacks head.Member = lacks_byte 32 (codes "member") refl
-head_lacks head.Times = lacks_byte 32 (codes "times") refl
-head_lacks head.RowAlive = lacks_byte 32 (codes "alive") refl
-head_lacks head.RowSuspect = lacks_byte 32 (codes "suspect") refl
-head_lacks head.RowConfirm = lacks_byte 32 (codes "confirm") refl
-head_lacks head.SayAlive = lacks_byte 32 (codes "+alive") refl
-head_lacks head.SaySuspect = lacks_byte 32 (codes "+suspect") refl
-head_lacks head.SayConfirm = lacks_byte 32 (codes "+confirm") refl
-head_lacks head.Probe = lacks_byte 32 (codes "probe") refl
-head_lacks head.Answered = lacks_byte 32 (codes "answered") refl
-head_lacks head.Relay = lacks_byte 32 (codes "relay") refl
-head_lacks head.Joining = lacks_byte 32 (codes "joining") refl
-head_lacks head.Listed = lacks_byte 32 (codes "listed") refl
-head_lacks head.Running = lacks_byte 32 (codes "running") refl
-head_lacks head.Left = lacks_byte 32 (codes "left") refl
-head_lacks head.Expelled = lacks_byte 32 (codes "expelled") refl
-head_lacks head.Caller = lacks_byte 32 (codes "caller") refl
-head_lacks head.Granted = lacks_byte 32 (codes "granted") refl
-head_lacks head.Lost = lacks_byte 32 (codes "lost") refl
-
--- the head of a head's text
-abbrev named : List ℕ → Head
-named text =
-    if bytes_eq text (codes "member") then head.Member else
-    if bytes_eq text (codes "times") then head.Times else
-    if bytes_eq text (codes "alive") then head.RowAlive else
-    if bytes_eq text (codes "suspect") then head.RowSuspect else
-    if bytes_eq text (codes "confirm") then head.RowConfirm else
-    if bytes_eq text (codes "+alive") then head.SayAlive else
-    if bytes_eq text (codes "+suspect") then head.SaySuspect else
-    if bytes_eq text (codes "+confirm") then head.SayConfirm else
-    if bytes_eq text (codes "probe") then head.Probe else
-    if bytes_eq text (codes "answered") then head.Answered else
-    if bytes_eq text (codes "relay") then head.Relay else
-    if bytes_eq text (codes "joining") then head.Joining else
-    if bytes_eq text (codes "listed") then head.Listed else
-    if bytes_eq text (codes "running") then head.Running else
-    if bytes_eq text (codes "left") then head.Left else
-    if bytes_eq text (codes "expelled") then head.Expelled else
-    if bytes_eq text (codes "caller") then head.Caller else
-    if bytes_eq text (codes "granted") then head.Granted else
-    head.Lost
-
-named-text : (h : Head) → named (head_word h) ≡ h
-named-text head.Member = refl
-named-text head.Times = refl
-named-text head.RowAlive = refl
-named-text head.RowSuspect = refl
-named-text head.RowConfirm = refl
-named-text head.SayAlive = refl
-named-text head.SaySuspect = refl
-named-text head.SayConfirm = refl
-named-text head.Probe = refl
-named-text head.Answered = refl
-named-text head.Relay = refl
-named-text head.Joining = refl
-named-text head.Listed = refl
-named-text head.Running = refl
-named-text head.Left = refl
-named-text head.Expelled = refl
-named-text head.Caller = refl
-named-text head.Granted = refl
-named-text head.Lost = refl
-
-same_head : (h k : Head) → head_word h ≡ head_word k → h ≡ k
-same_head h k same = sym (named-text h) ∙ ap named same ∙ named-text k
+head_lacks head.Member = lacks_byte 32 (head_word head.Member) refl
+head_lacks h = lacks_byte 32 (head_word h) refl
 
 -- Lines
 
@@ -216,24 +132,12 @@ same_arguments (a ∷ args) (b ∷ others) fit fits same =
     ∙ ap (λ (rest : List Argument). b ∷ rest) (same_arguments args others (All-tail IsArgument a args fit) (All-tail IsArgument b others fits) parts.1)
 
 pub few_arguments : (l : Line) → length (arguments_of l) ≤ 8
-few_arguments (line.Member group me lambda rules) = omega arith
-few_arguments (line.Times times) = omega arith
-few_arguments (line.Row kind who number since) = omega arith
-few_arguments (line.Say kind who number count) = omega arith
-few_arguments (line.Probe target seq) = omega arith
-few_arguments (line.Answered target seq) = omega arith
-few_arguments (line.Relay target seq asker asked made) = omega arith
-few_arguments (line.Joining peer seq) = omega arith
-few_arguments (line.JoiningAfter peer seq after) = omega arith
-few_arguments (line.Listed who) = omega arith
 few_arguments (line.Begin start) = past start.past
   where
     past : (o : Option ℕ) → length (Number start.number ∷ Number start.time ∷ Number start.seq ∷ Number start.place ∷ Number start.granted ∷ number_or_none o) ≤ 8
     past None = omega arith
     past (Some n) = omega arith
-few_arguments (line.Caller caller) = omega arith
-few_arguments (line.Granted ceiling) = omega arith
-few_arguments (line.Lost place) = omega arith
+few_arguments _ = omega arith
 
 -- a text that is cut at its first space says a line whose head is what stands before it
 pub line_parts : (text word rest : List ℕ) (l : Line) → text ≡ word ++ rest → Lacks 32 word → IsCutOff rest → Says text l → (word ≡ head_word (head_in l)) × SaysArguments rest (arguments_of l)
@@ -245,10 +149,6 @@ pub line_none : (text word rest : List ℕ) (h : Head) (args : List Argument) �
 line_none text word rest h args parts lacks cut spelled said none l says =
     let is = line_parts text word rest l parts lacks cut says in
     none l (same_head (head_in l) h (sym is.0 ∙ spelled), same_arguments (arguments_of l) args is.1.1 said.1 (sym is.1.0 ∙ said.0))
-
-pub IfNone_then : {T P Q : Type 0} (o : Option T) → (P → Q) → IfNone o P → IfNone o Q
-IfNone_then None so holds = so holds
-IfNone_then (Some x) so holds = holds
 
 pub same_words : (text : List ℕ) (l m : Line) → Says text l → Says text m → (head_in l ≡ head_in m) × (arguments_of l ≡ arguments_of m)
 same_words text l m one other =

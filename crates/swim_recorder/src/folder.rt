@@ -1,20 +1,18 @@
 //! The folder of the recordings.
 
-use crate::finished::Finished;
-use crate::names::{FileName, read_name};
 use std::alloc::Global;
 use std::fs::{self, File, OpenOptions};
 use std::io::{self, Write};
 use std::os::unix::fs::OpenOptionsExt;
 use std::rt::Files;
-use swim_record::EraTime;
+use swim_record::{EraTime, FileName, Finished, read_name};
 
 /// Who may read and write a recording: its owner alone.
 const MODE: u32 = 0o600;
 
 /// A folder of recordings, of which so many are kept.
 #[derive(Drop)]
-pub struct Folder {
+pub(crate) struct Folder {
     files: HostRuntime,
     path: String,
     kept: usize,
@@ -36,7 +34,7 @@ fn name_aside(text: &str) -> Option<&str> {
 
 impl Folder {
     /// The folder at this path, of which so many recordings are kept, one at least.
-    pub fn new(files: HostRuntime, path: String, kept: u64) -> Folder {
+    pub(crate) fn new(files: HostRuntime, path: String, kept: u64) -> Folder {
         Folder {
             files,
             path,
@@ -45,7 +43,7 @@ impl Folder {
     }
 
     /// Its path.
-    pub fn path(&self) -> &str {
+    pub(crate) fn path(&self) -> &str {
         self.path.as_str()
     }
 
@@ -109,7 +107,12 @@ impl Folder {
 
     /// Writes the recording of an era under this name, with when it was, and removes the oldest ones above the number that is kept. An
     /// error is the system's, or there is no memory for the text.
-    pub fn record(&self, name: FileName, time: Option<EraTime>, era: &Finished) -> io::Result<()> {
+    pub(crate) fn record(
+        &self,
+        name: FileName,
+        time: Option<EraTime>,
+        era: &Finished,
+    ) -> io::Result<()> {
         let text = era.recording(self.files.alloc(), time)?;
         self.write(name, text.as_str())?;
         self.prune()

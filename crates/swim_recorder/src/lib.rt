@@ -1,14 +1,7 @@
-//! What becomes of an era that ended: it is handed to who keeps eras, and its recording is written into a folder.
+//! Who writes recordings: beside a running member it takes each era that ended, and writes its recording into a folder.
 #![tactic(auto)]
 
-mod begun;
-mod finished;
 mod folder;
-mod handing;
-mod names;
+mod scribe;
 
-pub use begun::BegunEra;
-pub use finished::Finished;
-pub use folder::Folder;
-pub use handing::{Keeper, Unkept, begin, hand_over};
-pub use names::{FileName, read_name};
+pub use scribe::Scribe;

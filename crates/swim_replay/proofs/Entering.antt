@@ -1,13 +1,10 @@
 -- What is read of a recording, begins and is entered, unless there is no memory.
-use Rattle.std.proofs.Common.{◌≡◌, ℕ, ◌<◌, ◌==◌, true, false, eqb-true, List, [], ◌∷◌, ◌++◌, length, append-nil, append_assoc, length-append, ap, subst, refl, sym, ◌∙◌, arith, Option, None, Some, Err}
+use Rattle.std.proofs.Common.{◌≡◌, ℕ, ◌<◌, ◌==◌, true, false, eqb-true, List, [], ◌∷◌, ◌++◌, length, append-nil, append_assoc, length-append, ap, subst, refl, sym, ◌∙◌, arith, Err}
 use Rattle.swim_node.specs.declared.entry.Entry.{Entry}
 use Rattle.swim_node.specs.declared.entry.Tag.{Tag}
 use Rattle.swim_node.specs.declared.fault.ApplyFault.{ApplyFault}
 use Rattle.swim_node.specs.declared.fault.ApplyFault.TheVariants.{NoMemory, EraFull, OutOfTurn}
-use Rattle.swim_node.specs.declared.beginning.BeginFault.{BeginFault}
-use Rattle.swim_node.specs.declared.beginning.BeginFault.TheVariants as begin
 use Rattle.swim_node.specs.History.{Base}
-use Rattle.swim_node.specs.Replaying.{begin_fault}
 use Rattle.swim_member.specs.declared.event.Event.{Event}
 use Rattle.std.proofs.lemmas.List.Elements.{All-tail}
 use Rattle.swim_node.specs.History.{AreNext}
@@ -15,7 +12,7 @@ use Rattle.swim_node.specs.Lives.{Era}
 use Rattle.swim_record.specs.Events.{IsRead}
 use Rattle.swim_record.specs.Recording.{calls_text, event_words, lines_text, met_lines}
 use Rattle.swim_replay.specs.Machinery.Calls.{IsToCome}
-use Rattle.swim_replay.specs.Recorded.{IsRecordedCall, IsRecorded}
+use Rattle.swim_replay.specs.Recorded.{IsRecordedCall}
 use Rattle.swim_record.specs.declared.event.EventFault.{EventFault}
 use Rattle.swim_record.specs.declared.event.EventFault.TheVariants as event
 use Rattle.swim_node.specs.Node.{IsTurn, Refused}
@@ -25,29 +22,9 @@ only_memory b entries tag NoMemory turn room refused = refl
 only_memory b entries tag EraFull turn room refused = let full = refused.1 in absurd (omega arith)
 only_memory b entries tag OutOfTurn turn room refused = absurd (refused turn)
 
-some-none : (x : BeginFault) (o : Option BeginFault) → o ≡ None → o ≡ Some x → ⊥
-some-none x o e f = cc
-
-pub begin_memory : (f : BeginFault) (b : Base) → begin_fault b ≡ None → ((f ≡ begin.NoMemory → ⊥) → begin_fault b ≡ Some f) → f ≡ begin.NoMemory
-begin_memory begin.NoMemory b none cause = refl
-begin_memory (begin.State x) b none cause = absurd (some-none (begin.State x) (begin_fault b) none (cause (λ e. cc)))
-begin_memory begin.Limit b none cause = absurd (some-none begin.Limit (begin_fault b) none (cause (λ e. cc)))
-begin_memory begin.Ceiling b none cause = absurd (some-none begin.Ceiling (begin_fault b) none (cause (λ e. cc)))
-begin_memory begin.Past b none cause = absurd (some-none begin.Past (begin_fault b) none (cause (λ e. cc)))
-
 pub event_memory : (f : EventFault) (e : Event) → IsRead e (Err f) → f ≡ event.NoMemory
 event_memory event.NoMemory e read = refl
 event_memory event.Unknown e read = absurd read
-
--- the calls of an era that began are to come
-pub to_come : (b : Base) (entries : List Entry) (era : Era) (rest : List ℕ) (granted : ℕ) → IsRecorded b entries → era.base ≡ b → era.entries ≡ [] → rest ≡ calls_text b.granted entries → granted ≡ b.granted → IsToCome era rest granted entries
-to_come b entries era rest granted is base none text same = record {
-  text = text ∙ ap (λ (g : ℕ). calls_text g entries) (sym same);
-  next = subst (λ (x : Base). AreNext x era.entries entries) (sym base) (subst (λ (xs : List Entry). AreNext b xs entries) (sym none) is.legal.each);
-  room = let within = is.legal.within in let zero = ap (λ (xs : List Entry). length xs) none in let limit = ap (λ (x : Base). x.limit) base in omega arith;
-  limit = let small = is.limit in let limit = ap (λ (x : Base). x.limit) base in omega arith;
-  calls = is.calls;
-}
 
 -- after the first of them was entered the others are to come
 pub come_next : (old new : Era) (text rest : List ℕ) (granted after : ℕ) (e : Entry) (others : List Entry) → IsToCome old text granted (e ∷ others) → new.base ≡ old.base → new.entries ≡ old.entries ++ e ∷ [] → rest ≡ calls_text e.granted others → after ≡ e.granted → IsToCome new rest after others

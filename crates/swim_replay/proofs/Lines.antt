@@ -1,5 +1,5 @@
 -- The lines at the front of a recording.
-use Rattle.std.proofs.Common.{◌≡◌, ℕ, ◌+◌, ◌<◌, ◌≤◌, List, [], ◌∷◌, ◌++◌, length, map, refl, sym, ap, ◌∙◌, arith, append_assoc, length-append, Option}
+use Rattle.std.proofs.Common.{◌≡◌, ℕ, ◌+◌, ◌<◌, List, [], ◌∷◌, ◌++◌, length, map, refl, sym, ap, ◌∙◌, arith, append_assoc, length-append, Option}
 use Rattle.std.specs.Prelude.{All}
 use Rattle.std.proofs.lemmas.List.Elements.{All-append, All-head, All-nil, All-tail}
 use Rattle.swim_words.specs.Words.{Lacks, split_by}
@@ -86,13 +86,6 @@ line-none text passed count rest (l ∷ left) number is some lacks = no_split 10
 
 pub lines_none : (text : List ℕ) (passed count : ℕ) (rest : List ℕ) → HasLines text passed count rest → passed < count → Lacks 10 text → ⊥
 lines_none text passed count rest w some lacks = line-none text passed count rest w.left w.number w.is some lacks
-
-line-all : (text : List ℕ) (passed count : ℕ) (rest : List ℕ) (left : List Line) → passed + length left ≡ count → text ≡ lines_text left ++ rest → count ≤ passed → text ≡ rest
-line-all text passed count rest [] number is all = is
-line-all text passed count rest (l ∷ left) number is all = absurd (omega arith)
-
-pub lines_all : (text : List ℕ) (passed count : ℕ) (rest : List ℕ) → HasLines text passed count rest → count ≤ passed → text ≡ rest
-lines_all text passed count rest w all = line-all text passed count rest w.left w.number w.is all
 
 -- A call is read in one way
 

@@ -1,7 +1,7 @@
 -- The first lines of a recording are read in one way.
-use Rattle.std.proofs.Common.{◌≡◌, ℕ, Contains, List, [], ◌∷◌, ◌++◌, true, false, refl, sym, ap, ◌∙◌, lit<, append_assoc, Option, Some, None}
+use Rattle.std.proofs.Common.{◌≡◌, ℕ, Contains, List, [], ◌∷◌, ◌++◌, refl, ap, append_assoc, Option, Some, None}
 use Rattle.std.specs.Prelude.{IfSome, codes}
-use Rattle.std.specs.Str.{bytes_eq}
+use Rattle.swim_words.proofs.Tables.{named_in, in_table, same_value}
 use Rattle.swim_words.specs.Words.{Lacks}
 use Rattle.swim_words.proofs.Splits.{lacks_byte}
 use Rattle.swim_record.specs.EraTimes.{IsEraTime, time_text}
@@ -12,22 +12,19 @@ use Rattle.swim_replay.specs.declared.heading.TheConstants.TextVersion.{ALL}
 use Rattle.swim_replay.specs.declared.heading.TextVersion.{TextVersion}
 use Rattle.swim_replay.specs.declared.heading.TextVersion.TheVariants.{First, Second}
 
-pub all_versions : (v : TextVersion) → Contains ALL v
-all_versions First = (0, lit< tt, refl)
-all_versions Second = (1, lit< tt, refl)
-
 pub version_lacks : (v : TextVersion) → Lacks 10 (version_text v)
-version_lacks First = lacks_byte 10 (codes "recording 1") refl
-version_lacks Second = lacks_byte 10 (codes "recording 2") refl
+version_lacks First = lacks_byte 10 (version_text First) refl
+version_lacks v = lacks_byte 10 (version_text v) refl
 
-apart : version_text First ≡ version_text Second → ⊥
-apart same = let both : true ≡ false = ap (λ (text : List ℕ). bytes_eq text (codes "recording 1")) same in absurd (cc)
+versions : (v : TextVersion) → named_in version_text ALL (version_text v) ≡ Some v
+versions First = refl
+versions _ = refl
+
+pub all_versions : (v : TextVersion) → Contains ALL v
+all_versions v = in_table version_text ALL (version_text v) v (versions v)
 
 pub same_version : (v w : TextVersion) → version_text v ≡ version_text w → v ≡ w
-same_version First First same = refl
-same_version First Second same = absurd (apart same)
-same_version Second First same = absurd (apart (sym same))
-same_version Second Second same = refl
+same_version v w same = same_value version_text ALL versions v w same
 
 -- what the first line of a head says, and what follows that line
 

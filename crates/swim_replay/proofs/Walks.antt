@@ -13,10 +13,6 @@ pub record IsLeft (lines : List Line) (place : ℕ) (s t : State) (told : List L
   pub may : MayNoteAll s left
   pub same : all_noted s left ≡ t
 
--- all are left at first
-pub left_first : (lines : List Line) (s : State) (told : List Line) (start : Start) (after : List Line) → lines ≡ told ++ line.Begin start ∷ after → MayNoteAll s told → IsLeft lines 0 s (all_noted s told) told start after
-left_first lines s told start after is may = record { left = told; is = is; may = may; same = refl }
-
 -- the next line is one of them, or the beginning
 begins : (l : Line) (start other : Start) (s : State) → l ≡ line.Begin start → MayNote s l → ⊥
 begins l start other s is may = subst (λ (x : Line). MayNote s x) is may
@@ -53,7 +49,3 @@ left_last begun rest lines place s t told start after here w = last-of begun res
 none-of : (lines : List Line) (place : ℕ) (start : Start) (after left : List Line) → drop place lines ≡ [] → drop place lines ≡ left ++ line.Begin start ∷ after → ⊥
 none-of lines place start after [] here is = let e : [] ≡ line.Begin start ∷ after = sym here ∙ is in absurd (cc)
 none-of lines place start after (x ∷ left) here is = let e : [] ≡ x ∷ (left ++ line.Begin start ∷ after) = sym here ∙ is in absurd (cc)
-
--- there is a beginning
-pub left_none : (lines : List Line) (place : ℕ) (s t : State) (told : List Line) (start : Start) (after : List Line) → drop place lines ≡ [] → IsLeft lines place s t told start after → ⊥
-left_none lines place s t told start after here w = none-of lines place start after w.left here w.is

@@ -3,7 +3,7 @@
 use log::{Log, error};
 use std::fs::File;
 use std::rt::Files;
-use swim_start::{OwnFile, Watch};
+use swim_start::{OwnFile, WriteWatch};
 
 /// Looks whether the state file is still the member's own, and says in the log once where it is not.
 #[derive(Drop)]

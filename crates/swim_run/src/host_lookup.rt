@@ -4,7 +4,7 @@ ghost use Rattle.std.specs.Prelude.{◌≡◌, ◌*◌, ◌-◌, ◌≤◌, ◌�
 ghost use Rattle.std.specs.Time.{instant_nanos};
 
 use crate::errand::{Errand, outcome_of};
-use crate::listing::{Listing, Places};
+use crate::listing::{JoinList, Places};
 use crate::lookup::{Found, start_lookup};
 use arrayvec::ArrayVec;
 use log::{Log, warn};
@@ -37,7 +37,7 @@ fn is_due(began: Option<Instant>, now: Instant) -> bool
 pub(crate) struct HostLookup<'a, T> {
     rt: HostRuntime,
     logged: &'a T,
-    listing: &'a Mutex<Listing>,
+    listing: &'a Mutex<JoinList>,
     lookup: Option<Errand<Found>>,
     /// When the last lookup began.
     began: Option<Instant>,
@@ -50,7 +50,7 @@ impl<'a, T: Threads + Wait + Log + Clock> HostLookup<'a, T> {
     pub(crate) fn new(
         rt: HostRuntime,
         logged: &'a T,
-        listing: &'a Mutex<Listing>,
+        listing: &'a Mutex<JoinList>,
     ) -> HostLookup<'a, T> {
         HostLookup {
             rt,

@@ -1,10 +1,10 @@
 //! Whom the settings file of a running member names to join.
 
-ghost use Rattle.std.specs.Prelude.{◌≡◌, ◌≤◌, false, length};
+ghost use Rattle.std.specs.Prelude.{◌≡◌, false};
 
 use arrayvec::ArrayVec;
 use swim_settings::{JOIN_MAX, Place};
-use swim_wire::Endpoint;
+use swim_wire::{Endpoint, copied};
 
 /// The places that a file names.
 pub(crate) type Places = ArrayVec<Place, JOIN_MAX>;
@@ -14,7 +14,7 @@ pub(crate) type Addresses = ArrayVec<Option<Endpoint>, JOIN_MAX>;
 
 /// The places that a file names, with the addresses that are known of them. The member's host and its doors share it.
 #[derive(Drop)]
-pub(crate) struct Listing {
+pub(crate) struct JoinList {
     places: Places,
     addresses: Addresses,
     /// Whether the joiner does not know them yet.
@@ -33,24 +33,15 @@ fn own_address(place: &Place) -> Option<Endpoint> {
     }
 }
 
-/// The same places.
-fn copy_of(places: &[Place]) -> Places
-    ensures { length places.now ≤ JOIN_MAX → result.items ≡ places.now }
-{
-    let mut copy = ArrayVec::new();
-    let _ = copy.try_extend_from_slice(places);
-    copy
-}
-
 /// Whether the place is to be looked up.
 fn is_host(place: &Place) -> bool {
     own_address(place).is_none()
 }
 
-impl Listing {
+impl JoinList {
     /// Of these places, of whose hosts no address is known.
-    pub(crate) fn new(places: &[Place]) -> Listing {
-        let mut listing = Listing {
+    pub(crate) fn new(places: &Places) -> JoinList {
+        let mut listing = JoinList {
             places: ArrayVec::new(),
             addresses: ArrayVec::new(),
             is_new: false,
@@ -69,12 +60,12 @@ impl Listing {
     }
 
     /// The file names these places from now on. What is known of them stays known.
-    pub(crate) fn name(&mut self, places: &[Place]) {
+    pub(crate) fn name(&mut self, places: &Places) {
         let mut addresses = ArrayVec::new();
-        for place in places {
+        for place in places.as_slice() {
             let _ = addresses.try_push(self.address_of(place));
         }
-        self.places = copy_of(places);
+        self.places = copied(places);
         self.addresses = addresses;
         self.is_new = true;
         self.has_host = places.iter().any(is_host);
@@ -101,7 +92,7 @@ impl Listing {
         ensures asked { self.new ≡ record self.old { is_unasked = false } }
     {
         self.is_unasked = false;
-        copy_of(self.places.as_slice())
+        copied(&self.places)
     }
 
     /// These addresses were found of these places; a host that was not found keeps the address that it had. Says whether an address is

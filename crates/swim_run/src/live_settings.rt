@@ -19,11 +19,11 @@ use std::thread::Threads;
 use std::time::Clock;
 use swim_log::LogLevel;
 use swim_node::Room;
-use swim_recorder::{Finished, Keeper};
-use swim_scribe::Scribe;
+use swim_record::{Finished, Keeper};
+use swim_recorder::Scribe;
 use swim_serve::{Host, Joins};
 use swim_settings::{JOIN_MAX, Key, Level, RunSettings, restart_keys};
-use swim_shell::{Answer, Paces, SETTINGS_REFUSED, answer_of};
+use swim_shell::{AnswerText, Paces, SETTINGS_REFUSED, answer_of};
 use swim_start::peers_of;
 use swim_state::Peers;
 
@@ -44,7 +44,7 @@ impl Display for KeyList<'_> {
 }
 
 /// The answer where the file was read again, and these keys need a restart.
-fn reloaded(keys: &[Key]) -> Answer {
+fn reloaded(keys: &[Key]) -> AnswerText {
     if keys.is_empty() {
         return answer_of(RELOADED);
     }
@@ -143,11 +143,11 @@ impl<'a, T: Threads + Wait + Log + Clock + Copy> LiveSettings<'a, T> {
     /// Has the list name the places that the settings name now.
     fn name_places(&self) {
         let mut listing = self.handed.listing.lock(self.around.logged);
-        listing.name(self.told.join.as_slice());
+        listing.name(&self.told.join);
     }
 
     /// Takes from these settings what a running member may take, and tells what needs a restart.
-    fn take(&mut self, then: RunSettings) -> Answer
+    fn take(&mut self, then: RunSettings) -> AnswerText
         requires { AreInRange then }
         ensures told { self.new.told ≡ taken_anew self.old.told then }
         ensures given { self.new.scribe.given ≡ self.old.scribe.given }
@@ -196,7 +196,7 @@ impl<'a, T: Threads + Log + Clock + Copy> Keeper for LiveSettings<'a, T> {
 impl<'a, T: Threads + Wait + Log + Clock + Copy> Host for LiveSettings<'a, T> {
     ghost relists = { Unit {0} };
 
-    fn reload(&mut self) -> Answer {
+    fn reload(&mut self) -> AnswerText {
         match self.read_again() {
             Ok(then) => self.take(then.told),
             Err(failure) => {

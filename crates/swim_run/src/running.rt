@@ -6,7 +6,7 @@ ghost use Rattle.swim_settings.specs.Ranges.{AreInRange};
 use crate::ended::ended_by;
 use crate::file_watch::FileWatch;
 use crate::host_lookup::HostLookup;
-use crate::listing::Listing;
+use crate::listing::JoinList;
 use crate::live_settings::{LiveSettings, log_from};
 use crate::member_chores::MemberChores;
 use crate::reading::settings_at;
@@ -22,11 +22,11 @@ use std::rt::Files;
 use std::sync::{Mutex, Wait};
 use std::thread::Threads;
 use std::time::{Clock, Duration};
-use swim_ending::{Ending, Failure};
+use swim_ending::{Exit, Failure};
 use swim_log::LogLevel;
 use swim_member::Settings;
 use swim_net::Sockets;
-use swim_serve::{DoorsAndChores, Outside, Setup, run_kept};
+use swim_serve::{DoorsAndChores, Joins, LifeSetup, Outside, run_kept};
 use swim_settings::{RunSettings, show_settings};
 use swim_start::key_of;
 
@@ -37,7 +37,7 @@ pub fn shown_settings<R: Files<File = File> + AllocGlobal>(
     config: &str,
 ) -> Result<String, Failure> {
     let told = settings_at(rt, config)?;
-    show_settings(rt.alloc(), &told).map_err(|_| Failure::from(Ending::Memory))
+    show_settings(rt.alloc(), &told).map_err(|_| Failure::from(Exit::Memory))
 }
 
 /// How many ticks an expelled member waits before it ends; none if it is to stay. A member that hears last of the Confirm does so within
@@ -56,7 +56,7 @@ fn expelled_wait(told: &RunSettings) -> Option<u64>
 }
 
 /// The ending where the member was not opened on its state file, with the one whose file these settings say that it is.
-fn unopened(alloc: Global, told: &RunSettings, ending: Ending) -> Failure {
+fn unopened(alloc: Global, told: &RunSettings, ending: Exit) -> Failure {
     let RunSettings { file, settings, .. } = told;
     let (group, me) = (settings.group, settings.me);
     Failure::about(
@@ -68,7 +68,7 @@ fn unopened(alloc: Global, told: &RunSettings, ending: Ending) -> Failure {
 
 /// The ending where the system gives no random numbers.
 fn undrawn(alloc: Global, error: &io::Error) -> Failure {
-    let ending = Ending::of(error, Ending::File);
+    let ending = Exit::of(error, Exit::File);
     Failure::about(alloc, ending, format_args!("random numbers: {error}"))
 }
 
@@ -94,6 +94,13 @@ fn tell_up<T: Log>(logged: &T, level: &LogLevel, told: &RunSettings, number: u64
 fn tell_rules<T: Log>(logged: &T, config: &str, told: &RunSettings) {
     if !told.has_rules {
         warn!(logged; "{config} has no `rules`, so this member has rules 1: a new group takes `rules = 2` in the file of each member, and one that runs changes all at once; `rules = 1` ends this line (SETTINGS.md, \"From rules 1 to rules 2\")");
+    }
+}
+
+/// Says that the member has nobody to join, if that is so. A host of its list is somebody: it is looked up.
+fn tell_nobody<T: Log + Wait>(logged: &T, handed: &HandedOver, joins: &Joins) {
+    if joins.peers.is_empty() && !handed.listing.lock(logged).has_host() {
+        info!(logged; "joins nobody: `join` names no other member, and the state file has kept none. It waits until another joins it, as the first of a group may; each other one needs one that runs under `join`");
     }
 }
 
@@ -132,11 +139,13 @@ fn live<'a, T: Threads + Wait + Log + Clock + Send + Sync + Copy + Drop>(
     let tick = Duration::from_millis(told.tick_ms);
     let expelled_ends = expelled_wait(&told);
     let mut host = LiveSettings::new(around, told, handed);
-    let setup = Setup {
+    let joins = host.joins_with(&node.peers());
+    tell_nobody(logged, handed, &joins);
+    let setup = LifeSetup {
         settings,
         number,
         tick,
-        joins: host.joins_with(&node.peers()),
+        joins,
         key,
         expelled_ends,
     };
@@ -148,7 +157,7 @@ fn live<'a, T: Threads + Wait + Log + Clock + Send + Sync + Copy + Drop>(
     let doors = DoorsAndChores::new(sockets.doors, chores);
     let (inbound, link) = (sockets.inbound, sockets.link);
     let outside = Outside::new(rt.alloc(), *logged, setup, inbound, link, doors);
-    let outside = outside.map_err(|_| Failure::from(Ending::Memory))?;
+    let outside = outside.map_err(|_| Failure::from(Exit::Memory))?;
     let alarms = sockets.alarms;
     let ended = run_kept(logged, rt.alloc(), node, outside, &alarms, &mut host);
     host.finish();
@@ -175,7 +184,7 @@ pub fn run<T: Threads + Wait + Log + Clock + Send + Sync + Copy + Drop>(
     // The control socket stays open until all else is closed: who finds it closed may start the next life at once.
     let (sockets, _control) = bind(rt, logged, &waits, connections, &told)?;
     let handed = HandedOver {
-        listing: Mutex::new(Listing::new(told.join.as_slice())),
+        listing: Mutex::new(JoinList::new(&told.join)),
         reread: Mutex::new(None),
     };
     let around = Surroundings {

@@ -5,7 +5,7 @@ use std::alloc::Global;
 use std::io;
 use std::net::{Net, SocketAddr, TcpListener, TcpStream, UdpSocket};
 use std::time::Clock;
-use swim_ending::{Ending, Failure};
+use swim_ending::{Exit, Failure};
 use swim_net::{SocketAlarm, Sockets, Waits, address_of, bind_datagrams, wait_of};
 use swim_settings::RunSettings;
 use swim_wire::Endpoint;
@@ -16,20 +16,20 @@ fn own_address(alloc: Global, me: Endpoint) -> Result<SocketAddr, Failure> {
     let at = address_of(me);
     if at.ip().is_unspecified() || at.ip().is_multicast() {
         let about = format_args!("UDP {me} (me): it is the address of no machine");
-        return Err(Failure::about(alloc, Ending::Socket, about));
+        return Err(Failure::about(alloc, Exit::Socket, about));
     }
     Ok(at)
 }
 
 /// The ending where the system refuses the socket of datagrams.
 fn without_datagrams(alloc: Global, me: Endpoint, error: &io::Error) -> Failure {
-    let ending = Ending::of(error, Ending::Socket);
+    let ending = Exit::of(error, Exit::Socket);
     Failure::about(alloc, ending, format_args!("UDP {me} (me): {error}"))
 }
 
 /// The ending where the system refuses the control socket.
 fn without_doors(alloc: Global, control: Endpoint, error: &io::Error) -> Failure {
-    let ending = Ending::of(error, Ending::Socket);
+    let ending = Exit::of(error, Exit::Socket);
     Failure::about(
         alloc,
         ending,
@@ -56,7 +56,7 @@ where
 /// The waits of the control socket's thread, and what ends them.
 pub(crate) fn waits<R: Net>(rt: &R, alloc: Global) -> Result<(Waits, SocketAlarm), Failure> {
     let unmade = |error: io::Error| {
-        let ending = Ending::of(&error, Ending::Socket);
+        let ending = Exit::of(&error, Exit::Socket);
         Failure::about(alloc, ending, format_args!("poll: {error}"))
     };
     Waits::new(rt, alloc).map_err(unmade)

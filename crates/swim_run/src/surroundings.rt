@@ -1,6 +1,6 @@
 //! What a running member finds around it.
 
-use crate::listing::Listing;
+use crate::listing::JoinList;
 use crate::rereading::Read;
 use std::sync::Mutex;
 use swim_log::LogLevel;
@@ -18,6 +18,6 @@ pub(crate) struct Surroundings<'a, T> {
 /// What the thread of its doors and its host hand each other: whom the member joins, and what was read of its settings again.
 #[derive(Drop)]
 pub(crate) struct HandedOver {
-    pub(crate) listing: Mutex<Listing>,
+    pub(crate) listing: Mutex<JoinList>,
     pub(crate) reread: Mutex<Option<Read>>,
 }

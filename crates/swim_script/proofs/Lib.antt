@@ -4,4 +4,3 @@ mod Keywords
 mod Lines
 mod Options
 mod Scripts
-mod Tables

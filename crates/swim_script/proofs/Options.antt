@@ -16,7 +16,3 @@ cut_of text None e p is parts first = absurd (cc)
 cut_of text (Some q) e p is parts first =
     let same : q ≡ p = cc in
     subst (λ (r : Bor (List ℕ) × Bor (List ℕ)). (text ≡ spaced r.0.now r.1.now) × Lacks 32 r.0.now) same (parts, first)
-
-pub IfNone_then : {T P Q : Type 0} (o : Option T) → (P → Q) → IfNone o P → IfNone o Q
-IfNone_then None so holds = so holds
-IfNone_then (Some x) so holds = holds

@@ -230,7 +230,7 @@ fn read_patch(alloc: Global, arguments: &[u8]) -> Result<Command, FaultKind>
     Ok(Command::Overwrite(patch))
 }
 
-/// The command that a line says, or the first of Command, Argument and NoMemory.
+/// The command that a line says, or the first of `Command`, `Argument` and `NoMemory`.
 pub(crate) fn read_command(alloc: Global, text: &[u8]) -> Result<Command, FaultKind>
     ensures command { IfOk result (λ command. Says text.now command) }
     ensures fault { IfErr result (λ kind. (kind ≡ kinds.NoMemory) ⊎ IsWordFault text.now kind) }

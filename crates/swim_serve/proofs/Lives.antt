@@ -10,7 +10,7 @@ use Rattle.swim_node.specs.History.{Base, IsLegal, granted_of}
 use Rattle.swim_node.specs.Lives.{EndsEra, Era, GoesOn, IsLiving, IsRaised, era_of, life_of}
 use Rattle.swim_node.specs.Node.{NodeView, next_base}
 use Rattle.swim_node.specs.Owns.{owns, AreAtMost}
-use Rattle.swim_recorder.specs.Handing.{recorded}
+use Rattle.swim_record.specs.Handing.{recorded}
 use Rattle.swim_node.proofs.Living.{goes_raised}
 use Rattle.logbook.specs.Pages.{Book}
 use Rattle.swim_node.specs.Link.{LinkId}

@@ -12,7 +12,7 @@ use Rattle.swim_shell.specs.Views.{ConversationView, is_waiting}
 use Rattle.swim_shell.specs.Joins.{JoinerView}
 use Rattle.swim_shell.specs.Turns.{Turned, TurnedInVain}
 use Rattle.swim_shell.specs.Work.{Goes}
-use Rattle.swim_serve.specs.Desks.{DeskView, Step, Joining, Opening, Resuming, Pausing, Ending, OfConnection, OfMember, IsTurnIn, Steps, IsOpen, Tending, TendedBy, Opens}
+use Rattle.swim_serve.specs.Desks.{DeskView, Step, Joining, Opening, Resuming, Pausing, Shutdown, OfConnection, OfMember, IsTurnIn, Steps, IsOpen, Tending, TendedBy, Opens}
 
 module _ (limit : ℕ) where
   steps_more : (i j k : JoinerView) (x m y : Option ConversationView) (us vs ws : List ConversationView) (p q r : CallerView) (ss ts : List Step) → Steps limit i x us p ss j m vs q → Steps limit j m vs q ts k y ws r → Steps limit i x us p (ss ++ ts) k y ws r
@@ -21,7 +21,7 @@ module _ (limit : ℕ) where
   steps_more i j k x m y us vs ws p q r (Opening c ∷ ss) ts (e, new, rest) t = (e, new, steps_more i j k (Some c) m y us vs ws p q r ss ts rest t)
   steps_more i j k x m y us vs ws p q r (Resuming c ∷ ss) ts (e, left, f, rest) t = (e, left, f, steps_more i j k (Some c) m y left vs ws p q r ss ts rest t)
   steps_more i j k x m y us vs ws p q r (Pausing d n ∷ ss) ts (c, then, e, did, rest) t = (c, then, e, did, steps_more i j k None m y (us ++ d ∷ []) vs ws then q r ss ts rest t)
-  steps_more i j k x m y us vs ws p q r (Ending d end n ∷ ss) ts (c, then, e, of, did, rest) t = (c, then, e, of, did, steps_more i j k None m y us vs ws then q r ss ts rest t)
+  steps_more i j k x m y us vs ws p q r (Shutdown d end n ∷ ss) ts (c, then, e, of, did, rest) t = (c, then, e, of, did, steps_more i j k None m y us vs ws then q r ss ts rest t)
 
   -- what a desk did up to this joiner, this conversation and these others
   record Did (s : DeskView) (r : CallerView) (j : JoinerView) (x : Option ConversationView) (us : List ConversationView) (p : CallerView) : Type 0 where
@@ -79,8 +79,8 @@ module _ (limit : ℕ) where
       record { steps = o.steps; joiner = a.joiner; since = None; then = p; done = subst (λ w. Steps limit s.joiner s.conversation s.others r o.steps a.joiner None w p) (sym same) o.done; ends_by = (f, inl (why, refl, turned)) }
 
   -- what is seen to beside the connections asked for the end of the era
-  pub tending_renewed : (s a b : DeskView) (r p : CallerView) (n : ℕ) → a.conversation ≡ None → b.joiner ≡ a.joiner → b.conversation ≡ None → b.others ≡ a.others → Tending limit s r a p n → TendedBy limit ends.Renewed s r b p (n + 1)
-  tending_renewed s a b r p n e joiner f same t =
+  pub tending_asked : (s a b : DeskView) (r p : CallerView) (n : ℕ) → a.conversation ≡ None → b.joiner ≡ a.joiner → b.conversation ≡ None → b.others ≡ a.others → Tending limit s r a p n → TendedBy limit ends.EraAsked s r b p (n + 1)
+  tending_asked s a b r p n e joiner f same t =
       let o = rests s a r p n e t in
       record { steps = o.steps; joiner = a.joiner; since = None; then = p; done = subst (λ w. Steps limit s.joiner s.conversation s.others r o.steps a.joiner None w p) (sym same) o.done; ends_by = (f, inr (refl, joiner, refl)) }
 
@@ -121,7 +121,7 @@ module _ (limit : ℕ) where
   -- or since its connection has ended
   pub tending_closed : (s a b : DeskView) (c d : ConversationView) (end : ControlEnd) (r p q : CallerView) (n : ℕ) → a.conversation ≡ Some c → b.joiner ≡ a.joiner → b.conversation ≡ None → b.others ≡ a.others → OfConnection end → Goes (Converses limit) (ConversedBy end limit) c p d q → Tending limit s r a p n → Tending limit s r b q (n + 1)
   tending_closed s a b c d end r p q n e joiner none others of f t =
-      tending s b r q (n + 1) a.joiner None a.others joiner none others (left s r a.joiner c a.others a.others p q (λ first i. Ending d end (i + 1)) (λ first then i w. (first, q, refl, of, f first then i w, (refl, refl, refl, refl))) (talked s a c r p n e t))
+      tending s b r q (n + 1) a.joiner None a.others joiner none others (left s r a.joiner c a.others a.others p q (λ first i. Shutdown d end (i + 1)) (λ first then i w. (first, q, refl, of, f first then i w, (refl, refl, refl, refl))) (talked s a c r p n e t))
 
   -- or that turn ended the worker
   pub tending_ended : (s a b : DeskView) (c d : ConversationView) (end : ControlEnd) (r p q : CallerView) (n : ℕ) → a.conversation ≡ Some c → b.joiner ≡ a.joiner → b.conversation ≡ Some d → b.others ≡ a.others → OfMember end → Goes (Converses limit) (ConversedBy end limit) c p d q → Tending limit s r a p n → TendedBy limit end s r b q (n + 1)

@@ -29,7 +29,7 @@ pub data Step : Type 0 where
   Opening : ConversationView → Step
   Resuming : ConversationView → Step
   Pausing : ConversationView → (turns : ℕ) → Step
-  Ending : ConversationView → ControlEnd → (turns : ℕ) → Step
+  Shutdown : ConversationView → ControlEnd → (turns : ℕ) → Step
 
 -- the end of the connection alone
 abbrev pub OfConnection : ControlEnd → Type 0
@@ -37,7 +37,7 @@ OfConnection ends.Closed = Unit {0}
 OfConnection ends.ReadFault = Unit {0}
 OfConnection ends.WriteFault = Unit {0}
 OfConnection ends.Asked = ⊥
-OfConnection ends.Renewed = ⊥
+OfConnection ends.EraAsked = ⊥
 OfConnection ends.Reloading = ⊥
 OfConnection (ends.Refused why) = ⊥
 
@@ -47,7 +47,7 @@ OfMember ends.Closed = ⊥
 OfMember ends.ReadFault = ⊥
 OfMember ends.WriteFault = ⊥
 OfMember ends.Asked = Unit {0}
-OfMember ends.Renewed = Unit {0}
+OfMember ends.EraAsked = Unit {0}
 OfMember ends.Reloading = Unit {0}
 OfMember (ends.Refused why) = Unit {0}
 
@@ -80,7 +80,7 @@ module _ (limit : ℕ) where
   Steps j from os p (Pausing d n ∷ ss) k to us q =
       (c : ConversationView) × (then : CallerView) × (from ≡ Some c)
       × Converses limit c p d then n × Steps j None (os ++ d ∷ []) then ss k to us q
-  Steps j from os p (Ending d end n ∷ ss) k to us q =
+  Steps j from os p (Shutdown d end n ∷ ss) k to us q =
       (c : ConversationView) × (then : CallerView) × (from ≡ Some c) × OfConnection end
       × ConversedBy end limit c p d then n × Steps j None os then ss k to us q
 
@@ -108,7 +108,7 @@ module _ (limit : ℕ) where
   EndsDesk end j None then k now q =
       (now ≡ None) × (((why : Refusal) × (end ≡ ends.Refused why)
       × TurnedInVain limit why j then k q)
-      ⊎ ((end ≡ ends.Renewed) × (k ≡ j) × (q ≡ then)))
+      ⊎ ((end ≡ ends.EraAsked) × (k ≡ j) × (q ≡ then)))
   EndsDesk end j (Some c) then k now q =
       (k ≡ j) × (d : ConversationView) × (n : ℕ) × (now ≡ Some d) × OfMember end
       × ConversedBy end limit c then d q n

@@ -4,7 +4,7 @@ use Rattle.std.specs.List.{filter}
 use Rattle.swim_node.specs.declared.entry.Entry.{Entry}
 use Rattle.swim_node.specs.declared.entry.Save.{Save}
 use Rattle.swim_node.specs.declared.entry.Save.TheVariants as save
-use Rattle.swim_shell.specs.Counts.{more}
+use Rattle.swim_shell.specs.CallCounts.{more}
 use Rattle.swim_serve.specs.declared.era_saves.EraSaves.{EraSaves}
 use Rattle.swim_serve.specs.declared.era_saves.PeersSave.{PeersSave}
 use Rattle.swim_serve.specs.declared.era_saves.PeersSave.TheVariants as peers

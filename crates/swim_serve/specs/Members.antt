@@ -6,7 +6,7 @@ use Rattle.swim_member.specs.declared.state.Phase.{Phase}
 use Rattle.swim_member.specs.declared.state.Phase.TheVariants as phases
 use Rattle.swim_node.specs.Lives.{Era}
 use Rattle.swim_node.specs.Node.{NodeView}
-use Rattle.swim_recorder.specs.Handing.{recorded}
+use Rattle.swim_record.specs.Handing.{recorded}
 use Rattle.swim_shell.specs.declared.conversation.ControlEnd.{ControlEnd}
 use Rattle.swim_shell.specs.declared.conversation.ControlEnd.TheVariants as control
 use Rattle.swim_serve.specs.declared.era.EraFault.{EraFault}

@@ -13,12 +13,12 @@ pub const OPEN_MAX: usize = 8;
 
 /// Connections that are open while another has the turns, the next one first. Contracts see them as a list.
 #[derive(Drop)]
-pub struct Aside<S: Drop> {
+pub struct ConnectionQueue<S: Drop> {
     waiting: VecDeque<S>,
     ghost room: { OPEN_MAX ≤ deque_capacity waiting },
 }
 
-impl<S: Drop> Model for Aside<S> {
+impl<S: Drop> Model for ConnectionQueue<S> {
     ghost use Rattle.std.specs.Prelude.{List};
 
     ghost Value = { List S };
@@ -26,13 +26,13 @@ impl<S: Drop> Model for Aside<S> {
     ghost view = { λ aside. aside.waiting.items };
 }
 
-impl<S: Drop> Aside<S> {
+impl<S: Drop> ConnectionQueue<S> {
     /// None yet. An error is that there is no memory for them.
-    pub fn new(alloc: Global) -> Result<Aside<S>, AllocError>
+    pub fn new(alloc: Global) -> Result<ConnectionQueue<S>, AllocError>
         ensures { IfOk result (λ none. none ≡ []) }
     {
         let waiting = VecDeque::with_capacity(alloc, OPEN_MAX)?;
-        Ok(Aside { waiting })
+        Ok(ConnectionQueue { waiting })
     }
 
     /// How many they are.

@@ -2,8 +2,8 @@
 
 ghost use Rattle.swim_serve.specs.Works.{LeftBy, Received, Sent, Ticked};
 
-use crate::beat::Beat;
-use crate::ending::Ending;
+use crate::beat::TickTimer;
+use crate::ending::Shutdown;
 use crate::gates::{Pacing, Resting, Ringing};
 use crate::job::{Job, Left, Manned};
 use crate::threads::{Back, Work, serve};
@@ -12,13 +12,13 @@ use std::sync::Wait;
 use std::thread::Threads;
 use std::time::Clock;
 use swim_handle::{Crew, IntoParts};
-use swim_shell::{Alarm, Inbound, Outgoing, Receiver, Refusal, Sender, Ticker, WorkerEnd};
+use swim_shell::{Alarm, Inbound, Outgoing, Receiver, Refusal, SendWorker, Ticker, WorkerEnd};
 
 /// The workers of an era, each with its caller, and control.
 pub type Workers<C, I, O, J> = Crew<
     Manned<C, Receiver<I>>,
     Manned<C, Ticker>,
-    Manned<C, Sender<O>>,
+    Manned<C, SendWorker<O>>,
     J,
 >;
 
@@ -26,7 +26,7 @@ pub type Workers<C, I, O, J> = Crew<
 pub type Attended<P, I, O, E> = Back<
     Left<Receiver<I>, P, WorkerEnd>,
     Left<Ticker, P, Refusal>,
-    Left<Sender<O>, P, Refusal>,
+    Left<SendWorker<O>, P, Refusal>,
     E,
 >;
 
@@ -42,8 +42,8 @@ pub fn attend<
     J: Work<Done: Drop> + Drop,
 >(
     rt: &'x T,
-    ending: &'x Ending<'x, A>,
-    beat: &mut Beat,
+    ending: &'x Shutdown<'x, A>,
+    beat: &mut TickTimer,
     workers: Workers<C, I, O, J>,
 ) -> Attended<C::Parts, I, O, J::Done>
     ensures receiver { LeftBy (Received I.tells C.limit) C.parted workers.receiver.worker

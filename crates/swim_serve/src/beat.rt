@@ -10,7 +10,7 @@ use std::time::{Clock, Duration};
 /// ends eras that are not full: after so many ticks of a life, twice as many, and so on. The peers that the member knows are
 /// kept at an era's end, so those that it meets first are in its state file soon.
 #[derive(Clone, Copy, Debug, PartialEq, Eq)]
-pub struct Beat {
+pub struct TickTimer {
     tick: Duration,
     /// When the next tick is due, by the clock that only rises; none before the first.
     due: Option<Duration>,
@@ -35,14 +35,14 @@ fn due_after(due: Duration, tick: Duration, now: Duration) -> Duration
     }
 }
 
-impl Beat {
+impl TickTimer {
     /// Ticks that last so long, the first one of which begins when it is asked for. An era ends after so many of them at the
     /// latest.
-    pub fn new(tick: Duration, first_end: u64) -> Beat
+    pub fn new(tick: Duration, first_end: u64) -> TickTimer
         ensures tick { (result.tick ≡ tick) × (result.due ≡ None) }
         ensures era { (result.made ≡ 0) × (result.end_at ≡ first_end) }
     {
-        Beat {
+        TickTimer {
             tick,
             due: None,
             made: 0,

@@ -10,7 +10,7 @@ ghost use Rattle.swim_shell.specs.Calls.{CallerView};
 ghost use Rattle.swim_shell.specs.Control.{Converses};
 ghost use Rattle.swim_serve.specs.Desks.{HasAnswer, OfConnection, OfMember, Opens};
 
-use crate::aside::{Aside, OPEN_MAX};
+use crate::aside::{ConnectionQueue, OPEN_MAX};
 use crate::chores::Chores;
 use arrayvec::ArrayVec;
 use log::Log;
@@ -19,7 +19,7 @@ use std::marker::Model;
 use std::time::Clock;
 use swim_handle::Identity;
 use swim_shell::{
-    Answer, ControlEnd, Conversation, Doors, Joiner, LIST_MAX, Observer, Paces, Refusal, Worker,
+    AnswerText, ControlEnd, Conversation, Doors, Joiner, LIST_MAX, Observer, Paces, Refusal, Worker,
 };
 use swim_wire::Endpoint;
 
@@ -37,7 +37,7 @@ pub struct Desk<W: Log + Clock + Drop, O: Doors + Chores + Drop> {
     /// The connection that has the turns.
     conversation: Option<Conversation<O::Reader, O::Writer>>,
     /// Those that are open beside it, the next one first.
-    others: Aside<Conversation<O::Reader, O::Writer>>,
+    others: ConnectionQueue<Conversation<O::Reader, O::Writer>>,
     /// To how many of them in a row nothing had come, since the last wait.
     silent: usize,
     /// Whether what the line `reload` of one of them asks for is being made ready.
@@ -97,7 +97,7 @@ impl<W: Log + Clock + Drop, O: Doors + Chores + Drop> Desk<W, O> {
         ensures nobody { IfOk result (λ desk. desk.conversation ≡ None) }
         ensures none { IfOk result (λ desk. desk.others ≡ []) }
     {
-        let others = Aside::new(alloc)?;
+        let others = ConnectionQueue::new(alloc)?;
         Ok(Desk {
             rt,
             identity,
@@ -132,7 +132,7 @@ impl<W: Log + Clock + Drop, O: Doors + Chores + Drop> Desk<W, O> {
     }
 
     /// Gives the conversation that has the turns the answer to its line `reload`.
-    pub(crate) fn answer(&mut self, answer: Answer)
+    pub(crate) fn answer(&mut self, answer: AnswerText)
         ensures told { HasAnswer self.old.conversation self.new.conversation }
         ensures same { (self.new.joiner ≡ self.old.joiner)
             × (self.new.others ≡ self.old.others) }
@@ -272,11 +272,11 @@ impl<C: Observer, W: Log + Clock + Drop, O: Doors + Chores + Drop> Worker<C> for
         self.conversation = Some(conversation);
     }
 
-    #[tactic(auto, using(crate::proofs::Tending::tending_joined, crate::proofs::Tending::tending_refused, crate::proofs::Tending::tending_renewed))]
+    #[tactic(auto, using(crate::proofs::Tending::tending_joined, crate::proofs::Tending::tending_refused, crate::proofs::Tending::tending_asked))]
     fn turn(&mut self, caller: &mut C) -> Option<ControlEnd> {
         let Some(mut conversation) = self.conversation.take() else {
             if self.doors.see_to() {
-                return Some(ControlEnd::Renewed);
+                return Some(ControlEnd::EraAsked);
             }
             return match self.stand_by(caller) {
                 Ok(()) => None,

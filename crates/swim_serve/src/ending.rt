@@ -9,15 +9,15 @@ use swim_shell::Alarm;
 /// and the alarms of those that wait at sockets. Each of them keeps a ring that comes while nobody waits, and the next wait
 /// ends at once. So a worker whose gate saw no end waits until its ring at most, and its gate, asked again, sees the end.
 #[derive(Drop)]
-pub struct Ending<'a, A: Alarm> {
+pub struct Shutdown<'a, A: Alarm> {
     pace: &'a Pace,
     alarms: &'a [A],
 }
 
-impl<'a, A: Alarm> Ending<'a, A> {
+impl<'a, A: Alarm> Shutdown<'a, A> {
     /// Of the era that has this pace, some of whose workers wait until one of these alarms rings.
-    pub fn new(pace: &'a Pace, alarms: &'a [A]) -> Ending<'a, A> {
-        Ending { pace, alarms }
+    pub fn new(pace: &'a Pace, alarms: &'a [A]) -> Shutdown<'a, A> {
+        Shutdown { pace, alarms }
     }
 
     /// The pace of the era.

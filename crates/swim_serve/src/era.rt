@@ -11,10 +11,10 @@ ghost use Rattle.swim_serve.specs.Eras.{ByPass, NamesParts, SendsBy, Serves, Sta
 ghost use Rattle.swim_serve.specs.Works.{Received, Ticked};
 
 use crate::attending::{Attended, attend};
-use crate::beat::Beat;
+use crate::beat::TickTimer;
 use crate::chores::Chores;
 use crate::desk::Desk;
-use crate::ending::Ending;
+use crate::ending::Shutdown;
 use crate::era_counts::EraCounts;
 use crate::gates::Ringing;
 use crate::job::{Job, Left, Manned};
@@ -26,11 +26,11 @@ use std::sync::Wait;
 use std::thread::Threads;
 use std::time::Clock;
 use swim_disk::Disk;
-use swim_handle::{Board, CallerParts, Crew, Handle, Observing, Pace};
+use swim_handle::{CallerParts, Crew, Handle, Pace, SharedCounters, StatusCaller};
 use swim_member::Event;
 use swim_node::{Link, Node};
 use swim_shared::{Name, Outbox, Parts, Pass, Sender as Ring, Shared, Watch};
-use swim_shell::{Alarmed, Caller, ControlEnd, Doors, Inbound, Refusal, Sender, WorkerEnd};
+use swim_shell::{Alarmed, Caller, ControlEnd, Doors, Inbound, Refusal, SendWorker, WorkerEnd};
 
 /// The workers of an era, each with a pass of its own.
 pub const CALLERS: u8 = 4;
@@ -42,7 +42,7 @@ pub const WATCHES: u8 = 1;
 type Share<'x, N, D, R> = Handle<'x, N, D, Outbox, R, R>;
 
 /// One that is shown the status.
-type Shown<'x, N, D, R> = Observing<'x, N, D, Outbox, R, R>;
+type Shown<'x, N, D, R> = StatusCaller<'x, N, D, Outbox, R, R>;
 
 /// What the workers of a shared member call by.
 type Callers<'x, N, D, R> = Crew<
@@ -126,7 +126,7 @@ fn callers_of<'x, N: Name, D: Disk, R: Wait + Log + Clock + Drop>(
     pace: &'x Pace,
     held: &mut Held<N>,
     logs: CallLogs,
-    board: &'x Board,
+    board: &'x SharedCounters,
 ) -> Option<Callers<'x, N, D, R>>
     requires { held.old.passes.items ≡ new_passes CALLERS }
     ensures receiver { IfSome result (λ c. c.receiver ≡ record {
@@ -170,7 +170,7 @@ fn callers_of<'x, N: Name, D: Disk, R: Wait + Log + Clock + Drop>(
         ),
         ticker: Handle::new(rt, shared, pace, passes.ticker, &rows.ticker, logs.ticker),
         sender: Handle::new(rt, shared, pace, passes.sender, &rows.sender, logs.sender),
-        control: Observing::new(control, watch, board),
+        control: StatusCaller::new(control, watch, board),
     })
 }
 
@@ -215,7 +215,7 @@ fn take_apart<
     back: Came<N, I, M, R, O>,
     room: Vec<Pass<N>>,
     eras: EraCounts,
-    beat: Beat,
+    beat: TickTimer,
     expelled_ends: Option<u64>,
 ) -> Returned<N, I, M, R, O>
     ensures receiver { (result.outside.receiver ≡ back.crew.receiver.worker)
@@ -293,8 +293,8 @@ fn work<
     shared: &'x Shared<N, D, Outbox, R>,
     mut held: Held<N>,
     outside: Outside<I, M, R, O>,
-    board: &'x Board,
-    ending: &'x Ending<'x, I::Alarm>,
+    board: &'x SharedCounters,
+    ending: &'x Shutdown<'x, I::Alarm>,
 ) -> Result<Returned<N, I, M, R, O>, Refusal>
     requires passes { held.passes.items ≡ new_passes CALLERS }
     requires ring { N.link ≡ held.ring.ring }
@@ -337,7 +337,7 @@ fn work<
             caller: callers.ticker,
         },
         sender: Manned {
-            worker: Sender {
+            worker: SendWorker {
                 outgoing: RingLink::new(held.ring, link),
             },
             caller: callers.sender,
@@ -474,9 +474,9 @@ pub fn run_era<
         }
     };
     let pace = Pace::new();
-    let ending = Ending::new(&pace, alarms);
+    let ending = Shutdown::new(&pace, alarms);
     let desk = &outside.desk;
-    let board = Board::new(
+    let board = SharedCounters::new(
         outside.eras.counts(),
         &outside.logs,
         desk.identity(),

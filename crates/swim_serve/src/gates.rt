@@ -1,7 +1,7 @@
 //! How fast the workers turn. All but the sender ring a bell between two turns, and the sender rests until it rings, so that
 //! what a call put into the outbox goes out at once and nobody spins.
 
-use crate::beat::Beat;
+use crate::beat::TickTimer;
 use std::sync::Wait;
 use std::time::Clock;
 use swim_handle::Pace;
@@ -39,12 +39,12 @@ impl<'a> Gate for Ringing<'a> {
 pub struct Pacing<'a, R: Wait + Clock> {
     rt: &'a R,
     pace: &'a Pace,
-    beat: &'a mut Beat,
+    beat: &'a mut TickTimer,
 }
 
 impl<'a, R: Wait + Clock> Pacing<'a, R> {
     /// A gate that rings once a tick.
-    pub fn new(rt: &'a R, pace: &'a Pace, beat: &'a mut Beat) -> Pacing<'a, R> {
+    pub fn new(rt: &'a R, pace: &'a Pace, beat: &'a mut TickTimer) -> Pacing<'a, R> {
         Pacing { rt, pace, beat }
     }
 }

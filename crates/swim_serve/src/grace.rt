@@ -5,7 +5,7 @@ ghost use Rattle.swim_member.specs.declared.state.Phase.TheVariants as phases;
 ghost use Rattle.swim_serve.specs.Faults.{fault_of};
 ghost use Rattle.swim_serve.specs.Members.{EndsMember, FailsMember, end_by_phase, member_end};
 
-use crate::beat::Beat;
+use crate::beat::TickTimer;
 use crate::chores::Chores;
 use crate::era::EraEnds;
 use crate::expulsion::Expulsion;
@@ -34,7 +34,7 @@ pub enum MemberEnd {
 }
 
 /// Whether the wait of a member that is expelled is over, after an era of this beat. If it is not, the next era ends then.
-fn is_wait_over(expulsion: &mut Expulsion, beat: &mut Beat, phase: Phase) -> bool
+fn is_wait_over(expulsion: &mut Expulsion, beat: &mut TickTimer, phase: Phase) -> bool
     requires { IsSome expulsion.old.end_at → IsSome expulsion.old.wait }
     ensures wait { expulsion.new.wait ≡ expulsion.old.wait }
     ensures ends { IsTrue result → IsSome expulsion.old.wait }

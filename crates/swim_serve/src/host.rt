@@ -9,9 +9,9 @@ use arrayvec::ArrayVec;
 use log::Log;
 use std::time::Clock;
 use swim_node::Link;
-use swim_recorder::{Keeper, Unkept};
+use swim_record::{Keeper, Unkept};
 use swim_shell::{
-    Answer, ControlEnd, Doors, Inbound, LIST_MAX, Paces, SETTINGS_REFUSED, answer_of,
+    AnswerText, ControlEnd, Doors, Inbound, LIST_MAX, Paces, SETTINGS_REFUSED, answer_of,
 };
 use swim_state::Peers;
 use swim_wire::Endpoint;
@@ -33,7 +33,7 @@ pub trait Host: Keeper {
     ghost relists: { Type 0 };
 
     /// Reads the settings again, and gives the answer to the line that asked for it.
-    fn reload(&mut self) -> Answer
+    fn reload(&mut self) -> AnswerText
         ensures { Self.given self.new ≡ Self.given self.old };
 
     /// Whom the member joins from now on, and how often it does what, where that is to change. These peers stand in its state file.
@@ -47,7 +47,7 @@ impl Host for Unkept {
 
     ghost relists = { ⊥ };
 
-    fn reload(&mut self) -> Answer {
+    fn reload(&mut self) -> AnswerText {
         answer_of(SETTINGS_REFUSED)
     }
 

@@ -1,6 +1,6 @@
 //! A worker with all that it works with.
 
-use crate::ending::Ending;
+use crate::ending::Shutdown;
 use crate::threads::Work;
 use std::sync::Wait;
 use swim_handle::IntoParts;
@@ -18,7 +18,7 @@ pub struct Job<'a, W: Wait, C: IntoParts + Drop, K: Worker<C> + Drop, G: Gate + 
     /// What is asked before each of its turns.
     pub gate: G,
     /// What ends all others.
-    pub ending: &'a Ending<'a, M>,
+    pub ending: &'a Shutdown<'a, M>,
 }
 
 /// A worker, and by whom it calls.

@@ -6,7 +6,7 @@ ghost use Rattle.swim_shell.specs.Inbounds.{receiver_of};
 ghost use Rattle.swim_serve.specs.EraCounts.{with_era};
 ghost use Rattle.swim_serve.specs.Views.{link_of};
 
-use crate::beat::Beat;
+use crate::beat::TickTimer;
 use crate::chores::Chores;
 use crate::desk::Desk;
 use crate::era_counts::EraCounts;
@@ -56,7 +56,7 @@ pub struct Outside<
     /// The losses that no call has told.
     pub(crate) owed: u32,
     /// When ticks are due.
-    pub(crate) beat: Beat,
+    pub(crate) beat: TickTimer,
     /// For how many ticks the member waits before it ends once it is expelled; none if it is to stay.
     pub(crate) expelled_ends: Option<u64>,
 }
@@ -91,7 +91,7 @@ fn new_logs(me: Endpoint, rules: Rules, number: u64) -> CallLogs {
 
 /// By what a life of a member goes that begins.
 #[derive(Drop)]
-pub struct Setup {
+pub struct LifeSetup {
     /// The settings by which it was opened.
     pub settings: Settings,
     /// The number with which the life begins: that of `Node::first`.
@@ -133,7 +133,7 @@ impl<I: Inbound + Drop, M: Link + Drop, R: Log + Clock + Drop, O: Doors + Chores
     pub fn new(
         alloc: Global,
         rt: R,
-        setup: Setup,
+        setup: LifeSetup,
         inbound: I,
         link: M,
         doors: O,
@@ -152,7 +152,7 @@ impl<I: Inbound + Drop, M: Link + Drop, R: Log + Clock + Drop, O: Doors + Chores
         ensures owed { IfOk result (λ o. o.owed ≡ 0) }
         ensures expelled { IfOk result (λ o. o.expelled_ends ≡ setup.expelled_ends) }
     {
-        let Setup {
+        let LifeSetup {
             settings,
             number,
             tick,
@@ -176,7 +176,7 @@ impl<I: Inbound + Drop, M: Link + Drop, R: Log + Clock + Drop, O: Doors + Chores
             logs: new_logs(me, rules, number),
             eras: EraCounts::new(),
             owed: 0,
-            beat: Beat::new(tick, first_end),
+            beat: TickTimer::new(tick, first_end),
             expelled_ends,
         })
     }

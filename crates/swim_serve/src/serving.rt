@@ -4,7 +4,7 @@ ghost use Rattle.std.specs.Prelude.{◌≡◌, ◌∷◌, [], ◌++◌, None, fa
 ghost use Rattle.swim_node.specs.History.{granted_of};
 ghost use Rattle.swim_node.specs.Lives.{EndsEra, Era, GoesOn, IsRaised};
 ghost use Rattle.swim_node.specs.Node.{next_base};
-ghost use Rattle.swim_recorder.specs.Handing.{begun_at, recorded};
+ghost use Rattle.swim_record.specs.Handing.{begun_at, recorded};
 ghost use Rattle.swim_state.specs.Held.{Covers, Through};
 ghost use Rattle.swim_serve.specs.EraCounts.{number_saves};
 ghost use Rattle.swim_serve.specs.Faults.{fault_of};
@@ -27,7 +27,7 @@ use std::thread::Threads;
 use std::time::Clock;
 use swim_disk::Disk;
 use swim_node::{Link, Node};
-use swim_recorder::{BegunEra, Keeper, Unkept, begin, hand_over};
+use swim_record::{BegunEra, Keeper, Unkept, begin, hand_over};
 use swim_shared::{Outbox, Parts, Sender as Ring};
 use swim_shell::{Alarmed, Doors, Inbound, Refusal};
 

@@ -2,7 +2,7 @@
 
 ghost use Rattle.std.specs.Prelude.{◌≡◌, IfNone, IfSome, IsSome, IsSomeAnd};
 
-use crate::ending::Ending;
+use crate::ending::Shutdown;
 use std::snapshot::Snapshot;
 use std::sync::Wait;
 use std::thread::{self, Promise, PromisedHandle, Scope, Threads};
@@ -48,7 +48,7 @@ type Thread<K> = PromisedHandle<<K as Work>::Done, Does<K>>;
 /// before its first turn: so what it works with comes back, to stand here.
 fn start<'s, X, K: Work<Done: Send + Drop + 's> + Send + Drop + 's, M: Alarm>(
     scope: &Scope<'s, X>,
-    ending: &Ending<M>,
+    ending: &Shutdown<M>,
     spare: &mut Option<K::Done>,
     work: K,
 ) -> Option<Thread<K>>
@@ -93,7 +93,7 @@ pub fn serve<
     B: Work<Done: Send + Drop> + Send + Drop,
     S: Work<Done: Send + Drop> + Send + Drop,
     C: Work<Done: Drop> + Drop,
->(rt: &T, ending: &Ending<M>, crew: Crew<A, B, S, C>) -> Back<A::Done, B::Done, S::Done, C::Done>
+>(rt: &T, ending: &Shutdown<M>, crew: Crew<A, B, S, C>) -> Back<A::Done, B::Done, S::Done, C::Done>
     ensures receiver { A.does crew.receiver result.crew.receiver }
     ensures ticker { B.does crew.ticker result.crew.ticker }
     ensures sender { S.does crew.sender result.crew.sender }

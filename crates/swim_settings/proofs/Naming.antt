@@ -25,8 +25,8 @@ use Rattle.swim_settings.specs.declared.level.TheConstants.Level.{ALL as LEVELS}
 use Rattle.swim_settings.specs.declared.preset.Preset.{Preset}
 use Rattle.swim_settings.specs.declared.preset.Preset.TheVariants as preset
 use Rattle.swim_settings.specs.declared.preset.TheConstants.Preset.{ALL as PRESETS}
-use Rattle.swim_settings.specs.declared.refusal.Refusal.{Refusal}
-use Rattle.swim_settings.specs.declared.refusal.Refusal.TheVariants as refusals
+use Rattle.swim_settings.specs.declared.refusal.SettingsRefusal.{SettingsRefusal}
+use Rattle.swim_settings.specs.declared.refusal.SettingsRefusal.TheVariants as refusals
 use Rattle.swim_settings.specs.declared.settings.RunSettings.{RunSettings}
 use Rattle.swim_settings.specs.Keys.{key_text, keys}
 use Rattle.swim_settings.specs.Says.{IsReason, IsWordAt, Says, text_at}
@@ -106,7 +106,7 @@ first_unknown text_of keys table left rest name told is same unknown (before, na
 }
 
 -- so the text that was refused for it is refused with reason
-pub unknown_is_reason : (text : List ℕ) (table : Members) (run : RunSettings) (refusal : Refusal) → parse_document text ≡ Some table → Says table run → IsOfUnknown key_text keys table refusal → IsReason text refusal
+pub unknown_is_reason : (text : List ℕ) (table : Members) (run : RunSettings) (refusal : SettingsRefusal) → parse_document text ≡ Some table → Says table run → IsOfUnknown key_text keys table refusal → IsReason text refusal
 unknown_is_reason text table run refusals.Memory parsed says is = tt
 unknown_is_reason text table run refusals.Toml parsed says is = absurd is
 unknown_is_reason text table run (refusals.Key key) parsed says is = absurd is

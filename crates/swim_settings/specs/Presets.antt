@@ -2,7 +2,7 @@
 use Rattle.std.specs.Prelude.{ℕ, List, codes, Option, Some, None}
 use Rattle.swim_settings.specs.declared.preset.Preset.{Preset}
 use Rattle.swim_settings.specs.declared.preset.Preset.TheVariants.{Local, Lan, Wan}
-use Rattle.swim_settings.specs.declared.preset.Times.{Times}
+use Rattle.swim_settings.specs.declared.preset.PresetTimes.{PresetTimes}
 
 -- the preset as a file has it
 abbrev pub preset_text : Preset → List ℕ
@@ -11,7 +11,7 @@ preset_text Lan = codes "lan"
 preset_text Wan = codes "wan"
 
 -- what stands in the place of the keys that a file has not, by its preset
-abbrev pub times_of : Option Preset → Times
+abbrev pub times_of : Option Preset → PresetTimes
 times_of None = record {
   tick_ms = 100;
   lambda = 3;

@@ -22,14 +22,14 @@ use Rattle.swim_settings.specs.declared.key.Key.TheVariants.{Expelled, Record, R
 use Rattle.swim_member.specs.declared.settings.TheConstants.{HELPERS_MAX, BLOCK_MAX}
 use Rattle.swim_member.specs.declared.settings.Settings.{Settings}
 use Rattle.swim_settings.specs.declared.level.Level.{Level}
-use Rattle.swim_settings.specs.declared.refusal.Refusal.{Refusal}
-use Rattle.swim_settings.specs.declared.refusal.Refusal.TheVariants as refusals
+use Rattle.swim_settings.specs.declared.refusal.SettingsRefusal.{SettingsRefusal}
+use Rattle.swim_settings.specs.declared.refusal.SettingsRefusal.TheVariants as refusals
 use Rattle.swim_settings.specs.declared.settings.RunSettings.{RunSettings}
 use Rattle.swim_settings.specs.declared.settings.TheConstants.{JOIN_MAX}
 use Rattle.swim_settings.specs.declared.place.Place.{Place}
 use Rattle.swim_settings.specs.declared.place.Place.TheVariants as place
 use Rattle.swim_settings.specs.declared.preset.Preset.{Preset}
-use Rattle.swim_settings.specs.declared.preset.Times.{Times}
+use Rattle.swim_settings.specs.declared.preset.PresetTimes.{PresetTimes}
 use Rattle.swim_settings.specs.Keys.{key_text, keys, keys_before}
 use Rattle.swim_settings.specs.Levels.{level_text}
 use Rattle.swim_settings.specs.Presets.{preset_text, times_of}
@@ -118,13 +118,13 @@ abbrev pub IsLevel : Members → Option Level → Type 0
 IsLevel = IsWordAt level_text key.Log
 
 -- the times of the preset there, or the usual ones
-abbrev pub AreTimes : Members → Times → Type 0
+abbrev pub AreTimes : Members → PresetTimes → Type 0
 AreTimes table times =
     (preset : Option Preset) × IsPreset table preset × (times ≡ times_of preset)
 
 -- the table says these settings of the member, with these times in the place of its own ones; its
 -- group, endpoint, block and rules aside
-pub record SaysMember (times : Times) (table : Members) (settings : Settings) : Type 0 where
+pub record SaysMember (times : PresetTimes) (table : Members) (settings : Settings) : Type 0 where
   pub lambda : IsNumber Lambda times.lambda table settings.lambda
   pub period : IsNumber Period times.period table settings.period
   pub direct : IsNumber Direct times.direct table settings.direct
@@ -163,14 +163,15 @@ abbrev pub IsWithin : Key → ℕ → ℕ → ℕ → Members → ℕ → Type 0
 IsWithin key default least most table n = IsNumber key default table n × (least ≤ n) × (n ≤ most)
 
 -- the number there, or that of the table's preset, from the least to the most
-abbrev pub IsTime : Key → (Times → ℕ) → ℕ → ℕ → Members → Type 0
+abbrev pub IsTime : Key → (PresetTimes → ℕ) → ℕ → ℕ → Members → Type 0
 IsTime key usual least most table =
-    (times : Times) × (n : ℕ) × AreTimes table times × IsWithin key (usual times) least most table n
+    (times : PresetTimes) × (n : ℕ) × AreTimes table times
+    × IsWithin key (usual times) least most table n
 
 -- neither is the number there, nor that of the table's preset, from the least to the most
-abbrev pub IsNoTime : Key → (Times → ℕ) → ℕ → ℕ → Members → Type 0
+abbrev pub IsNoTime : Key → (PresetTimes → ℕ) → ℕ → ℕ → Members → Type 0
 IsNoTime key usual least most table =
-    (times : Times) × AreTimes table times × No (IsWithin key (usual times) least most table)
+    (times : PresetTimes) × AreTimes table times × No (IsWithin key (usual times) least most table)
 
 -- the table has nothing at the key that the key takes
 abbrev pub IsRefused : Key → Members → Type 0
@@ -183,7 +184,7 @@ IsRefused TickMs table = IsNoTime TickMs (λ times. times.tick_ms) 1 60000 table
 IsRefused Lambda table = IsNoTime Lambda (λ times. times.lambda) 1 16 table
 IsRefused Period table = IsNoTime Period (λ times. times.period) 2 1000 table
 IsRefused Direct table =
-    (times : Times) × (period : ℕ) × AreTimes table times
+    (times : PresetTimes) × (period : ℕ) × AreTimes table times
     × IsNumber Period times.period table period
     × No (IsWithin Direct times.direct 1 (period - 1) table)
 IsRefused Suspect table = IsNoTime Suspect (λ times. times.suspect) 1 100000 table
@@ -202,7 +203,7 @@ IsRefused RecordEras table = No (IsWithin RecordEras 8 1 1000 table)
 IsRefused key.Log table = No (IsLevel table)
 
 -- the refusal is of the text, which is no TOML, or memory ran out
-abbrev pub IsOfText : List ℕ → Refusal → Type 0
+abbrev pub IsOfText : List ℕ → SettingsRefusal → Type 0
 IsOfText text refusals.Memory = Unit
 IsOfText text refusals.Toml = IsUtf8 text → parse_document text ≡ None
 IsOfText text _ = ⊥
@@ -218,7 +219,7 @@ IsTaken TickMs table = IsTime TickMs (λ times. times.tick_ms) 1 60000 table
 IsTaken Lambda table = IsTime Lambda (λ times. times.lambda) 1 16 table
 IsTaken Period table = IsTime Period (λ times. times.period) 2 1000 table
 IsTaken Direct table =
-    (times : Times) × (period n : ℕ) × AreTimes table times
+    (times : PresetTimes) × (period n : ℕ) × AreTimes table times
     × IsNumber Period times.period table period
     × IsWithin Direct times.direct 1 (period - 1) table n
 IsTaken Suspect table = IsTime Suspect (λ times. times.suspect) 1 100000 table
@@ -245,14 +246,14 @@ abbrev pub IsFirst : Key → Members → Type 0
 IsFirst key table = AreTakenBefore key table × IsRefused key table
 
 -- the refusal is of the first key that is refused, or memory ran out
-abbrev pub IsOfKey : Members → Refusal → Type 0
+abbrev pub IsOfKey : Members → SettingsRefusal → Type 0
 IsOfKey table refusals.Memory = Unit
 IsOfKey table (refusals.Key key) = IsFirst key table
 IsOfKey table _ = ⊥
 
 -- the text is refused with reason: it is no TOML, its table has a value that its key does not
 -- take, or it says settings, but has a key that no settings file has. Or memory ran out
-abbrev pub IsReason : List ℕ → Refusal → Type 0
+abbrev pub IsReason : List ℕ → SettingsRefusal → Type 0
 IsReason text refusals.Memory = Unit
 IsReason text refusals.Toml = IsUtf8 text → parse_document text ≡ None
 IsReason text (refusals.Key key) =

@@ -1,8 +1,8 @@
 -- Keys of a table that no file of its kind has.
 use Rattle.std.specs.Prelude.{◌≡◌, ◌≢◌, ℕ, List, [], ◌∷◌, ◌++◌, All, Contains, string_bytes}
 use Rattle.toml.specs.Data.{Members, no_members, member}
-use Rattle.swim_settings.specs.declared.refusal.Refusal.{Refusal}
-use Rattle.swim_settings.specs.declared.refusal.Refusal.TheVariants as refusals
+use Rattle.swim_settings.specs.declared.refusal.SettingsRefusal.{SettingsRefusal}
+use Rattle.swim_settings.specs.declared.refusal.SettingsRefusal.TheVariants as refusals
 
 -- the keys of a table, in their order
 abbrev pub table_names : Members → List (List ℕ)
@@ -27,7 +27,8 @@ pub record IsFirstUnknown {K : Type 0} (text_of : K → List ℕ) (keys : List K
   pub unknown : All (λ key. name ≢ text_of key) keys
 
 -- the refusal is of the first name that no key has, or memory ran out
-abbrev pub IsOfUnknown : {K : Type 0} → (text_of : K → List ℕ) → List K → Members → Refusal → Type 0
+abbrev pub IsOfUnknown : {K : Type 0} → (text_of : K → List ℕ) → List K → Members → SettingsRefusal
+    → Type 0
 IsOfUnknown text_of keys table refusals.Memory = Unit
 IsOfUnknown text_of keys table (refusals.Unknown name) =
     IsFirstUnknown text_of keys table (string_bytes name)

@@ -1,7 +1,7 @@
 //! Why settings are refused.
 
 ghost use Rattle.std.specs.Prelude.{◌≡◌};
-ghost use Rattle.swim_settings.specs.declared.refusal.Refusal.TheVariants as refusals;
+ghost use Rattle.swim_settings.specs.declared.refusal.SettingsRefusal.TheVariants as refusals;
 
 use crate::key::Key;
 use std::alloc::AllocError;
@@ -9,7 +9,7 @@ use std::{error, fmt};
 
 /// Why settings are refused. It prints what `swim: settings refused` names, always on one line.
 #[derive(Debug, PartialEq, Eq, Drop)]
-pub enum Refusal {
+pub enum SettingsRefusal {
     /// Memory ran out.
     Memory,
     /// The bytes are no TOML.
@@ -20,11 +20,11 @@ pub enum Refusal {
     Unknown(String),
 }
 
-impl From<AllocError> for Refusal {
+impl From<AllocError> for SettingsRefusal {
     ghost from_gives = { λ _ refusal. refusal ≡ refusals.Memory };
 
-    fn from(_: AllocError) -> Refusal {
-        Refusal::Memory
+    fn from(_: AllocError) -> SettingsRefusal {
+        SettingsRefusal::Memory
     }
 }
 
@@ -36,17 +36,17 @@ fn is_bare(key: &str) -> bool {
             || *byte == b'-')
 }
 
-impl fmt::Display for Refusal {
+impl fmt::Display for SettingsRefusal {
     /// The key; one that TOML does not take without quotes is quoted and escaped.
     fn fmt<W: fmt::Write>(&self, f: &mut fmt::Formatter<W>) -> fmt::Result {
         match self {
-            Refusal::Memory => write!(f, "memory"),
-            Refusal::Toml => write!(f, "toml"),
-            Refusal::Key(key) => write!(f, "{key}"),
-            Refusal::Unknown(key) if is_bare(key.as_str()) => write!(f, "{key}"),
-            Refusal::Unknown(key) => write!(f, "{key:?}"),
+            SettingsRefusal::Memory => write!(f, "memory"),
+            SettingsRefusal::Toml => write!(f, "toml"),
+            SettingsRefusal::Key(key) => write!(f, "{key}"),
+            SettingsRefusal::Unknown(key) if is_bare(key.as_str()) => write!(f, "{key}"),
+            SettingsRefusal::Unknown(key) => write!(f, "{key:?}"),
         }
     }
 }
 
-impl error::Error for Refusal {}
+impl error::Error for SettingsRefusal {}

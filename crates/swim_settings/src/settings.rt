@@ -14,8 +14,8 @@ ghost use Rattle.swim_settings.specs.declared.key.Key.TheVariants as key;
 use crate::key::Key;
 use crate::level::Level;
 use crate::place::Place;
-use crate::preset::{Preset, Times};
-use crate::refusal::Refusal;
+use crate::preset::{Preset, PresetTimes};
+use crate::refusal::SettingsRefusal;
 use crate::table::{read_table, refuse_unknown};
 use crate::value::{
     has_key, read_bytes, read_choice, read_endpoint_at, read_folder, read_number, read_places,
@@ -67,7 +67,12 @@ pub struct RunSettings {
 
 /// What the member is told, with this group and endpoint, these times where the table has no others, and a block of 1 and
 /// rules 1: their keys come later.
-fn read_member(table: &Table, group: u64, me: Endpoint, times: Times) -> Result<Settings, Refusal>
+fn read_member(
+    table: &Table,
+    group: u64,
+    me: Endpoint,
+    times: PresetTimes,
+) -> Result<Settings, SettingsRefusal>
     requires taken { AreTakenBefore key.Lambda (table_view table.now) }
     requires times { AreTimes (table_view table.now) times }
     ensures sound { IfOk result AreSound }
@@ -97,7 +102,7 @@ fn read_member(table: &Table, group: u64, me: Endpoint, times: Times) -> Result<
 }
 
 /// The member's settings with the block and the rules of the table.
-fn read_block_and_rules(table: &Table, member: Settings) -> Result<Settings, Refusal>
+fn read_block_and_rules(table: &Table, member: Settings) -> Result<Settings, SettingsRefusal>
     requires taken { AreTakenBefore key.Block (table_view table.now) }
     requires sound { AreSound member }
     ensures sound { IfOk result AreSound }
@@ -118,7 +123,7 @@ fn read_block_and_rules(table: &Table, member: Settings) -> Result<Settings, Ref
 }
 
 /// The folder of the recordings, if there is one, and how many are kept there.
-fn read_recording(alloc: Global, table: &Table) -> Result<(Option<String>, u64), Refusal>
+fn read_recording(alloc: Global, table: &Table) -> Result<(Option<String>, u64), SettingsRefusal>
     requires { AreTakenBefore key.Record (table_view table.now) }
     ensures folder { IfOk result (λ told.
         IsFolder key.Record (table_view table.now) (option_map string_bytes told.0)) }
@@ -137,7 +142,7 @@ fn read_recording(alloc: Global, table: &Table) -> Result<(Option<String>, u64),
 }
 
 /// The settings of a table, where each key has a value that it takes.
-fn read_keys(alloc: Global, table: &Table) -> Result<RunSettings, Refusal>
+fn read_keys(alloc: Global, table: &Table) -> Result<RunSettings, SettingsRefusal>
     ensures range { IfOk result AreInRange }
     ensures said { IfOk result (Says (table_view table.now)) }
     ensures refused { IfErr result (IsOfKey (table_view table.now)) }
@@ -147,7 +152,7 @@ fn read_keys(alloc: Global, table: &Table) -> Result<RunSettings, Refusal>
     let me = read_endpoint_at(table, Key::Me)?;
     let control = read_endpoint_at(table, Key::Control)?;
     let preset = read_word(table, Key::Preset, &Preset::ALL)?;
-    let times = Times::of(preset);
+    let times = PresetTimes::of(preset);
     let tick_ms = read_within(table, Key::TickMs, times.tick_ms, 1, 60_000)?;
     let member = read_member(table, group, me, times)?;
     let limit = read_within(table, Key::Limit, 4096, 1, 65_536)?;
@@ -179,7 +184,7 @@ fn read_keys(alloc: Global, table: &Table) -> Result<RunSettings, Refusal>
 }
 
 /// The settings that the bytes of a file say.
-pub fn read_settings(alloc: Global, bytes: &[u8]) -> Result<RunSettings, Refusal>
+pub fn read_settings(alloc: Global, bytes: &[u8]) -> Result<RunSettings, SettingsRefusal>
     ensures range { IfOk result AreInRange }
     ensures said { IfOk result (λ run. (table : Members) × (parse_document bytes.now ≡ Some table)
         × Says table run × AreNamed key_text keys table) }

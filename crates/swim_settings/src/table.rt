@@ -8,31 +8,35 @@ ghost use Rattle.toml.specs.View.{view, table_view};
 ghost use Rattle.swim_settings.specs.Says.{natural_of, IsOfText};
 ghost use Rattle.swim_settings.specs.Unknown.{AreNamed, IsOfUnknown};
 
-use crate::refusal::Refusal;
+use crate::refusal::SettingsRefusal;
 use std::alloc::Global;
 use swim_words::{Word, named};
 use toml::{Table, Value};
 
 /// The bytes as a TOML table.
-pub fn read_table(alloc: Global, bytes: &[u8]) -> Result<Table, Refusal>
+pub fn read_table(alloc: Global, bytes: &[u8]) -> Result<Table, SettingsRefusal>
     ensures table { IfOk result (λ table. parse_document bytes.now ≡ Some (table_view table)) }
     ensures refused { IfErr result (IsOfText bytes.now) }
 {
     match toml::table_from_slice(alloc, bytes) {
         Ok(table) => Ok(table),
-        Err(error) if error.is_memory() => Err(Refusal::Memory),
-        Err(_) => Err(Refusal::Toml),
+        Err(error) if error.is_memory() => Err(SettingsRefusal::Memory),
+        Err(_) => Err(SettingsRefusal::Toml),
     }
 }
 
 /// Refuses a key that none of these words is; of several the least, by its bytes.
-pub fn refuse_unknown<K: Word>(alloc: Global, keys: &[K], table: &Table) -> Result<(), Refusal>
+pub fn refuse_unknown<K: Word>(
+    alloc: Global,
+    keys: &[K],
+    table: &Table,
+) -> Result<(), SettingsRefusal>
     ensures named { IfOk result (λ _. AreNamed K.text_of keys.now (table_view table.now)) }
     ensures unknown { IfErr result (IsOfUnknown K.text_of keys.now (table_view table.now)) }
 {
     for name in table.keys() {
         if named(keys, name.as_str().as_bytes()).is_none() {
-            return Err(Refusal::Unknown(String::from_str(alloc, name.as_str())?));
+            return Err(SettingsRefusal::Unknown(String::from_str(alloc, name.as_str())?));
         }
     }
     Ok(())

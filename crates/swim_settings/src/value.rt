@@ -8,11 +8,11 @@ ghost use Rattle.toml.specs.View.{view, items_view, table_view};
 ghost use Rattle.swim_wire.specs.Numbers.{IsEndpoint};
 ghost use Rattle.swim_words.specs.Words.{endpoint_text, No};
 ghost use Rattle.swim_settings.specs.Says.{value_at, text_at, number_at, IsNumber, IsWithin, IsEndpointAt, IsChoice, IsFolder, IsPlace, IsWordAt, AreBytes, AreTexts, ArePlaces};
-ghost use Rattle.swim_settings.specs.declared.refusal.Refusal.TheVariants as refusals;
+ghost use Rattle.swim_settings.specs.declared.refusal.SettingsRefusal.TheVariants as refusals;
 
 use crate::key::Key;
 use crate::place::{Place, as_place};
-use crate::refusal::Refusal;
+use crate::refusal::SettingsRefusal;
 use crate::table::as_number;
 use arrayvec::ArrayVec;
 use hex::FromHex;
@@ -78,14 +78,14 @@ pub(crate) fn has_key(table: &Table, key: Key) -> bool
 }
 
 /// The text at a key that has to be there.
-pub(crate) fn read_text(table: &Table, key: Key) -> Result<&str, Refusal>
+pub(crate) fn read_text(table: &Table, key: Key) -> Result<&str, SettingsRefusal>
     ensures text { IfOk result (λ text. text_at key (table_view table.now) ≡ Some text.now) }
     ensures none { IfErr result (λ refusal. (refusal ≡ refusals.Key key)
         × (text_at key (table_view table.now) ≡ None)) }
 {
     match find(table, key) {
-        Some(value) => value.as_str().ok_or(Refusal::Key(key)),
-        None => Err(Refusal::Key(key)),
+        Some(value) => value.as_str().ok_or(SettingsRefusal::Key(key)),
+        None => Err(SettingsRefusal::Key(key)),
     }
 }
 
@@ -96,7 +96,7 @@ pub(crate) fn read_choice(
     key: Key,
     usual: &str,
     other: &str,
-) -> Result<bool, Refusal>
+) -> Result<bool, SettingsRefusal>
     ensures choice { IfOk result (IsChoice key usual.now other.now (table_view table.now)) }
     ensures none { IfErr result (λ refusal. (refusal ≡ refusals.Key key)
         × No (IsChoice key usual.now other.now (table_view table.now))) }
@@ -110,12 +110,12 @@ pub(crate) fn read_choice(
     } else if text == usual {
         Ok(false)
     } else {
-        Err(Refusal::Key(key))
+        Err(SettingsRefusal::Key(key))
     }
 }
 
 /// The folder at a key, which has to have a name; none where the key isn't there.
-pub(crate) fn read_folder(table: &Table, key: Key) -> Result<Option<&str>, Refusal>
+pub(crate) fn read_folder(table: &Table, key: Key) -> Result<Option<&str>, SettingsRefusal>
     ensures folder { IfOk result (λ folder.
         IsFolder key (table_view table.now) (option_map (λ f. f.now) folder)) }
     ensures none { IfErr result (λ refusal. (refusal ≡ refusals.Key key)
@@ -126,13 +126,17 @@ pub(crate) fn read_folder(table: &Table, key: Key) -> Result<Option<&str>, Refus
     }
     let text = read_text(table, key)?;
     if text.is_empty() {
-        return Err(Refusal::Key(key));
+        return Err(SettingsRefusal::Key(key));
     }
     Ok(Some(text))
 }
 
 /// The value, of all that have a word, whose word stands at a key; none where the key isn't there.
-pub(crate) fn read_word<W: Word>(table: &Table, key: Key, words: &[W]) -> Result<Option<W>, Refusal>
+pub(crate) fn read_word<W: Word>(
+    table: &Table,
+    key: Key,
+    words: &[W],
+) -> Result<Option<W>, SettingsRefusal>
     requires all { (word : W) → Contains words.now word }
     ensures word { IfOk result (IsWordAt W.text_of key (table_view table.now)) }
     ensures none { IfErr result (λ refusal. (refusal ≡ refusals.Key key)
@@ -144,33 +148,33 @@ pub(crate) fn read_word<W: Word>(table: &Table, key: Key, words: &[W]) -> Result
     let text = read_text(table, key)?;
     match named(words, text.as_bytes()) {
         Some(word) => Ok(Some(word)),
-        None => Err(Refusal::Key(key)),
+        None => Err(SettingsRefusal::Key(key)),
     }
 }
 
 /// The endpoint at a key that has to be there.
-pub(crate) fn read_endpoint_at(table: &Table, key: Key) -> Result<Endpoint, Refusal>
+pub(crate) fn read_endpoint_at(table: &Table, key: Key) -> Result<Endpoint, SettingsRefusal>
     ensures endpoint { IfOk result (λ e. text_at key (table_view table.now)
         ≡ Some (endpoint_text e)) }
     ensures none { IfErr result (λ refusal. (refusal ≡ refusals.Key key)
         × No (IsEndpointAt key (table_view table.now))) }
 {
     match find(table, key) {
-        Some(value) => as_endpoint(value).ok_or(Refusal::Key(key)),
-        None => Err(Refusal::Key(key)),
+        Some(value) => as_endpoint(value).ok_or(SettingsRefusal::Key(key)),
+        None => Err(SettingsRefusal::Key(key)),
     }
 }
 
 /// The number at a key that has to be there.
-pub(crate) fn read_number(table: &Table, key: Key) -> Result<u64, Refusal>
+pub(crate) fn read_number(table: &Table, key: Key) -> Result<u64, SettingsRefusal>
     ensures number { IfOk result (λ number. number_at key (table_view table.now) ≡ Some number) }
     ensures none { IfErr result (λ refusal. (refusal ≡ refusals.Key key)
         × (number_at key (table_view table.now) ≡ None)) }
     ensures high { IfOk result (λ number. number < 2 ^ 63) }
 {
     match find(table, key) {
-        Some(value) => as_number(value).ok_or(Refusal::Key(key)),
-        None => Err(Refusal::Key(key)),
+        Some(value) => as_number(value).ok_or(SettingsRefusal::Key(key)),
+        None => Err(SettingsRefusal::Key(key)),
     }
 }
 
@@ -181,7 +185,7 @@ pub(crate) fn read_within(
     default: u64,
     least: u64,
     most: u64,
-) -> Result<u64, Refusal>
+) -> Result<u64, SettingsRefusal>
     ensures number { IfOk result (IsNumber key default (table_view table.now)) }
     ensures range { IfOk result (λ number. (least ≤ number) × (number ≤ most)) }
     ensures none { IfErr result (λ refusal. (refusal ≡ refusals.Key key)
@@ -192,13 +196,13 @@ pub(crate) fn read_within(
         None => default,
     };
     if number < least || most < number {
-        return Err(Refusal::Key(key));
+        return Err(SettingsRefusal::Key(key));
     }
     Ok(number)
 }
 
 /// The bytes that hex digits spell at a key; none where the key isn't there.
-pub(crate) fn read_bytes(table: &Table, key: Key) -> Result<Option<[u8; 32]>, Refusal>
+pub(crate) fn read_bytes(table: &Table, key: Key) -> Result<Option<[u8; 32]>, SettingsRefusal>
     ensures bytes { IfOk result (AreBytes key (table_view table.now)) }
     ensures none { IfErr result (λ refusal. (refusal ≡ refusals.Key key)
         × No (AreBytes key (table_view table.now))) }
@@ -206,7 +210,7 @@ pub(crate) fn read_bytes(table: &Table, key: Key) -> Result<Option<[u8; 32]>, Re
     match find(table, key) {
         Some(value) => match as_bytes(value) {
             Some(bytes) => Ok(Some(bytes)),
-            None => Err(Refusal::Key(key)),
+            None => Err(SettingsRefusal::Key(key)),
         },
         None => Ok(None),
     }
@@ -216,7 +220,7 @@ pub(crate) fn read_bytes(table: &Table, key: Key) -> Result<Option<[u8; 32]>, Re
 pub(crate) fn read_places<const N: usize>(
     table: &Table,
     key: Key,
-) -> Result<ArrayVec<Place, N>, Refusal>
+) -> Result<ArrayVec<Place, N>, SettingsRefusal>
     ensures places { IfOk result (λ ps. ArePlaces N key (table_view table.now) ps.items) }
     ensures none { IfErr result (λ refusal. (refusal ≡ refusals.Key key)
         × No (ArePlaces N key (table_view table.now))) }
@@ -225,7 +229,7 @@ pub(crate) fn read_places<const N: usize>(
         return Ok(ArrayVec::new());
     };
     match value.as_array() {
-        Some(items) => places_in(items.as_slice()).ok_or(Refusal::Key(key)),
-        None => Err(Refusal::Key(key)),
+        Some(items) => places_in(items.as_slice()).ok_or(SettingsRefusal::Key(key)),
+        None => Err(SettingsRefusal::Key(key)),
     }
 }

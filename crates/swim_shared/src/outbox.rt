@@ -37,7 +37,7 @@ impl Model for Outbox {
 
 impl Outbox {
     /// A ring with 1 to 4,096 places, a datagram in each, and the sender that empties it. It
-    /// answers AllocError where there is no memory for the places.
+    /// answers `AllocError` where there is no memory for the places.
     pub fn new(alloc: Global, places: usize) -> Result<(Outbox, Sender), AllocError>
         requires { (0 < places) × (places ≤ 4096) }
         ensures ring { IfOk result (λ t. t.0.ring ≡ t.1.ring) }

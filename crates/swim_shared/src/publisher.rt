@@ -81,7 +81,7 @@ impl<N: Name, R: Wait + Drop> Publisher<N, R> {
         })
     }
 
-    /// One reader more. It answers AllocError where there is no memory for it.
+    /// One reader more. It answers `AllocError` where there is no memory for it.
     pub(crate) fn reader(&self) -> Result<ShownReader<N>, AllocError> {
         match &self.writer {
             Some(writer) => writer.factory().reader(),

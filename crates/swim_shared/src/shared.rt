@@ -91,10 +91,10 @@ impl<N: Name, D: Disk, L: Link, R: Wait + Drop> Shared<N, D, L, R> {
     /// is a legal history that goes on from what it was and ends with this call and its reply. It
     /// waits for the lock.
     ///
-    /// NoMemory: there is no place in the journal, and nothing changed. EraFull: nothing was
-    /// entered, and the pass has read the whole era. OutOfTurn: the pass does not fit the journal,
-    /// and nothing changed. Unread: the call was entered or not, but could not be read back; the
-    /// pass is spent, answers this from now on, and enters nothing more.
+    /// `NoMemory`: there is no place in the journal, and nothing changed. `EraFull`: nothing was
+    /// entered, and the pass has read the whole era. `OutOfTurn`: the pass does not fit the
+    /// journal, and nothing changed. `Unread`: the call was entered or not, but could not be read
+    /// back; the pass is spent, answers this from now on, and enters nothing more.
     pub fn call<W: Wait>(
         &self,
         rt: &W,

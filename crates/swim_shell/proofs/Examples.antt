@@ -7,11 +7,11 @@ use Rattle.swim_wire.specs.declared.update.UpdateKind.TheVariants.{Alive, Suspec
 use Rattle.swim_node.specs.declared.entry.Status.{Status}
 use Rattle.swim_member.specs.declared.event.Event.TheVariants.{Leave}
 use Rattle.swim_member.specs.declared.note.Note.TheVariants as note
-use Rattle.swim_shell.specs.declared.counts.Counts.{Counts}
+use Rattle.swim_shell.specs.declared.counts.CallCounts.{CallCounts}
 use Rattle.swim_shell.specs.declared.counts.EventKind.TheVariants as kind
 use Rattle.swim_shell.specs.Answers.{status_head, status_rest}
 use Rattle.swim_shell.specs.Counters.{counter_at, counter_line, counter_name}
-use Rattle.swim_shell.specs.Counts.{call_counts, event_kind, refutations_by, with_call, with_notes}
+use Rattle.swim_shell.specs.CallCounts.{call_counts, event_kind, refutations_by, with_call, with_notes}
 use Rattle.swim_shell.specs.Joins.{due_by, place_after}
 
 abbrev status : Status
@@ -68,7 +68,7 @@ line_of_sent = refl
 abbrev zeros : List ℕ
 zeros = 0 ∷ 0 ∷ 0 ∷ 0 ∷ 0 ∷ 0 ∷ 0 ∷ 0 ∷ 0 ∷ 0 ∷ 0 ∷ 0 ∷ 0 ∷ 0 ∷ 0 ∷ 0 ∷ 0 ∷ 0 ∷ []
 
-abbrev counts : Counts
+abbrev counts : CallCounts
 counts = record { number = 3; entries = 9; ticks = 4; joins = 1; received = 3; receive_failures = 0; sent = 5; lost = 2; refutations = 0; notes = zeros }
 
 -- losses that an event tells are added, and a leave is counted as an entry alone

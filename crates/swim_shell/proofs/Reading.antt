@@ -8,7 +8,7 @@ use Rattle.std.specs.declared.io.ErrorKind.{ErrorKind}
 use Rattle.std.specs.declared.io.ErrorKind.TheVariants.{Interrupted, WouldBlock}
 use Rattle.std.specs.IoError.{error_kind}
 use Rattle.swim_words.specs.Words.{Lacks}
-use Rattle.swim_shell.specs.declared.lines.Line.{Line}
+use Rattle.swim_shell.specs.declared.lines.LineText.{LineText}
 use Rattle.swim_shell.specs.declared.lines.NoLine.{NoLine}
 use Rattle.swim_shell.specs.declared.lines.NoLine.TheVariants.{NotYet, Ended}
 use Rattle.swim_shell.specs.Lines.{Takes, ReadsByte, IsLine, TakesLine, TakesNoLine, fault_at, ReadsOn, EndsFor}
@@ -64,7 +64,7 @@ part_same a b c x q k l s t = takes_more a b c x (q ++ k) (q ++ l) [] [] s (reco
 })
 
 -- a part and its end are a line
-pub part_whole : (a b c : Option (List ℕ)) (x q next k l : List ℕ) (read : Option ℕ) (byte : ℕ) (line : Line) → Takes a b x (q ++ k) [] → ReadsByte {E = Error} b c k l (Ok read) → read ≡ Some byte → byte ≡ 10 → Lacks 10 q → IsLine q line → next ≡ [] → TakesLine a c x (next ++ l) line
+pub part_whole : (a b c : Option (List ℕ)) (x q next k l : List ℕ) (read : Option ℕ) (byte : ℕ) (line : LineText) → Takes a b x (q ++ k) [] → ReadsByte {E = Error} b c k l (Ok read) → read ≡ Some byte → byte ≡ 10 → Lacks 10 q → IsLine q line → next ≡ [] → TakesLine a c x (next ++ l) line
 part_whole a b c x q next k l read byte line s r one ends lacks is empty = let t : Takes b c k l (10 ∷ []) = subst (λ y. ReadsByte {E = Error} b c k l (Ok y)) (one ∙ ap Some ends) r in record {
   text = q;
   took = takes_more a b c x (q ++ k) (next ++ l) [] (q ++ 10 ∷ []) s (record {

@@ -4,7 +4,7 @@ use Rattle.std.specs.Prelude.{Option, Some, None, IfNone, IfSome}
 use Rattle.std.proofs.lemmas.List.{append-nil}
 use Rattle.swim_shell.specs.declared.caller.Refusal.{Refusal}
 use Rattle.swim_shell.specs.declared.request.Request.{Request}
-use Rattle.swim_shell.specs.declared.lines.Line.{Line}
+use Rattle.swim_shell.specs.declared.lines.LineText.{LineText}
 use Rattle.swim_shell.specs.declared.lines.NoLine.{NoLine}
 use Rattle.swim_shell.specs.declared.lines.NoLine.TheVariants as none
 use Rattle.swim_shell.specs.declared.conversation.LineEnd.{LineEnd}
@@ -51,7 +51,7 @@ talks_more limit a b c p q r d e f xs ys s t = record {
 waits_on : (due : Option LineEnd) (out : Bool) → is_waiting (carried due) out ≡ true → is_waiting due out ≡ true
 waits_on None out e = e
 waits_on (Some line_end.Asked) out e = refl
-waits_on (Some line_end.Renewed) out e = refl
+waits_on (Some line_end.EraAsked) out e = refl
 waits_on (Some line_end.Reloading) out e = refl
 waits_on (Some (line_end.Refused why)) out e = refl
 
@@ -77,7 +77,7 @@ had_more s a (x ∷ xs) ys h k = inr (λ e. absurd cc)
 
 -- ---- parts of a turn
 
-pub hears_line : (limit : ℕ) (a b : ConversationView) (p q : CallerView) (line : Line) (asked : Request) (refused : Option Refusal) (answer : List ℕ) → a.left ≡ [] → TakesLine a.comes b.comes a.kept b.kept line
+pub hears_line : (limit : ℕ) (a b : ConversationView) (p q : CallerView) (line : LineText) (asked : Request) (refused : Option Refusal) (answer : List ℕ) → a.left ≡ [] → TakesLine a.comes b.comes a.kept b.kept line
     → ((text : List ℕ) → IsLine text line → Names text asked) → Answers limit asked p q refused answer → b.gone ≡ a.gone → b.left ≡ answer → b.due ≡ end_of refused asked → HearsLine limit a p b q
 hears_line limit a b p q line asked refused answer empty t names answers gone left due = record {
   line = record { text = t.text; asked = asked; refused = refused; answer = answer };

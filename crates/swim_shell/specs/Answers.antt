@@ -164,7 +164,7 @@ end_by refusal.Unread = Some (line_end.Refused refusal.Unread)
 abbrev pub end_of : Option Refusal → Request → Option LineEnd
 end_of (Some why) asked = end_by why
 end_of None asked.Stop = Some line_end.Asked
-end_of None asked.Record = Some line_end.Renewed
+end_of None asked.Record = Some line_end.EraAsked
 end_of None asked.Reload = Some line_end.Reloading
 end_of None _ = None
 

@@ -65,7 +65,7 @@ pub record Talks (limit : ℕ) (a : ConversationView) (p : CallerView) (b : Conv
 -- that was to end; but nothing was read again yet
 abbrev pub carried : Option LineEnd → Option LineEnd
 carried (Some (line_end.Refused why)) = None
-carried (Some line_end.Renewed) = None
+carried (Some line_end.EraAsked) = None
 carried due = due
 
 -- an answer was on its way, or a line was heard
@@ -87,7 +87,7 @@ end_by_line ends.Closed due = None
 end_by_line ends.ReadFault due = None
 end_by_line ends.WriteFault due = due
 end_by_line ends.Asked due = Some line_end.Asked
-end_by_line ends.Renewed due = Some line_end.Renewed
+end_by_line ends.EraAsked due = Some line_end.EraAsked
 end_by_line ends.Reloading due = Some line_end.Reloading
 end_by_line (ends.Refused why) due = Some (line_end.Refused why)
 
@@ -103,7 +103,7 @@ EndsAt ends.Closed b = IsSettled b × Lacks 10 b.kept × IsAtEnd b.comes
 EndsAt ends.ReadFault b = IsSettled b × Lacks 10 b.kept
 EndsAt ends.WriteFault b = Unit {0}
 EndsAt ends.Asked b = IsSettled b
-EndsAt ends.Renewed b = IsSettled b
+EndsAt ends.EraAsked b = IsSettled b
 EndsAt ends.Reloading b = IsSettled b
 EndsAt (ends.Refused why) b = IsSettled b
 

@@ -7,7 +7,7 @@ pub mod Requests
 pub mod About
 pub mod Answers
 pub mod Counters
-pub mod Counts
+pub mod CallCounts
 pub mod Writes
 pub mod Views
 pub mod Control

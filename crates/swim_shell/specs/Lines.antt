@@ -8,8 +8,8 @@ use Rattle.std.specs.declared.io.ErrorKind.{ErrorKind}
 use Rattle.std.specs.declared.io.ErrorKind.TheVariants.{Interrupted, WouldBlock}
 use Rattle.swim_words.specs.Words.{Lacks}
 use Rattle.swim_shell.specs.declared.lines.TheConstants.{LINE_MAX}
-use Rattle.swim_shell.specs.declared.lines.Line.{Line}
-use Rattle.swim_shell.specs.declared.lines.Line.TheVariants.{Text, Long}
+use Rattle.swim_shell.specs.declared.lines.LineText.{LineText}
+use Rattle.swim_shell.specs.declared.lines.LineText.TheVariants.{Text, Long}
 use Rattle.swim_shell.specs.declared.lines.NoLine.{NoLine}
 use Rattle.swim_shell.specs.declared.lines.NoLine.TheVariants.{NotYet, Ended, Failed}
 
@@ -27,7 +27,7 @@ ReadsByte old new kept rest (Ok None) = Takes old new kept rest [] × IsAtEnd ne
 ReadsByte old new kept rest (Err _) = Takes old new kept rest [] × (rest ≡ [])
 
 -- how the bytes before an end of line are kept
-abbrev pub IsLine : List ℕ → Line → Type 0
+abbrev pub IsLine : List ℕ → LineText → Type 0
 IsLine text (Text v) = (length text ≤ LINE_MAX) × (v.items ≡ text)
 IsLine text Long = LINE_MAX < length text
 
@@ -39,7 +39,8 @@ pub record IsPart (long : Bool) (text bytes : List ℕ) : Type 0 where
   pub over : long ≡ true → LINE_MAX < length bytes
 
 -- a line was read, with its end
-pub record TakesLine (old new : Option (List ℕ)) (kept rest : List ℕ) (line : Line) : Type 0 where
+pub record TakesLine (old new : Option (List ℕ)) (kept rest : List ℕ) (line : LineText)
+    : Type 0 where
   pub text : List ℕ
   pub took : Takes old new kept rest (text ++ 10 ∷ [])
   pub lacks : Lacks 10 text

@@ -18,6 +18,7 @@ use Rattle.swim_shell.specs.declared.caller.Refusal.{Refusal}
 use Rattle.swim_shell.specs.declared.joiner.Due.{Due}
 use Rattle.swim_shell.specs.declared.joiner.Due.TheVariants.{Listed, Drawn, Look, Nothing}
 use Rattle.swim_shell.specs.declared.paces.Moment.{Moment}
+use Rattle.swim_shell.specs.declared.paces.TheConstants.{EARLY_JOINS}
 use Rattle.swim_shell.specs.Calls.{CallerView, NewCall, Refuses}
 use Rattle.swim_shell.specs.Moments.{NewsView, TellsNews, has_passed}
 use Rattle.swim_shell.specs.Joins.{JoinerView, stepped, begun_again, watched, may_ask}
@@ -61,10 +62,17 @@ draw_rest j at =
     if is_introducing j at then Some (introduction_rest j.paces)
     else option_map as_nanos j.paces.rejoin
 
+-- one of the first joins was not answered yet, and introductions are left to be made then
+abbrev pub awaits_answer : JoinerView → Bool
+awaits_answer j =
+    if nat_lt 0 j.introductions.left
+    then (if nat_lt 0 j.unanswered then nat_lt j.unanswered EARLY_JOINS else false) else false
+
 -- how long its thread may wait for something else at most: until the next introduction, while the
--- member makes them
+-- member makes them, and as long while it waits for the answer after which it begins to
 abbrev pub idle_rest : JoinerView → ℕ
-idle_rest j = if go_on j.introductions then introduction_rest j.paces else max_nanos
+idle_rest j =
+    if go_on j.introductions || awaits_answer j then introduction_rest j.paces else max_nanos
 
 -- it is so long since the last join or the first turn
 abbrev pub is_draw_due : Option ℕ → Option Instant → Option Instant → Bool

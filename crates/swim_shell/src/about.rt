@@ -4,7 +4,7 @@ ghost use Rattle.std.specs.Prelude.{◌≡◌, ◌+◌, ◌≤◌, ◌++◌, [],
 ghost use Rattle.swim_shell.specs.About.{about_alone, about_head, about_of, about_run, about_text, yes_or_no};
 
 use crate::joiner::is_alone;
-use crate::printer::{ANSWER_MAX, Answer, add_counted, add_endpoint, add_text};
+use crate::printer::{ANSWER_MAX, AnswerText, add_counted, add_endpoint, add_text};
 use arrayvec::ArrayString;
 use std::fmt;
 use swim_node::Status;
@@ -71,7 +71,7 @@ fn yes_or_no(is_so: bool) -> &'static str
 }
 
 /// Writes the member, its group and its rules.
-fn add_head(answer: &mut Answer, who: &Who)
+fn add_head(answer: &mut AnswerText, who: &Who)
     requires { answer.old.bytes ≡ [] }
     ensures text { answer.new.bytes ≡ about_head who.now }
     ensures most { length answer.new.bytes ≤ 100 }
@@ -142,7 +142,7 @@ impl fmt::Display for Alone {
 }
 
 /// Who a member is, and whether it is alone, as the answer to the line `about`.
-pub fn about_answer(about: &About) -> Answer
+pub fn about_answer(about: &About) -> AnswerText
     ensures { result.bytes ≡ about_text about.now }
 {
     let mut answer = ArrayString::new();
@@ -151,7 +151,7 @@ pub fn about_answer(about: &About) -> Answer
 }
 
 /// Adds the version of a member's program, for how long it has run, and how many others it has to join, where they fit.
-fn add_run(answer: &mut Answer, who: &Who)
+fn add_run(answer: &mut AnswerText, who: &Who)
     ensures fits { length answer.old.bytes + RUN_MAX ≤ ANSWER_MAX
         → answer.new.bytes ≡ answer.old.bytes ++ about_run who.now }
     ensures most { length answer.new.bytes ≤ length answer.old.bytes + RUN_MAX }
@@ -163,7 +163,7 @@ fn add_run(answer: &mut Answer, who: &Who)
 }
 
 /// Adds whether a member is alone, and ends the line, where it fits.
-fn add_alone(answer: &mut Answer, is_alone: bool)
+fn add_alone(answer: &mut AnswerText, is_alone: bool)
     ensures fits { length answer.old.bytes + ALONE_MAX ≤ ANSWER_MAX
         → answer.new.bytes ≡ answer.old.bytes ++ about_alone is_alone }
     ensures most { length answer.new.bytes ≤ length answer.old.bytes + ALONE_MAX }
@@ -174,7 +174,7 @@ fn add_alone(answer: &mut Answer, is_alone: bool)
 }
 
 /// Writes who a member is, and whether it is alone.
-pub(crate) fn add_about(answer: &mut Answer, about: &About)
+pub(crate) fn add_about(answer: &mut AnswerText, about: &About)
     requires { answer.old.bytes ≡ [] }
     ensures { answer.new.bytes ≡ about_text about.now }
 {

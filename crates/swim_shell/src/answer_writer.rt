@@ -3,7 +3,7 @@
 ghost use Rattle.std.specs.Prelude.{◌≡◌, ◌≢◌, ◌≤◌, ◌++◌, ◌∷◌, true, false, [], length, IfOk, IsTrue, OnOk, ◌<◌};
 ghost use Rattle.swim_shell.specs.Writes.{sent_by};
 
-use crate::printer::Answer;
+use crate::printer::AnswerText;
 use arrayvec::ArrayString;
 use std::io::{self, ErrorKind, Write};
 use swim_trace::Trace;
@@ -38,7 +38,7 @@ fn sent_by(kind: ErrorKind) -> Option<Sent>
 pub(crate) struct AnswerWriter<Wr: Write + Drop> {
     writer: Wr,
     /// The last answer.
-    answer: Answer,
+    answer: AnswerText,
     /// How many bytes of it are written.
     written: usize,
     /// Whether they are flushed.
@@ -88,7 +88,7 @@ impl<Wr: Write + Drop> AnswerWriter<Wr> {
     }
 
     /// Takes the next answer, once the last one is written.
-    pub(crate) fn put(&mut self, answer: Answer)
+    pub(crate) fn put(&mut self, answer: AnswerText)
         requires { left_of self.old ≡ [] }
         ensures writer { self.new.writer ≡ self.old.writer }
         ensures left { left_of self.new ≡ answer.bytes }

@@ -6,7 +6,7 @@ ghost use Rattle.std.specs.List.{list_any};
 ghost use Rattle.swim_shell.specs.Answers.{Replies, is_misdirected, is_stopped, joined_text, left_text, members_text, refusal_text, row_text, status_head, status_text};
 
 use crate::caller::Refusal;
-use crate::printer::{ANSWER_MAX, Answer, add_counted, add_endpoint, add_text};
+use crate::printer::{ANSWER_MAX, AnswerText, add_counted, add_endpoint, add_text};
 use crate::request::Request;
 use arrayvec::{ArrayString, ArrayVec};
 use swim_member::{NOTES_MAX, Note};
@@ -20,7 +20,7 @@ pub const SETTINGS_REFUSED: &str = "error 8 settings\n";
 const ROW_MAX: usize = 51;
 
 /// A text as an answer, where it fits.
-pub fn answer_of(text: &str) -> Answer
+pub fn answer_of(text: &str) -> AnswerText
     ensures { length text.now ≤ ANSWER_MAX → result.bytes ≡ text.now }
 {
     let mut answer = ArrayString::new();
@@ -29,7 +29,7 @@ pub fn answer_of(text: &str) -> Answer
 }
 
 /// Adds the line of a status up to the members that are held for alive.
-fn add_head(answer: &mut Answer, status: &Status)
+fn add_head(answer: &mut AnswerText, status: &Status)
     requires { answer.old.bytes ≡ [] }
     ensures text { answer.new.bytes ≡ status_head status.now }
     ensures most { length answer.new.bytes ≤ 100 }
@@ -41,7 +41,7 @@ fn add_head(answer: &mut Answer, status: &Status)
 }
 
 /// Writes the line of a status.
-pub(crate) fn add_status(answer: &mut Answer, status: &Status)
+pub(crate) fn add_status(answer: &mut AnswerText, status: &Status)
     requires { answer.old.bytes ≡ [] }
     ensures { answer.new.bytes ≡ status_text status.now }
 {
@@ -53,7 +53,7 @@ pub(crate) fn add_status(answer: &mut Answer, status: &Status)
 }
 
 /// Adds the line of a member, where it fits.
-fn add_row(answer: &mut Answer, row: &Update)
+fn add_row(answer: &mut AnswerText, row: &Update)
     ensures fits { length answer.old.bytes + ROW_MAX ≤ ANSWER_MAX
         → answer.new.bytes ≡ answer.old.bytes ++ row_text row.now }
     ensures most { length answer.new.bytes ≤ length answer.old.bytes + ROW_MAX }
@@ -66,7 +66,7 @@ fn add_row(answer: &mut Answer, row: &Update)
 }
 
 /// Writes how many lines follow.
-pub(crate) fn add_count(answer: &mut Answer, lines: usize)
+pub(crate) fn add_count(answer: &mut AnswerText, lines: usize)
     requires { answer.old.bytes ≡ [] }
     ensures text { answer.new.bytes ≡ codes "ok " ++ (decimal lines ++ codes "\n") }
     ensures most { length answer.new.bytes ≤ 24 }
@@ -76,7 +76,7 @@ pub(crate) fn add_count(answer: &mut Answer, lines: usize)
 }
 
 /// Writes how many members a page has, and their lines.
-fn add_members(answer: &mut Answer, page: &[Update])
+fn add_members(answer: &mut AnswerText, page: &[Update])
     requires empty { answer.old.bytes ≡ [] }
     requires few { length page.now ≤ UPDATES_MAX }
     ensures { answer.new.bytes ≡ members_text page.now }
@@ -108,7 +108,7 @@ fn is_to_itself(notes: &ArrayVec<Note, NOTES_MAX>) -> bool
 }
 
 /// Writes the answer to `join`.
-fn add_joined(answer: &mut Answer, reply: &Reply)
+fn add_joined(answer: &mut AnswerText, reply: &Reply)
     requires { answer.old.bytes ≡ [] }
     ensures { answer.new.bytes ≡ joined_text reply.now }
 {
@@ -124,7 +124,7 @@ fn add_joined(answer: &mut Answer, reply: &Reply)
 }
 
 /// Writes the answer to `leave`.
-fn add_left(answer: &mut Answer, reply: &Reply)
+fn add_left(answer: &mut AnswerText, reply: &Reply)
     requires { answer.old.bytes ≡ [] }
     ensures { answer.new.bytes ≡ left_text reply.now }
 {
@@ -136,7 +136,7 @@ fn add_left(answer: &mut Answer, reply: &Reply)
 }
 
 /// Writes what the call of a request was answered. One that makes no call has no answer here.
-pub(crate) fn add_reply(answer: &mut Answer, asked: Request, reply: &Reply)
+pub(crate) fn add_reply(answer: &mut AnswerText, asked: Request, reply: &Reply)
     requires { answer.old.bytes ≡ [] }
     ensures { Replies asked reply.now answer.new.bytes }
 {
@@ -149,7 +149,7 @@ pub(crate) fn add_reply(answer: &mut Answer, asked: Request, reply: &Reply)
 }
 
 /// Writes that a call was refused.
-pub(crate) fn add_refusal(answer: &mut Answer, why: Refusal)
+pub(crate) fn add_refusal(answer: &mut AnswerText, why: Refusal)
     requires { answer.old.bytes ≡ [] }
     ensures { answer.new.bytes ≡ refusal_text why }
 {

@@ -5,7 +5,7 @@ ghost use Rattle.swim_shell.specs.Inbounds.{event_of};
 
 use arrayvec::ArrayVec;
 use swim_member::{Event, RECEIVED_MAX};
-use swim_wire::Endpoint;
+use swim_wire::{Endpoint, copied};
 
 /// What came in.
 #[derive(Drop)]
@@ -27,14 +27,10 @@ impl Arrival {
         ensures { result ≡ event_of self.now }
     {
         match self {
-            Arrival::Datagram { from, bytes } => {
-                let mut copy = ArrayVec::new();
-                let _ = copy.try_extend_from_slice(bytes.as_slice());
-                Event::Datagram {
-                    from: *from,
-                    bytes: copy,
-                }
-            }
+            Arrival::Datagram { from, bytes } => Event::Datagram {
+                from: *from,
+                bytes: copied(bytes),
+            },
             Arrival::Failure => Event::ReceiveFailed,
         }
     }

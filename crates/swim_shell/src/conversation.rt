@@ -10,7 +10,7 @@ use crate::answers::{add_refusal, add_reply, add_status};
 use crate::caller::{Observer, Refusal};
 use crate::counters::add_counters;
 use crate::lines::{LineReader, NoLine};
-use crate::printer::{ANSWER_MAX, Answer, add_text};
+use crate::printer::{ANSWER_MAX, AnswerText, add_text};
 use crate::request::{Request, understand};
 use crate::worker::Worker;
 use arrayvec::ArrayString;
@@ -29,8 +29,8 @@ pub enum ControlEnd {
     #[error("Asked")]
     Asked,
     /// The line `record` was answered: the era is to end, and the connection goes on in the next one.
-    #[error("Renewed")]
-    Renewed,
+    #[error("EraAsked")]
+    EraAsked,
     /// The line `reload` was heard: the era is to end, and the connection gets its answer in the next one.
     #[error("Reloading")]
     Reloading,
@@ -51,7 +51,7 @@ enum LineEnd {
     /// It is `stop`.
     Asked,
     /// It is `record`.
-    Renewed,
+    EraAsked,
     /// It is `reload`.
     Reloading,
     /// Its call was refused, or there was no status to show.
@@ -94,7 +94,7 @@ impl<Rd: Read + Drop, Wr: Write + Drop> Model for Conversation<Rd, Wr> {
 }
 
 /// Writes the status. Says why it could not, if there is no reading of it.
-fn show_status<C: Observer>(caller: &mut C, answer: &mut Answer) -> Option<Refusal>
+fn show_status<C: Observer>(caller: &mut C, answer: &mut AnswerText) -> Option<Refusal>
     requires { answer.old.bytes ≡ [] }
     ensures { ShowsStatus (C.known caller.old) (C.known caller.new) result answer.new.bytes }
 {
@@ -111,7 +111,7 @@ fn show_status<C: Observer>(caller: &mut C, answer: &mut Answer) -> Option<Refus
 }
 
 /// Writes who the member is, and whether it is alone. Says why it could not, if there is no reading of its status.
-fn show_about<C: Observer>(caller: &mut C, answer: &mut Answer) -> Option<Refusal>
+fn show_about<C: Observer>(caller: &mut C, answer: &mut AnswerText) -> Option<Refusal>
     requires { answer.old.bytes ≡ [] }
     ensures { ShowsAbout (C.known caller.old) (C.known caller.new) result answer.new.bytes }
 {
@@ -128,7 +128,7 @@ fn show_about<C: Observer>(caller: &mut C, answer: &mut Answer) -> Option<Refusa
 }
 
 /// Writes what the member has done, for which no call is made, and so none is refused.
-fn show_counters<C: Observer>(caller: &mut C, answer: &mut Answer) -> Option<Refusal>
+fn show_counters<C: Observer>(caller: &mut C, answer: &mut AnswerText) -> Option<Refusal>
     requires { answer.old.bytes ≡ [] }
     ensures { ShowsCounters (C.known caller.old) (C.known caller.new) result answer.new.bytes }
 {
@@ -137,7 +137,7 @@ fn show_counters<C: Observer>(caller: &mut C, answer: &mut Answer) -> Option<Ref
 }
 
 /// Writes a text for which no call is made, and so none is refused.
-fn say(answer: &mut Answer, text: &str) -> Option<Refusal>
+fn say(answer: &mut AnswerText, text: &str) -> Option<Refusal>
     requires { answer.old.bytes ≡ [] }
     ensures none { result ≡ None }
     ensures text { length text.now ≤ ANSWER_MAX → answer.new.bytes ≡ text.now }
@@ -147,7 +147,7 @@ fn say(answer: &mut Answer, text: &str) -> Option<Refusal>
 }
 
 /// Does what is asked, and writes the answer. Says why its call was refused, if it was.
-fn respond<C: Observer>(caller: &mut C, answer: &mut Answer, asked: Request) -> Option<Refusal>
+fn respond<C: Observer>(caller: &mut C, answer: &mut AnswerText, asked: Request) -> Option<Refusal>
     requires { answer.old.bytes ≡ [] }
     ensures { Answers C.limit asked (C.known caller.old) (C.known caller.new) result
         answer.new.bytes }
@@ -186,7 +186,7 @@ fn end_of(refused: Option<Refusal>, asked: &Request) -> Option<LineEnd>
         (Some(Refusal::Memory), _) => None,
         (Some(why), _) => Some(LineEnd::Refused(why)),
         (None, Request::Stop) => Some(LineEnd::Asked),
-        (None, Request::Record) => Some(LineEnd::Renewed),
+        (None, Request::Record) => Some(LineEnd::EraAsked),
         (None, Request::Reload) => Some(LineEnd::Reloading),
         (None, _) => None,
     }
@@ -198,7 +198,7 @@ fn carried(due: Option<LineEnd>) -> Option<LineEnd>
     ensures { result ≡ carried due }
 {
     match due {
-        Some(LineEnd::Refused(_) | LineEnd::Renewed) => None,
+        Some(LineEnd::Refused(_) | LineEnd::EraAsked) => None,
         _ => due,
     }
 }
@@ -248,7 +248,7 @@ impl<Rd: Read + Drop, Wr: Write + Drop> Conversation<Rd, Wr> {
     }
 
     /// Has the answer to the line `reload` to write, unless an answer is left to write.
-    pub fn answer(&mut self, answer: Answer)
+    pub fn answer(&mut self, answer: AnswerText)
         ensures told { self.old.left ≡ [] → IsTold answer.bytes self.old self.new }
         ensures busy { self.old.left ≢ [] → self.new ≡ self.old }
     {
@@ -304,7 +304,7 @@ impl<Rd: Read + Drop, Wr: Write + Drop> Conversation<Rd, Wr> {
         match self.answers.send() {
             Sent::Out => match self.due.take()? {
                 LineEnd::Asked => Some(ControlEnd::Asked),
-                LineEnd::Renewed => Some(ControlEnd::Renewed),
+                LineEnd::EraAsked => Some(ControlEnd::EraAsked),
                 LineEnd::Reloading => Some(ControlEnd::Reloading),
                 LineEnd::Refused(why) => Some(ControlEnd::Refused(why)),
             },

@@ -5,7 +5,7 @@ ghost use Rattle.swim_shell.specs.Counters.{counter_at, counter_line, counter_na
 
 use crate::answers::add_count;
 use crate::counts::{CALL_COUNTS, NOTE_KINDS};
-use crate::printer::{ANSWER_MAX, Answer, add_counted, add_text};
+use crate::printer::{ANSWER_MAX, AnswerText, add_counted, add_text};
 use swim_member::Note;
 use swim_wire::WireFault;
 
@@ -128,7 +128,7 @@ pub struct Counters {
 }
 
 /// Adds the line of a counter, where it fits.
-fn add_counter(answer: &mut Answer, counter: Counter, count: u64)
+fn add_counter(answer: &mut AnswerText, counter: Counter, count: u64)
     ensures fits { length answer.old.bytes + COUNTER_LINE_MAX ≤ ANSWER_MAX
         → answer.new.bytes ≡ answer.old.bytes ++ counter_line counter count }
     ensures most { length answer.new.bytes ≤ length answer.old.bytes + COUNTER_LINE_MAX }
@@ -139,7 +139,7 @@ fn add_counter(answer: &mut Answer, counter: Counter, count: u64)
 }
 
 /// Writes how many counters there are, and their lines.
-pub(crate) fn add_counters(answer: &mut Answer, counters: &Counters)
+pub(crate) fn add_counters(answer: &mut AnswerText, counters: &Counters)
     requires { answer.old.bytes ≡ [] }
     ensures { answer.new.bytes ≡ counters_text counters.now.values }
 {

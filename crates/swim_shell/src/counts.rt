@@ -4,7 +4,7 @@ ghost use Rattle.std.specs.Prelude.{◌≡◌, ◌+◌, ◌<◌, replicate};
 ghost use Rattle.swim_member.specs.Texts.{note_name};
 ghost use Rattle.swim_shell.specs.Counters.{counter_at, counter_name};
 ghost use Rattle.swim_shell.specs.declared.counters.TheConstants.{NOTES_FROM};
-ghost use Rattle.swim_shell.specs.Counts.{call_counts, counts_after, event_kind, note_place, refutations_by, with_call, with_notes, with_reply};
+ghost use Rattle.swim_shell.specs.CallCounts.{call_counts, counts_after, event_kind, note_place, refutations_by, with_call, with_notes, with_reply};
 
 use swim_member::{Event, Note};
 use swim_node::Reply;
@@ -50,7 +50,7 @@ impl EventKind {
 
 /// What the answered calls of a caller have come to. A count stays at the greatest number.
 #[derive(Clone, Copy, Debug, PartialEq, Eq)]
-pub struct Counts {
+pub struct CallCounts {
     /// The own number after the last of them.
     pub number: u64,
     /// All of them: each is one entry.
@@ -102,14 +102,14 @@ fn count_notes(counts: &mut [u64; NOTE_KINDS], notes: &[Note])
     }
 }
 
-impl Counts {
+impl CallCounts {
     /// Nothing was counted yet of a member whose own number is this one.
-    pub fn new(number: u64) -> Counts
+    pub fn new(number: u64) -> CallCounts
         ensures number { result.number ≡ number }
         ensures none { call_counts result ≡ replicate CALL_COUNTS 0 }
         ensures notes { result.notes ≡ replicate NOTE_KINDS 0 }
     {
-        Counts {
+        CallCounts {
             number,
             entries: 0,
             ticks: 0,

@@ -9,7 +9,7 @@ ghost use Rattle.swim_shell.specs.Calls.{Refuses};
 ghost use Rattle.swim_shell.specs.Introductions.{introductions_of};
 ghost use Rattle.swim_shell.specs.Joins.{Asks, AsksInVain, IsDrawnFrom, IsNext, IsRelisted, LooksAll, LooksInVain, chosen, may_ask, next_draw};
 ghost use Rattle.swim_shell.specs.Silences.{heard_nobody};
-ghost use Rattle.swim_shell.specs.Turns.{DoesTurn, DoesTurnInVain, JoinsPeer, LooksRound, LooksRoundInVain, TellsDue, Turned, TurnedInVain, after_draw, after_look, are_news_due, draw_rest, drawn_for, due_in, due_peer, due_rest, idle_rest, introduced, is_alone, is_draw_due, is_introducing, is_look_due, joined_drawn, joined_listed, list_turn, told_missing, turning, with_answer, with_draw, with_introduction, with_start};
+ghost use Rattle.swim_shell.specs.Turns.{DoesTurn, DoesTurnInVain, JoinsPeer, LooksRound, LooksRoundInVain, TellsDue, Turned, TurnedInVain, after_draw, after_look, are_news_due, awaits_answer, draw_rest, drawn_for, due_in, due_peer, due_rest, idle_rest, introduced, is_alone, is_draw_due, is_introducing, is_look_due, joined_drawn, joined_listed, list_turn, told_missing, turning, with_answer, with_draw, with_introduction, with_start};
 ghost use Rattle.swim_shell.specs.declared.joiner.Due.TheVariants.{Listed, Drawn};
 
 use crate::caller::{Caller, Observer, Refusal};
@@ -17,7 +17,7 @@ use crate::draw::{draw, next_draw};
 use crate::introductions::Introductions;
 use crate::look::look;
 use crate::news_log::{News, are_shown};
-use crate::paces::{Moment, Paces, has_passed};
+use crate::paces::{EARLY_JOINS, Moment, Paces, has_passed};
 use crate::peers::{LIST_MAX, Peers, has_row};
 use crate::silence::Silence;
 use arrayvec::ArrayVec;
@@ -189,11 +189,19 @@ impl Joiner {
         self.drawn.is_some()
     }
 
-    /// How long its thread may wait for something else, before the next turn: until the next introduction, while the member makes them.
+    /// Whether an early join waits for its answer, after which the member introduces itself. One that nobody answers for long waits without haste.
+    fn awaits_answer(&self) -> bool
+        ensures { result ≡ awaits_answer self.now }
+    {
+        self.introductions.are_left() && self.unanswered > 0 && self.unanswered < EARLY_JOINS
+    }
+
+    /// How long its thread may wait for something else, before the next turn: until the next introduction, while the member makes them,
+    /// and as long while it waits for the answer after which it begins to.
     pub fn idle_rest(&self) -> Duration
         ensures { as_nanos result ≡ idle_rest self.now }
     {
-        if self.introductions.go_on() {
+        if self.introductions.go_on() || self.awaits_answer() {
             return self.paces.until_introduction();
         }
         Duration::MAX

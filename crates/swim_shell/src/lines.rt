@@ -21,7 +21,7 @@ const READ_MAX: usize = 512;
 
 /// A line without its end.
 #[derive(Drop)]
-pub enum Line {
+pub enum LineText {
     /// Its bytes.
     Text(ArrayVec<u8, LINE_MAX>),
     /// It has more than 64 bytes.
@@ -88,16 +88,16 @@ impl Part {
     }
 
     /// The line, once its end was read. What is left is the part of the next.
-    fn finish(&mut self) -> Line
+    fn finish(&mut self) -> LineText
         ensures lacks { Lacks 10 self.old.bytes }
         ensures line { IsLine self.old.bytes result }
         ensures empty { self.new.bytes ≡ [] }
     {
         let part = replace(self, Part::new());
         if part.is_long {
-            Line::Long
+            LineText::Long
         } else {
-            Line::Text(part.text)
+            LineText::Text(part.text)
         }
     }
 }
@@ -208,7 +208,7 @@ impl<Rd: Read + Drop> LineReader<Rd> {
     /// is kept, and the next call goes on with it. `Ended` where the input ends before the line does. `Failed` where a
     /// read fails.
     #[tactic(auto, using(crate::proofs::Reading::takes_nothing, crate::proofs::Reading::part_more, crate::proofs::Reading::part_same, crate::proofs::Reading::part_whole, crate::proofs::Reading::part_alone, crate::proofs::Reading::not_yet, crate::proofs::Trying::trying_none))]
-    pub(crate) fn next_line(&mut self) -> Result<Line, NoLine>
+    pub(crate) fn next_line(&mut self) -> Result<LineText, NoLine>
         ensures line { IfOk result (TakesLine (Rd.remaining self.old.input.reader)
             (Rd.remaining self.new.input.reader) (kept_of self.old) (kept_of self.new)) }
         ensures none { IfErr result (TakesNoLine (Rd.remaining self.old.input.reader)

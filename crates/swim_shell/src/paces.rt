@@ -15,7 +15,7 @@ use swim_member::Settings;
 const ALONE_PERIODS: u32 = 3;
 
 /// How many joins of its list a member makes before a lone one waits so long.
-const EARLY_JOINS: u32 = 10;
+pub(crate) const EARLY_JOINS: u32 = 10;
 
 /// After how many joins a lone member asks again before a period is over: the others of a group that starts are up soon.
 pub(crate) const QUICK_JOINS: u32 = 3;

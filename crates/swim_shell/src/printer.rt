@@ -19,10 +19,10 @@ pub(crate) const NUMBER_MAX: usize = 20;
 pub(crate) const ENDPOINT_MAX: usize = 21;
 
 /// The text of an answer.
-pub type Answer = ArrayString<ANSWER_MAX>;
+pub type AnswerText = ArrayString<ANSWER_MAX>;
 
 /// Adds a text, where it fits.
-pub(crate) fn add_text(answer: &mut Answer, text: &str)
+pub(crate) fn add_text(answer: &mut AnswerText, text: &str)
     ensures fits { length answer.old.bytes + length text.now ≤ ANSWER_MAX
         → answer.new.bytes ≡ answer.old.bytes ++ text.now }
     ensures most { length answer.new.bytes ≤ length answer.old.bytes + length text.now }
@@ -31,7 +31,7 @@ pub(crate) fn add_text(answer: &mut Answer, text: &str)
 }
 
 /// Adds a decimal digit, where it fits.
-fn add_digit(answer: &mut Answer, digit: u8)
+fn add_digit(answer: &mut AnswerText, digit: u8)
     requires { digit < 10 }
     ensures fits { length answer.old.bytes + 1 ≤ ANSWER_MAX
         → answer.new.bytes ≡ answer.old.bytes ++ decimal digit }
@@ -41,7 +41,7 @@ fn add_digit(answer: &mut Answer, digit: u8)
 }
 
 /// Adds the decimal digits of a number, where they fit.
-pub(crate) fn add_number(answer: &mut Answer, number: u64)
+pub(crate) fn add_number(answer: &mut AnswerText, number: u64)
     ensures fits { length answer.old.bytes + length (decimal number) ≤ ANSWER_MAX
         → answer.new.bytes ≡ answer.old.bytes ++ decimal number }
     ensures most { length answer.new.bytes ≤ length answer.old.bytes + length (decimal number) }
@@ -54,7 +54,7 @@ pub(crate) fn add_number(answer: &mut Answer, number: u64)
 }
 
 /// Adds a name and a number, where they fit.
-pub(crate) fn add_counted(answer: &mut Answer, name: &str, number: u64)
+pub(crate) fn add_counted(answer: &mut AnswerText, name: &str, number: u64)
     ensures fits { length answer.old.bytes + length name.now + NUMBER_MAX ≤ ANSWER_MAX
         → answer.new.bytes ≡ answer.old.bytes ++ counted name.now number }
     ensures most { length answer.new.bytes
@@ -65,7 +65,7 @@ pub(crate) fn add_counted(answer: &mut Answer, name: &str, number: u64)
 }
 
 /// Adds one of the four numbers of an address, and the byte that ends it, where they fit.
-fn add_part(answer: &mut Answer, part: u8, end: &str)
+fn add_part(answer: &mut AnswerText, part: u8, end: &str)
     requires { length end.now ≡ 1 }
     ensures fits { length answer.old.bytes + 4 ≤ ANSWER_MAX
         → answer.new.bytes ≡ answer.old.bytes ++ (decimal part ++ end.now) }
@@ -76,7 +76,7 @@ fn add_part(answer: &mut Answer, part: u8, end: &str)
 }
 
 /// Adds an endpoint as `10.0.0.1:7000`, where it fits.
-pub(crate) fn add_endpoint(answer: &mut Answer, endpoint: Endpoint)
+pub(crate) fn add_endpoint(answer: &mut AnswerText, endpoint: Endpoint)
     ensures fits { length answer.old.bytes + ENDPOINT_MAX ≤ ANSWER_MAX
         → answer.new.bytes ≡ answer.old.bytes ++ endpoint_text endpoint }
     ensures most { length answer.new.bytes ≤ length answer.old.bytes + ENDPOINT_MAX }

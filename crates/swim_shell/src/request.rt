@@ -4,7 +4,7 @@ ghost use Rattle.std.specs.Prelude.{◌≡◌, ◌≢◌, ◌<◌, ◌≤◌, Li
 ghost use Rattle.swim_shell.specs.Lines.{IsLine};
 ghost use Rattle.swim_shell.specs.Requests.{Names, NamesShort};
 
-use crate::lines::Line;
+use crate::lines::LineText;
 use swim_wire::{Cursor, Endpoint};
 use swim_words::{read_endpoint, split_at_byte};
 
@@ -103,11 +103,11 @@ fn short(text: &[u8]) -> Request
 
 /// What the line asks for.
 #[tactic(auto, using(crate::proofs::Hearing::names_short))]
-pub(crate) fn understand(line: &Line) -> Request
+pub(crate) fn understand(line: &LineText) -> Request
     ensures { (text : List ℕ) → IsLine text line.now → Names text result }
 {
     match line {
-        Line::Text(text) => short(text.as_slice()),
-        Line::Long => Request::TooLong,
+        LineText::Text(text) => short(text.as_slice()),
+        LineText::Long => Request::TooLong,
     }
 }

@@ -30,15 +30,15 @@ pub trait Outgoing {
         ensures { handed self.new ≡ with_owed 0 (handed self.old) };
 }
 
-/// Hands on what waits, and enters what was lost as one SendFailed. What is owed and was not told stays owed, unless a call
-/// ended with Unread: it may stand in the history, and is not told again.
+/// Hands on what waits, and enters what was lost as one `SendFailed`. What is owed and was not told stays owed, unless a call
+/// ended with `Unread`: it may stand in the history, and is not told again.
 #[derive(Drop)]
-pub struct Sender<O: Outgoing> {
+pub struct SendWorker<O: Outgoing> {
     /// What hands datagrams on.
     pub outgoing: O,
 }
 
-impl<O: Outgoing> Sender<O> {
+impl<O: Outgoing> SendWorker<O> {
     /// After a call that was to tell what is owed was refused so.
     fn settle_unread(&mut self, why: Refusal)
         ensures { O.handed self.new.outgoing ≡ with_owed (owed_after why
@@ -50,7 +50,7 @@ impl<O: Outgoing> Sender<O> {
     }
 }
 
-impl<C: Caller, O: Outgoing> Worker<C> for Sender<O> {
+impl<C: Caller, O: Outgoing> Worker<C> for SendWorker<O> {
     ghost use Rattle.swim_shell.specs.Work.{LastOf};
     ghost use Rattle.swim_shell.specs.Losses.{Sending, TellsInVain};
 

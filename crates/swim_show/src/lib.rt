@@ -12,4 +12,4 @@ mod shown;
 pub use asking::{Told, answer};
 pub use departing::{Departure, departures};
 pub use fault::ShowFault;
-pub use shown::{Opening, Shown, show};
+pub use shown::{FileReport, Opening, show};

@@ -1,7 +1,7 @@
 //! What a state file says, as lines for a person.
 
 use crate::departing::Departure;
-use crate::shown::{Opening, Shown, SlotShown};
+use crate::shown::{FileReport, Opening, SlotShown};
 use std::fmt;
 use swim_state::{Owner, Peers, Reading, RecoverFault, Saved, Slot, Version};
 
@@ -11,7 +11,7 @@ pub(crate) struct Said<'a> {
     /// How many bytes it has.
     pub(crate) size: u64,
     /// What it says.
-    pub(crate) shown: Shown,
+    pub(crate) shown: FileReport,
     /// Where it departs from the format.
     pub(crate) departures: &'a [Departure],
 }

@@ -40,7 +40,7 @@ pub enum Opening {
 
 /// What a state file says.
 #[derive(Clone, Copy, Debug, PartialEq, Eq)]
-pub struct Shown {
+pub struct FileReport {
     /// The member that the head names: none where the file ends before its endpoint does, or has port 0.
     pub owner: Option<Owner>,
     /// The version that the mark says.
@@ -64,7 +64,7 @@ pub(crate) struct SlotShown {
     pub(crate) reading: Reading,
 }
 
-impl Shown {
+impl FileReport {
     /// One of its slots.
     pub(crate) fn slot(&self, slot: Slot) -> SlotShown {
         let (letter, reading) = match slot {
@@ -139,7 +139,7 @@ fn try_opening(disk: MemDisk, owner: Owner) -> Option<Opening>
 
 /// What a file with these bytes says. The opening is tried over a copy in memory, so what it answers is what
 /// an opening of the file would. Err: there was no memory.
-pub fn show(alloc: Global, image: Vec<u8>) -> Result<Shown, ShowFault>
+pub fn show(alloc: Global, image: Vec<u8>) -> Result<FileReport, ShowFault>
     requires { length image.items ≤ MOST_BYTES }
     ensures owner { IfOk result (λ s. s.owner ≡ named_by image.items) }
     ensures version { IfOk result (λ s. s.version ≡ version_in image.items) }
@@ -156,7 +156,7 @@ pub fn show(alloc: Global, image: Vec<u8>) -> Result<Shown, ShowFault>
     let slots = slots_in(&image);
     let disk = MemDisk::new(alloc, 0, image);
     let opening = try_opening(disk, opener(named)).ok_or(ShowFault::Memory)?;
-    Ok(Shown {
+    Ok(FileReport {
         owner,
         version,
         slots,

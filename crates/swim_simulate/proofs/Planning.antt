@@ -7,19 +7,19 @@ use Rattle.std.proofs.lemmas.List.FromFn.{get_or-range_with_len}
 use borrow.Author.Count.{below_more}
 use Rattle.toml.specs.Data.{Data, Members as Table, as_integer}
 use Rattle.swim_settings.specs.Says.{natural_of}
-use Rattle.swim_simulate.specs.declared.key.Key.{Key}
-use Rattle.swim_simulate.specs.declared.key.Key.TheVariants.{Members, Minutes, TickMs, Lambda, Period, Direct, Suspect, Forget, Helpers}
-use Rattle.swim_simulate.specs.declared.key.Key.TheVariants.{Limit, Block, Rules, Listed, Rejoin, Introduce, BeginWithin, Loss, Repeats, Delay, Jitter}
-use Rattle.swim_simulate.specs.declared.key.Key.TheVariants.{Kills, RestartAfter, Dropped, Filled, OddClocks, ClockRate, CutMembers, CutAt, CutFor, Deaf, Mute, Pauses, PauseFor, FailingSyncs}
+use Rattle.swim_simulate.specs.declared.key.PlanKey.{PlanKey}
+use Rattle.swim_simulate.specs.declared.key.PlanKey.TheVariants.{Members, Minutes, TickMs, Lambda, Period, Direct, Suspect, Forget, Helpers}
+use Rattle.swim_simulate.specs.declared.key.PlanKey.TheVariants.{Limit, Block, Rules, Listed, Rejoin, Introduce, BeginWithin, Loss, Repeats, Delay, Jitter}
+use Rattle.swim_simulate.specs.declared.key.PlanKey.TheVariants.{Kills, RestartAfter, Dropped, Filled, OddClocks, ClockRate, CutMembers, CutAt, CutFor, Deaf, Mute, Pauses, PauseFor, FailingSyncs}
 use Rattle.swim_simulate.specs.declared.key.Range.{Range}
 use Rattle.swim_simulate.specs.Keys.{plan_keys, rank_of, range_of}
 use Rattle.swim_simulate.specs.Plan.{IsInRange, number_at, taken_at, taken_from, taken_of, data_at}
 
 -- the key in this place
-abbrev pub key_in : ℕ → Key
+abbrev pub key_in : ℕ → PlanKey
 key_in n = slice_index_or plan_keys n Members
 
-key_in-rank_of : (key : Key) → key_in (rank_of key) ≡ key
+key_in-rank_of : (key : PlanKey) → key_in (rank_of key) ≡ key
 key_in-rank_of Members = refl
 key_in-rank_of Minutes = refl
 key_in-rank_of TickMs = refl
@@ -59,19 +59,19 @@ pub rank_of-key_in : (n : ℕ) → n < 34 → rank_of (key_in n) ≡ n
 rank_of-key_in n l = sym (get_or-map rank_of plan_keys n Members 0 l) ∙ (get_or-range_with_len 0 34 n 0 l ∙ zero-add n)
 
 -- each key that has one of the first places has a number of which this holds
-abbrev pub AreFilled : (Key → ℕ → Type 0) → ℕ → List ℕ → Type 0
-AreFilled P n numbers = (key : Key) → rank_of key < n → P key (number_at key numbers)
+abbrev pub AreFilled : (PlanKey → ℕ → Type 0) → ℕ → List ℕ → Type 0
+AreFilled P n numbers = (key : PlanKey) → rank_of key < n → P key (number_at key numbers)
 
 -- and there is a place for each key
-pub record IsFilled (P : Key → ℕ → Type 0) (n : ℕ) (numbers : List ℕ) : Type 0 where
+pub record IsFilled (P : PlanKey → ℕ → Type 0) (n : ℕ) (numbers : List ℕ) : Type 0 where
   pub len : length numbers ≡ 34
   pub filled : AreFilled P n numbers
 
-fill-one : (P : Key → ℕ → Type 0) (n : ℕ) (numbers : List ℕ) (v : ℕ) → n < length numbers → P (key_in n) v → AreFilled P n numbers → AreFilled P (n + 1) (slice_set numbers n v)
+fill-one : (P : PlanKey → ℕ → Type 0) (n : ℕ) (numbers : List ℕ) (v : ℕ) → n < length numbers → P (key_in n) v → AreFilled P n numbers → AreFilled P (n + 1) (slice_set numbers n v)
 fill-one P n numbers v l p filled key below = below_more Q n before here (rank_of key) below key refl
   where
     Q : ℕ → Type 0
-    Q k = (j : Key) → rank_of j ≡ k → P j (number_at j (slice_set numbers n v))
+    Q k = (j : PlanKey) → rank_of j ≡ k → P j (number_at j (slice_set numbers n v))
 
     before : (k : ℕ) → k < n → Q k
     before k less j e =
@@ -84,7 +84,7 @@ fill-one P n numbers v l p filled key below = below_more Q n before here (rank_o
         let is : number_at j (slice_set numbers n v) ≡ v = ap (λ k. slice_index_or (slice_set numbers n v) k 0) e ∙ get_or-set_same numbers n v 0 l in
         subst (P j) (sym is) (subst (λ k. P k v) (sym same) p)
 
-pub fill-next : (P : Key → ℕ → Type 0) (n : ℕ) (numbers : List ℕ) (v : ℕ) → n < 34 → P (key_in n) v → IsFilled P n numbers → IsFilled P (n + 1) (slice_set numbers n v)
+pub fill-next : (P : PlanKey → ℕ → Type 0) (n : ℕ) (numbers : List ℕ) (v : ℕ) → n < 34 → P (key_in n) v → IsFilled P n numbers → IsFilled P (n + 1) (slice_set numbers n v)
 fill-next P n numbers v l p h = record {
   len = length-set numbers n v ∙ h.len;
   filled = fill-one P n numbers v (let len = h.len in omega arith) p h.filled;
@@ -111,5 +111,5 @@ of-within range None n e = by-within range range.default n e
 of-within range (Some d) n e = number-within range (option_and_then natural_of (as_integer d)) n e
 
 -- what a key takes is in its range
-pub taken-within : (key : Key) (table : Table) (n : ℕ) → taken_at key table ≡ Some n → IsInRange (range_of key) n
+pub taken-within : (key : PlanKey) (table : Table) (n : ℕ) → taken_at key table ≡ Some n → IsInRange (range_of key) n
 taken-within key table n e = of-within (range_of key) (data_at key table) n e

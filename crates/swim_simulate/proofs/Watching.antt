@@ -9,7 +9,7 @@ use Rattle.swim_group.specs.declared.checker.Breach.{Breach}
 use Rattle.swim_group.specs.declared.checker.CheckFault.TheVariants.{Broken, NoMemory}
 use Rattle.swim_group.proofs.Keeping.{refused-lawful}
 use Rattle.swim_simulate.specs.Laws.{LawView, KnowsAll, PassesNext, PassesAll, LooksAtLast, SeesAll, IsOfDetection, IsLawful, first_of}
-use Rattle.swim_simulate.specs.declared.law.Stop.{Stop}
+use Rattle.swim_simulate.specs.declared.law.LawBreak.{LawBreak}
 use Rattle.swim_simulate.specs.declared.watched.TheConstants.{ROOM}
 use Rattle.swim_disk.specs.declared.mem.Choice.{Choice}
 use Rattle.swim_member.specs.declared.event.Event.{Event}
@@ -142,11 +142,11 @@ module _ (law : LawView) (old new : RealNodes) (which : ℕ) where
   pub lost-watched : LosesAt old new which → IsWatched law old → IsWatched law new
   lost-watched loses watched = (lost-same old new which loses (KnowsAll law.told) watched.0, watched.1, ap (λ (v : RealNodes). v.room) loses.is ∙ watched.2)
 
-first-lawful : (first : Option Stop) (stop : Stop) → IsOfDetection stop.broken → IsLawful first → IsLawful (first_of first stop)
+first-lawful : (first : Option LawBreak) (stop : LawBreak) → IsOfDetection stop.broken → IsLawful first → IsLawful (first_of first stop)
 first-lawful None stop found lawful = found
 first-lawful (Some first) stop found lawful = lawful
 
-pub noted-watched : (law now : LawView) (nodes : RealNodes) (stop : Stop) → IsOfDetection stop.broken → now.told ≡ law.told → now.stop ≡ first_of law.stop stop → IsWatched law nodes → IsWatched now nodes
+pub noted-watched : (law now : LawView) (nodes : RealNodes) (stop : LawBreak) → IsOfDetection stop.broken → now.told ≡ law.told → now.stop ≡ first_of law.stop stop → IsWatched law nodes → IsWatched now nodes
 noted-watched law now nodes stop found told is watched = (
   subst (λ t. HasSent nodes (KnowsAll t)) (sym told) watched.0,
   subst IsLawful (sym is) (first-lawful law.stop stop found watched.1),

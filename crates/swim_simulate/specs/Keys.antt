@@ -1,22 +1,24 @@
 -- The keys of a plan, and the numbers that they take.
 use Rattle.std.specs.Prelude.{ℕ, List, [], ◌∷◌, codes}
-use Rattle.swim_simulate.specs.declared.key.Key.{Key}
+use Rattle.swim_simulate.specs.declared.key.PlanKey.{PlanKey}
 use Rattle.swim_simulate.specs.declared.key.Range.{Range}
-use Rattle.swim_simulate.specs.declared.key.Key.TheVariants.{Members, Minutes, TickMs, Lambda}
-use Rattle.swim_simulate.specs.declared.key.Key.TheVariants.{Period, Direct, Suspect, Forget}
-use Rattle.swim_simulate.specs.declared.key.Key.TheVariants.{Helpers, Limit, Block, Rules}
-use Rattle.swim_simulate.specs.declared.key.Key.TheVariants.{Listed, Rejoin, Introduce}
-use Rattle.swim_simulate.specs.declared.key.Key.TheVariants.{BeginWithin, Loss, Repeats}
-use Rattle.swim_simulate.specs.declared.key.Key.TheVariants.{Delay, Jitter, Kills, RestartAfter}
-use Rattle.swim_simulate.specs.declared.key.Key.TheVariants.{Dropped, Filled, OddClocks, ClockRate}
-use Rattle.swim_simulate.specs.declared.key.Key.TheVariants.{CutMembers, CutAt, CutFor, Deaf, Mute}
-use Rattle.swim_simulate.specs.declared.key.Key.TheVariants.{Pauses, PauseFor, FailingSyncs}
+use Rattle.swim_simulate.specs.declared.key.PlanKey.TheVariants.{Members, Minutes, TickMs, Lambda}
+use Rattle.swim_simulate.specs.declared.key.PlanKey.TheVariants.{Period, Direct, Suspect, Forget}
+use Rattle.swim_simulate.specs.declared.key.PlanKey.TheVariants.{Helpers, Limit, Block, Rules}
+use Rattle.swim_simulate.specs.declared.key.PlanKey.TheVariants.{Listed, Rejoin, Introduce}
+use Rattle.swim_simulate.specs.declared.key.PlanKey.TheVariants.{BeginWithin, Loss, Repeats}
+use Rattle.swim_simulate.specs.declared.key.PlanKey.TheVariants.{Delay, Jitter, Kills, RestartAfter}
+use Rattle.swim_simulate.specs.declared.key.PlanKey.TheVariants.{Dropped, Filled}
+use Rattle.swim_simulate.specs.declared.key.PlanKey.TheVariants.{OddClocks, ClockRate}
+use Rattle.swim_simulate.specs.declared.key.PlanKey.TheVariants.{CutMembers, CutAt, CutFor}
+use Rattle.swim_simulate.specs.declared.key.PlanKey.TheVariants.{Deaf, Mute}
+use Rattle.swim_simulate.specs.declared.key.PlanKey.TheVariants.{Pauses, PauseFor, FailingSyncs}
 use Rattle.swim_wire.specs.declared.update.TheConstants.{MEMBERS_MAX}
 use Rattle.swim_member.specs.declared.settings.TheConstants.{HELPERS_MAX, BLOCK_MAX}
 use Rattle.swim_node.specs.declared.opening.TheConstants.{LIMIT_MAX}
 
 -- the key as a plan has it
-abbrev pub plan_key : Key → List ℕ
+abbrev pub plan_key : PlanKey → List ℕ
 plan_key Members = codes "members"
 plan_key Minutes = codes "minutes"
 plan_key TickMs = codes "tick_ms"
@@ -53,7 +55,7 @@ plan_key PauseFor = codes "pause_for"
 plan_key FailingSyncs = codes "failing_syncs"
 
 -- all keys, in the order in which a refused one is looked for
-abbrev pub plan_keys : List Key
+abbrev pub plan_keys : List PlanKey
 plan_keys = Members ∷ Minutes ∷ TickMs ∷ Lambda ∷ Period ∷ Direct ∷ Suspect ∷ Forget ∷ Helpers
     ∷ Limit ∷ Block ∷ Rules ∷ Listed ∷ Rejoin ∷ Introduce ∷ BeginWithin ∷ Loss ∷ Repeats
     ∷ Delay ∷ Jitter ∷ Kills ∷ RestartAfter ∷ Dropped ∷ Filled ∷ OddClocks ∷ ClockRate
@@ -64,7 +66,7 @@ abbrev pub within : ℕ → ℕ → ℕ → Range
 within default least most = record { default = default; least = least; most = most }
 
 -- the numbers that the key takes
-abbrev pub range_of : Key → Range
+abbrev pub range_of : PlanKey → Range
 range_of Members = within 50 1 MEMBERS_MAX
 range_of Minutes = within 10 1 1440
 range_of TickMs = within 100 1 60000
@@ -101,7 +103,7 @@ range_of PauseFor = within 40 0 1000000
 range_of FailingSyncs = within 0 0 100
 
 -- how many keys come before it
-abbrev pub rank_of : Key → ℕ
+abbrev pub rank_of : PlanKey → ℕ
 rank_of Members = 0
 rank_of Minutes = 1
 rank_of TickMs = 2

@@ -7,14 +7,14 @@ use Rattle.swim_group.specs.Checking.{MayFollow, KeepTheLaw, Remembers}
 use Rattle.swim_group.specs.RealNodes.{RealNodes, HasSent}
 use Rattle.swim_simulate.specs.declared.law.Broken.{Broken}
 use Rattle.swim_simulate.specs.declared.law.Broken.TheVariants.{Group, Detection}
-use Rattle.swim_simulate.specs.declared.law.Stop.{Stop}
+use Rattle.swim_simulate.specs.declared.law.LawBreak.{LawBreak}
 use Rattle.swim_simulate.specs.declared.watched.TheConstants.{ROOM}
 
 -- the numbers that each member told of itself, or none where a datagram was not seen, and where
 -- a law was broken first
 pub record LawView : Type 0 where
   pub told : Option (List (ℕ × List ℕ))
-  pub stop : Option Stop
+  pub stop : Option LawBreak
 
 -- where nothing is said of a datagram, it keeps the law after all that was seen before, and it is
 -- seen too
@@ -30,10 +30,10 @@ LooksAt old new d =
 
 -- what was broken first stays
 abbrev pub KeepsFirst : LawView → LawView → Type 0
-KeepsFirst old new = (stop : Stop) → old.stop ≡ Some stop → new.stop ≡ Some stop
+KeepsFirst old new = (stop : LawBreak) → old.stop ≡ Some stop → new.stop ≡ Some stop
 
 -- what was broken first, or else this
-abbrev pub first_of : Option Stop → Stop → Option Stop
+abbrev pub first_of : Option LawBreak → LawBreak → Option LawBreak
 first_of None stop = Some stop
 first_of (Some first) stop = Some first
 
@@ -75,5 +75,5 @@ IsOfDetection (Detection lapse) = Unit {0}
 IsOfDetection (Group breach) = ⊥
 
 -- no law of a group was broken
-abbrev pub IsLawful : Option Stop → Type 0
+abbrev pub IsLawful : Option LawBreak → Type 0
 IsLawful stop = IfSome stop (λ s. IsOfDetection s.broken)

@@ -1,8 +1,9 @@
 -- The network.
 use Rattle.std.specs.Prelude.{◌⊎◌, ◌+◌, ◌*◌, ◌%◌, ◌<◌, ◌≤◌, ℕ, List, Bool, nat_lt, cond}
 use Rattle.std.specs.Prelude.{◌||◌}
-use Rattle.swim_simulate.specs.declared.key.Key.TheVariants.{Loss, Repeats, Delay, Jitter}
-use Rattle.swim_simulate.specs.declared.key.Key.TheVariants.{CutMembers, CutAt, CutFor, Deaf, Mute}
+use Rattle.swim_simulate.specs.declared.key.PlanKey.TheVariants.{Loss, Repeats, Delay, Jitter}
+use Rattle.swim_simulate.specs.declared.key.PlanKey.TheVariants.{CutMembers, CutAt, CutFor}
+use Rattle.swim_simulate.specs.declared.key.PlanKey.TheVariants.{Deaf, Mute}
 use Rattle.swim_simulate.specs.declared.network.Draw.{Draw}
 use Rattle.swim_simulate.specs.declared.network.Fate.{Fate}
 use Rattle.swim_simulate.specs.declared.place.TheConstants.{FIRST, PORT}

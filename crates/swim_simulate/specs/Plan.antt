@@ -6,16 +6,16 @@ use Rattle.toml.specs.Parse.{parse_document}
 use Rattle.toml.specs.Data.{Data, Members, get_member, as_integer}
 use Rattle.swim_settings.specs.Says.{natural_of, IsOfText}
 use Rattle.swim_settings.specs.Unknown.{IsOfUnknown}
-use Rattle.swim_simulate.specs.declared.key.Key.{Key}
-use Rattle.swim_simulate.specs.declared.key.Key.TheVariants.{Minutes, TickMs, Kills}
-use Rattle.swim_simulate.specs.declared.key.Key.TheVariants.{Direct, Period, Pauses}
+use Rattle.swim_simulate.specs.declared.key.PlanKey.{PlanKey}
+use Rattle.swim_simulate.specs.declared.key.PlanKey.TheVariants.{Minutes, TickMs, Kills}
+use Rattle.swim_simulate.specs.declared.key.PlanKey.TheVariants.{Direct, Period, Pauses}
 use Rattle.swim_simulate.specs.declared.key.Range.{Range}
 use Rattle.swim_simulate.specs.declared.refusal.PlanRefusal.{PlanRefusal}
 use Rattle.swim_simulate.specs.declared.refusal.PlanRefusal.TheVariants as refusals
 use Rattle.swim_simulate.specs.Keys.{plan_keys, plan_key, range_of, rank_of}
 
 -- a plan is a list of numbers, in the order of the keys. This is the number of the key
-abbrev pub number_at : Key → List ℕ → ℕ
+abbrev pub number_at : PlanKey → List ℕ → ℕ
 number_at key plan = slice_index plan (rank_of key)
 
 -- the number is in the range
@@ -25,11 +25,11 @@ pub record IsInRange (range : Range) (n : ℕ) : Type 0 where
 
 -- each number is in the range of its key
 abbrev pub AreInRanges : List ℕ → Type 0
-AreInRanges plan = (key : Key) → IsInRange (range_of key) (number_at key plan)
+AreInRanges plan = (key : PlanKey) → IsInRange (range_of key) (number_at key plan)
 
 -- each number is the default of its key
 abbrev pub AreDefaults : List ℕ → Type 0
-AreDefaults plan = (key : Key) → number_at key plan ≡ (range_of key).default
+AreDefaults plan = (key : PlanKey) → number_at key plan ≡ (range_of key).default
 
 -- how many ticks are simulated
 abbrev pub tick_count : List ℕ → ℕ
@@ -44,13 +44,13 @@ abbrev pub pause_tick : List ℕ → ℕ → ℕ
 pause_tick plan pause = tick_count plan * (pause + 1) / (number_at Pauses plan + 1)
 
 -- the plan with another number at the key
-abbrev pub with_number : Key → ℕ → List ℕ → List ℕ
+abbrev pub with_number : PlanKey → ℕ → List ℕ → List ℕ
 with_number key number plan = slice_set plan (rank_of key) number
 
 -- What a table says
 
 -- what stands at the key
-abbrev pub data_at : Key → Members → Option Data
+abbrev pub data_at : PlanKey → Members → Option Data
 data_at key table = get_member (plan_key key) table
 
 -- the number, if it is in the range
@@ -65,20 +65,20 @@ taken_of range (Some d) =
     option_and_then (taken_from range) (option_and_then natural_of (as_integer d))
 
 -- the number that the table gives the key, if the key takes it
-abbrev pub taken_at : Key → Members → Option ℕ
+abbrev pub taken_at : PlanKey → Members → Option ℕ
 taken_at key table = taken_of (range_of key) (data_at key table)
 
 -- the table says this plan
 abbrev pub Says : Members → List ℕ → Type 0
-Says table plan = (key : Key) → taken_at key table ≡ Some (number_at key plan)
+Says table plan = (key : PlanKey) → taken_at key table ≡ Some (number_at key plan)
 
 -- the key is the first that does not take what the table gives it
-pub record IsFirstKey (key : Key) (table : Members) : Type 0 where
-  pub earlier : (before : Key) → rank_of before < rank_of key → IsSome (taken_at before table)
+pub record IsFirstKey (key : PlanKey) (table : Members) : Type 0 where
+  pub earlier : (before : PlanKey) → rank_of before < rank_of key → IsSome (taken_at before table)
   pub refused : taken_at key table ≡ None
 
 -- others would be asked about a target only after its period
-pub record IsTooLate (key : Key) (table : Members) : Type 0 where
+pub record IsTooLate (key : PlanKey) (table : Members) : Type 0 where
   pub plan : List ℕ
   pub says : Says table plan
   pub is : key ≡ Direct

@@ -7,7 +7,7 @@ use Rattle.swim_simulate.specs.declared.handed.Clock.{Clock}
 use Rattle.swim_simulate.specs.declared.handed.Handed.{Handed}
 use Rattle.swim_simulate.specs.declared.handed.Handed.TheVariants.{Tick, Datagram}
 use Rattle.swim_simulate.specs.declared.flight.Flight.{Flight}
-use Rattle.swim_simulate.specs.declared.key.Key.TheVariants.{Members, OddClocks, ClockRate}
+use Rattle.swim_simulate.specs.declared.key.PlanKey.TheVariants.{Members, OddClocks, ClockRate}
 use Rattle.swim_simulate.specs.declared.network.Fate.{Fate}
 use Rattle.swim_simulate.specs.declared.network.Fate.TheVariants.{Lost, Comes, ComesTwice}
 use Rattle.swim_simulate.specs.declared.place.Place.{Place}

@@ -5,7 +5,7 @@ ghost use Rattle.std.specs.Prelude.{◌≡◌, None, [], length};
 ghost use Rattle.swim_node.specs.History.{calls_by};
 ghost use Rattle.swim_simulate.specs.Joining.{HasTurn, joined_after, last_joined};
 
-use crate::key::Key;
+use crate::key::PlanKey;
 use crate::place::endpoint_of;
 use crate::plan::Plan;
 use crate::views::Views;
@@ -143,7 +143,7 @@ pub(crate) fn turn(
 /// The members that are on the list of the one with this place: the first ones, without itself.
 fn listed_by(plan: &Plan, who: usize) -> ArrayVec<Endpoint, LIST_MAX> {
     let mut peers = ArrayVec::new();
-    let listed = plan.get(Key::Listed).min(plan.get(Key::Members));
+    let listed = plan.get(PlanKey::Listed).min(plan.get(PlanKey::Members));
     for place in 0..listed as usize {
         if place != who {
             let _ = peers.try_push(endpoint_of(place));
@@ -160,12 +160,12 @@ pub(crate) fn joiner_of(
     rng: ChaCha20Rng,
 ) -> Option<Joiner> {
     settings.check().ok()?;
-    let introduce = plan.get(Key::Introduce) as u32;
+    let introduce = plan.get(PlanKey::Introduce) as u32;
     let paces = Paces::of(
         settings,
         introduce,
-        plan.get(Key::Rejoin),
-        plan.get(Key::TickMs),
+        plan.get(PlanKey::Rejoin),
+        plan.get(PlanKey::TickMs),
     );
     Some(Joiner::new(
         settings.me,

@@ -22,7 +22,7 @@ pub enum Broken {
 
 /// Where a run broke a law.
 #[derive(Clone, Copy, Debug, PartialEq, Eq)]
-pub struct Stop {
+pub struct LawBreak {
     /// In which tick.
     pub tick: u64,
     /// Who told or held it.
@@ -33,9 +33,9 @@ pub struct Stop {
     pub broken: Broken,
 }
 
-impl fmt::Display for Stop {
+impl fmt::Display for LawBreak {
     fn fmt<W: fmt::Write>(&self, f: &mut fmt::Formatter<W>) -> fmt::Result {
-        let Stop {
+        let LawBreak {
             tick,
             sender,
             update,
@@ -59,13 +59,13 @@ impl fmt::Display for Stop {
 
 /// What was told so far, and where the law was broken first.
 #[derive(Drop)]
-pub struct Law {
+pub struct LawRecord {
     /// None where a datagram was not seen, so that nothing can be said any more.
     checker: Option<Checker>,
-    stop: Option<Stop>,
+    stop: Option<LawBreak>,
 }
 
-impl Model for Law {
+impl Model for LawRecord {
     ghost use Rattle.swim_simulate.specs.Laws.{LawView};
 
     ghost Value = { LawView };
@@ -73,27 +73,27 @@ impl Model for Law {
     ghost view = { λ l. record { told = l.checker; stop = l.stop } };
 }
 
-impl Law {
+impl LawRecord {
     /// Nothing was told yet.
-    pub fn new(alloc: Global) -> Law
+    pub fn new(alloc: Global) -> LawRecord
         ensures stop { result.stop ≡ None }
         ensures told { KnowsAll result.told [] }
     {
-        Law {
+        LawRecord {
             checker: Some(Checker::new(alloc)),
             stop: None,
         }
     }
 
     /// Where a law was broken first, if one was.
-    pub fn stop(&self) -> Option<Stop>
+    pub fn stop(&self) -> Option<LawBreak>
         ensures { result ≡ self.now.stop }
     {
         self.stop
     }
 
     /// Notes where a law was broken. What was noted first stays.
-    pub fn note(&mut self, stop: Stop)
+    pub fn note(&mut self, stop: LawBreak)
         ensures stop { self.new.stop ≡ first_of self.old.stop stop }
         ensures first { KeepsFirst self.old self.new }
         ensures said { self.new.stop ≢ None }
@@ -124,7 +124,7 @@ impl Law {
             Ok(()) => Ok(()),
             Err(CheckFault::NoMemory) => Err(SimulateFault::Memory),
             Err(CheckFault::Broken(update, breach)) => {
-                self.note(Stop {
+                self.note(LawBreak {
                     tick,
                     sender: datagram.sender,
                     update,

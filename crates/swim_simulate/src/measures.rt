@@ -37,7 +37,7 @@ pub(crate) enum Awaited {
 
 /// What is counted.
 #[derive(Clone, Copy, Debug, PartialEq, Eq)]
-pub struct Counts {
+pub struct RunCounts {
     /// Datagrams that were sent.
     pub datagrams: u64,
     /// Their bytes.
@@ -66,10 +66,10 @@ pub struct Counts {
     pub pauses: u64,
 }
 
-impl Counts {
+impl RunCounts {
     /// Nothing happened yet.
-    pub fn zero() -> Counts {
-        Counts {
+    pub fn zero() -> RunCounts {
+        RunCounts {
             datagrams: 0,
             bytes: 0,
             lost: 0,
@@ -87,7 +87,7 @@ impl Counts {
     }
 }
 
-impl Counts {
+impl RunCounts {
     /// A datagram of so many bytes is sent.
     pub(crate) fn send(&mut self, size: u64, is_lost: bool) {
         count(&mut self.datagrams);
@@ -98,7 +98,7 @@ impl Counts {
     }
 
     /// Adds what was counted elsewhere.
-    pub fn add(&mut self, other: &Counts) {
+    pub fn add(&mut self, other: &RunCounts) {
         raise(&mut self.datagrams, other.datagrams);
         raise(&mut self.bytes, other.bytes);
         raise(&mut self.lost, other.lost);
@@ -137,7 +137,7 @@ pub struct Measures {
     /// The kills, in order.
     pub kills: Vec<Kill>,
     /// What was counted.
-    pub counts: Counts,
+    pub counts: RunCounts,
 }
 
 impl Measures {
@@ -146,7 +146,7 @@ impl Measures {
         Measures {
             whole: None,
             kills: Vec::new(alloc),
-            counts: Counts::zero(),
+            counts: RunCounts::zero(),
         }
     }
 

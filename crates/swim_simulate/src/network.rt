@@ -3,7 +3,7 @@
 ghost use Rattle.std.specs.Prelude.{◌≡◌, ◌+◌, ◌*◌, ◌↔◌, length, IsTrue};
 ghost use Rattle.swim_simulate.specs.Network.{IsApart, IsCutOff, IsNoWay, delay_of, fate_of};
 
-use crate::key::Key;
+use crate::key::PlanKey;
 use crate::plan::Plan;
 use swim_wire::Datagram;
 
@@ -50,18 +50,18 @@ fn is_apart(count: u64, m: u64, n: u64) -> bool
 fn is_no_way(plan: &Plan, from: u64, to: u64) -> bool
     ensures { IsTrue result ↔ IsNoWay plan.now from to }
 {
-    is_apart(plan.get(Key::CutMembers), from, to)
-        || to < plan.get(Key::Deaf)
-        || from < plan.get(Key::Mute)
+    is_apart(plan.get(PlanKey::CutMembers), from, to)
+        || to < plan.get(PlanKey::Deaf)
+        || from < plan.get(PlanKey::Mute)
 }
 
 /// Whether in this second nothing comes from the one to the other, by the cut of the plan.
 pub fn is_cut(plan: &Plan, second: u64, from: usize, to: usize) -> bool
     ensures { IsTrue result ↔ IsCutOff plan.now second from to }
 {
-    let begin = plan.get(Key::CutAt);
+    let begin = plan.get(PlanKey::CutAt);
     begin <= second
-        && second < begin + plan.get(Key::CutFor)
+        && second < begin + plan.get(PlanKey::CutFor)
         && is_no_way(plan, from as u64, to as u64)
 }
 
@@ -69,18 +69,18 @@ pub fn is_cut(plan: &Plan, second: u64, from: usize, to: usize) -> bool
 fn delay(plan: &Plan, word: u32) -> u64
     ensures { result ≡ delay_of plan.now word }
 {
-    plan.get(Key::Delay) + u64::from(word) % (plan.get(Key::Jitter) + 1)
+    plan.get(PlanKey::Delay) + u64::from(word) % (plan.get(PlanKey::Jitter) + 1)
 }
 
 /// What becomes of a datagram. One that is cut off never comes.
 pub fn fate_by(plan: &Plan, is_cut: bool, draw: Draw) -> Fate
     ensures { result ≡ fate_of plan.now is_cut draw }
 {
-    if is_cut || u64::from(draw.loss % 100) < plan.get(Key::Loss) {
+    if is_cut || u64::from(draw.loss % 100) < plan.get(PlanKey::Loss) {
         return Fate::Lost;
     }
     let first = delay(plan, draw.delay);
-    if u64::from(draw.repeat % 100) < plan.get(Key::Repeats) {
+    if u64::from(draw.repeat % 100) < plan.get(PlanKey::Repeats) {
         return Fate::ComesTwice(first, delay(plan, draw.second));
     }
     Fate::Comes(first)

@@ -4,7 +4,7 @@ ghost use Rattle.std.specs.Prelude.{◌≡◌, ◌+◌, ◌*◌, ◌<◌};
 ghost use Rattle.swim_simulate.specs.Network.{endpoint_of};
 ghost use Rattle.swim_simulate.specs.Running.{is_awake};
 
-use crate::key::Key;
+use crate::key::PlanKey;
 use crate::plan::Plan;
 use swim_member::{Deal, Settings};
 use swim_wire::Endpoint;
@@ -38,14 +38,14 @@ pub(crate) fn settings_of(plan: &Plan, place: usize) -> Settings
     Settings {
         group: 1,
         me: endpoint_of(place),
-        lambda: plan.get(Key::Lambda) as u32,
-        period: plan.get(Key::Period),
-        direct: plan.get(Key::Direct),
-        suspect: plan.get(Key::Suspect),
-        forget: plan.get(Key::Forget),
-        helpers: plan.get(Key::Helpers) as usize,
-        block: plan.get(Key::Block),
-        rules: plan.get(Key::Rules) as u32,
+        lambda: plan.get(PlanKey::Lambda) as u32,
+        period: plan.get(PlanKey::Period),
+        direct: plan.get(PlanKey::Direct),
+        suspect: plan.get(PlanKey::Suspect),
+        forget: plan.get(PlanKey::Forget),
+        helpers: plan.get(PlanKey::Helpers) as usize,
+        block: plan.get(PlanKey::Block),
+        rules: plan.get(PlanKey::Rules) as u32,
     }
 }
 

@@ -6,11 +6,11 @@ ghost use Rattle.toml.specs.Parse.{parse_document};
 ghost use Rattle.toml.specs.View.{table_view, view};
 ghost use Rattle.swim_settings.specs.Says.{natural_of};
 ghost use Rattle.swim_settings.specs.Unknown.{AreNamed};
-ghost use Rattle.swim_simulate.specs.declared.key.Key.TheVariants as key;
+ghost use Rattle.swim_simulate.specs.declared.key.PlanKey.TheVariants as key;
 ghost use Rattle.swim_simulate.specs.Keys.{plan_keys, plan_key, range_of};
 ghost use Rattle.swim_simulate.specs.Plan.{AreDefaults, IsFirstKey, IsPlanReason, Says, kill_tick, pause_tick, number_at, with_number, taken_at, taken_from, tick_count, data_at};
 
-use crate::key::{KEYS, Key, Range};
+use crate::key::{KEYS, PlanKey, Range};
 use crate::refusal::PlanRefusal;
 use std::alloc::Global;
 use std::marker::Model;
@@ -38,7 +38,7 @@ impl Model for Plan {
 }
 
 /// What stands at a key.
-fn find(table: &Table, key: Key) -> Option<&Value>
+fn find(table: &Table, key: PlanKey) -> Option<&Value>
     ensures { option_map (λ value. view value.now) result ≡ data_at key (table_view table.now) }
 {
     table.get(key.text())
@@ -55,7 +55,7 @@ fn within(range: Range, number: u64) -> Option<u64>
 }
 
 /// The number that the table gives a key, or else its default; none where the key does not take it.
-fn taken(table: &Table, key: Key) -> Option<u64>
+fn taken(table: &Table, key: PlanKey) -> Option<u64>
     ensures { result ≡ taken_at key (table_view table.now) }
 {
     let range = key.range();
@@ -66,13 +66,13 @@ fn taken(table: &Table, key: Key) -> Option<u64>
 }
 
 /// The plan of a table, or the first key that does not take its number.
-fn read_keys(table: &Table) -> Result<Plan, Key>
+fn read_keys(table: &Table) -> Result<Plan, PlanKey>
     ensures ok { IfOk result (Says (table_view table.now)) }
     ensures refused { IfErr result (λ key. IsFirstKey key (table_view table.now)) }
 {
     let mut numbers = [0; KEYS];
     for place in 0..KEYS {
-        let key = Key::ALL[place];
+        let key = PlanKey::ALL[place];
         match taken(table, key) {
             Some(number) => numbers[place] = number,
             None => return Err(key),
@@ -88,13 +88,13 @@ impl Plan {
     {
         let mut numbers = [0; KEYS];
         for place in 0..KEYS {
-            numbers[place] = Key::ALL[place].range().default;
+            numbers[place] = PlanKey::ALL[place].range().default;
         }
         Plan { numbers }
     }
 
     /// The number of a key.
-    pub fn get(&self, key: Key) -> u64
+    pub fn get(&self, key: PlanKey) -> u64
         ensures value { result ≡ number_at key self.now }
         ensures low { (range_of key).least ≤ result }
         ensures high { result ≤ (range_of key).most }
@@ -107,7 +107,7 @@ impl Plan {
         ensures value { result ≡ tick_count self.now }
         ensures high { result ≤ 86400000 }
     {
-        self.get(Key::Minutes) * 60_000 / self.get(Key::TickMs)
+        self.get(PlanKey::Minutes) * 60_000 / self.get(PlanKey::TickMs)
     }
 
     /// In which tick the kill with this number comes, counted from 0.
@@ -115,7 +115,7 @@ impl Plan {
         requires { kill < number_at key.Kills self.now }
         ensures { result ≡ kill_tick self.now kill }
     {
-        let kills = self.get(Key::Kills);
+        let kills = self.get(PlanKey::Kills);
         self.ticks() * (kill + 1) / (kills + 1)
     }
 
@@ -124,12 +124,12 @@ impl Plan {
         requires { pause < number_at key.Pauses self.now }
         ensures { result ≡ pause_tick self.now pause }
     {
-        let pauses = self.get(Key::Pauses);
+        let pauses = self.get(PlanKey::Pauses);
         self.ticks() * (pause + 1) / (pauses + 1)
     }
 
     /// The plan with another number at a key, if the key takes it.
-    pub fn with(&self, key: Key, number: u64) -> Option<Plan>
+    pub fn with(&self, key: PlanKey, number: u64) -> Option<Plan>
         ensures set { IfSome result (λ plan. plan ≡ with_number key number self.now) }
         ensures taken { IfSome result (λ plan. taken_from (range_of key) number ≡ Some number) }
         ensures refused { IfNone result (taken_from (range_of key) number ≡ None) }
@@ -154,9 +154,9 @@ impl Plan {
             Ok(plan) => plan,
             Err(key) => return Err(PlanRefusal::Key(key)),
         };
-        refuse_unknown(alloc, &Key::ALL, &table)?;
-        if plan.get(Key::Direct) >= plan.get(Key::Period) {
-            return Err(PlanRefusal::Key(Key::Direct));
+        refuse_unknown(alloc, &PlanKey::ALL, &table)?;
+        if plan.get(PlanKey::Direct) >= plan.get(PlanKey::Period) {
+            return Err(PlanRefusal::Key(PlanKey::Direct));
         }
         Ok(plan)
     }

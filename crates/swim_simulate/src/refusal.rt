@@ -3,35 +3,35 @@
 ghost use Rattle.std.specs.Prelude.{◌≡◌};
 ghost use Rattle.swim_simulate.specs.declared.refusal.PlanRefusal.TheVariants as refusals;
 
-use crate::key::Key;
+use crate::key::PlanKey;
 use std::alloc::AllocError;
 use std::{error, fmt};
-use swim_settings::Refusal;
+use swim_settings::SettingsRefusal;
 
 /// Why a plan is refused. It prints the key, or what is wrong with the text, always on one line.
 #[derive(Debug, PartialEq, Eq, Drop)]
 pub enum PlanRefusal {
     /// This key has another value than it takes.
-    Key(Key),
+    Key(PlanKey),
     /// The text is no TOML, or has a key that no plan has, or memory ran out.
-    Text(Refusal),
+    Text(SettingsRefusal),
 }
 
-impl From<Refusal> for PlanRefusal {
+impl From<SettingsRefusal> for PlanRefusal {
     ghost from_gives = { λ refusal result. result ≡ refusals.Text refusal };
 
-    fn from(refusal: Refusal) -> PlanRefusal {
+    fn from(refusal: SettingsRefusal) -> PlanRefusal {
         PlanRefusal::Text(refusal)
     }
 }
 
 impl From<AllocError> for PlanRefusal {
-    ghost use Rattle.swim_settings.specs.declared.refusal.Refusal.TheVariants.{Memory};
+    ghost use Rattle.swim_settings.specs.declared.refusal.SettingsRefusal.TheVariants.{Memory};
 
     ghost from_gives = { λ _ refusal. refusal ≡ refusals.Text Memory };
 
     fn from(_: AllocError) -> PlanRefusal {
-        PlanRefusal::Text(Refusal::Memory)
+        PlanRefusal::Text(SettingsRefusal::Memory)
     }
 }
 

@@ -2,7 +2,7 @@
 
 ghost use Rattle.std.specs.Prelude.{◌≡◌, ◌+◌, ◌-◌, ◌<◌, ◌^◌, ◌++◌, ◌∷◌, [], None, slice_get, IfOk, OnOk};
 ghost use Rattle.swim_group.specs.RealNodes.{HasSoundNodeRun};
-ghost use Rattle.swim_simulate.specs.declared.key.Key.TheVariants.{Members};
+ghost use Rattle.swim_simulate.specs.declared.key.PlanKey.TheVariants.{Members};
 ghost use Rattle.swim_simulate.specs.declared.handed.Handed.TheVariants.{Tick, Datagram};
 ghost use Rattle.swim_simulate.specs.Laws.{IsLawful};
 ghost use Rattle.swim_simulate.specs.Plan.{number_at, tick_count};
@@ -12,8 +12,8 @@ use crate::dice::Dice;
 use crate::fault::SimulateFault;
 use crate::flight::Flight;
 use crate::handed::{Clock, Handed};
-use crate::key::Key;
-use crate::law::Stop;
+use crate::key::PlanKey;
+use crate::law::LawBreak;
 use crate::measures::{Measures, count};
 use crate::place::{Place, place_of, settings_of};
 use crate::plan::Plan;
@@ -45,16 +45,16 @@ impl Run {
         ensures now { IfOk result (λ run. run.watched.tick ≡ 0) }
         ensures clocks { IfOk result (λ run. run.watched.clocks ≡ []) }
     {
-        let members = plan.get(Key::Members) as usize;
+        let members = plan.get(PlanKey::Members) as usize;
         let mut dice = Dice::new(seed);
         let mut settings = Vec::new(alloc);
         let mut places = Vec::new(alloc);
         for place in 0..members {
             settings.push(settings_of(plan, place))?;
-            let begins = dice.below(plan.get(Key::BeginWithin) as usize);
+            let begins = dice.below(plan.get(PlanKey::BeginWithin) as usize);
             places.push(Place::new(begins as u64))?;
         }
-        let limit = plan.get(Key::Limit) as u32;
+        let limit = plan.get(PlanKey::Limit) as u32;
         let watched = Watched::new(alloc, settings.as_slice(), limit)?;
         let shadows = shadows_of(alloc, watched.nodes().seats())?;
         let joiners = joiners_of(alloc, plan, &mut dice, watched.nodes().seats())?;
@@ -154,7 +154,7 @@ impl Run {
     fn end_full(&mut self, who: usize, status: &Status) -> Result<(), SimulateFault>
         ensures { OnOk result (HandsNothing self.old.watched self.new.watched) }
     {
-        if (status.length as u64) < self.scene.plan.get(Key::Limit) {
+        if (status.length as u64) < self.scene.plan.get(PlanKey::Limit) {
             return Ok(());
         }
         self.watched.end_era(who)?;
@@ -430,7 +430,7 @@ pub struct Done {
     /// What was held of each member, moment by moment, and of each moment member by member.
     pub history: Vec<Tally>,
     /// Where the run broke the law of detection, if it did: then it went no further.
-    pub stop: Option<Stop>,
+    pub stop: Option<LawBreak>,
     /// How many ticks of the group were simulated.
     pub ticks: u64,
     /// Which clocks went on in which tick.
@@ -462,7 +462,7 @@ pub fn simulate(alloc: Global, plan: &Plan, seed: u64, moments: u64) -> Result<D
         done.clocks ≡ rounds (number_at Members plan.now) done.ticks) }
 {
     let mut run = Run::new(alloc, plan, seed)?;
-    let members = plan.get(Key::Members) as usize;
+    let members = plan.get(PlanKey::Members) as usize;
     let ticks = plan.ticks();
     for tick in 0..ticks {
         run.turn(members)?;
@@ -487,7 +487,7 @@ pub fn script_of(
 ) -> Result<Script, SimulateFault> {
     let mut run = Run::new(alloc, plan, seed)?;
     run.scene.script = Script::begin(alloc, plan, place_of(member))?;
-    let members = plan.get(Key::Members) as usize;
+    let members = plan.get(PlanKey::Members) as usize;
     for _ in 0..plan.ticks().min(tick.saturating_add(1)) {
         run.turn(members)?;
     }

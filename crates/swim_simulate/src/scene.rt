@@ -7,7 +7,7 @@ use crate::dice::Dice;
 use crate::fault::SimulateFault;
 use crate::flight::Flight;
 use crate::joining::{Asked, joiner_of, turn};
-use crate::key::Key;
+use crate::key::PlanKey;
 use crate::measures::{Awaited, Measures, count};
 use crate::network::{fate_by, is_cut, size_of_datagram};
 use crate::place::{Place, place_of};
@@ -110,7 +110,7 @@ impl Scene {
 
     /// Which second it is.
     fn second(&self, now: u64) -> u64 {
-        now.saturating_mul(self.plan.get(Key::TickMs)) / 1000
+        now.saturating_mul(self.plan.get(PlanKey::TickMs)) / 1000
     }
 
     /// The way of a datagram that is sent now from this member to that one.
@@ -155,7 +155,7 @@ impl Scene {
 
     /// Whether the next save of a member fails, as it is drawn if the plan has saves that fail.
     pub(crate) fn draws_failure(&mut self) -> bool {
-        let failing = self.plan.get(Key::FailingSyncs);
+        let failing = self.plan.get(PlanKey::FailingSyncs);
         failing > 0 && u64::from(self.dice.word() % 100) < failing
     }
 
@@ -310,7 +310,7 @@ impl Scene {
     fn clock(&self, who: usize) -> QuietClock {
         let ticks = self.places.get(who).map_or(0, |place| place.ticks);
         QuietClock {
-            millis: ticks.saturating_mul(self.plan.get(Key::TickMs)),
+            millis: ticks.saturating_mul(self.plan.get(PlanKey::TickMs)),
         }
     }
 
@@ -331,7 +331,7 @@ impl Scene {
         };
         if place.until_deal == 0 {
             place.deal = self.dice.deal();
-            place.until_deal = self.plan.get(Key::Period);
+            place.until_deal = self.plan.get(PlanKey::Period);
         }
         place.until_deal -= 1;
         place.ticks = place.ticks.saturating_add(1);
@@ -343,10 +343,10 @@ impl Scene {
         ensures value { result ≡ rate_of self.now.plan who }
         ensures high { result ≤ 1000 }
     {
-        let odd = self.plan.get(Key::OddClocks);
-        let even = self.plan.get(Key::Members).saturating_sub(odd);
+        let odd = self.plan.get(PlanKey::OddClocks);
+        let even = self.plan.get(PlanKey::Members).saturating_sub(odd);
         if even <= who as u64 {
-            return self.plan.get(Key::ClockRate);
+            return self.plan.get(PlanKey::ClockRate);
         }
         100
     }
@@ -369,10 +369,10 @@ impl Scene {
     /// What a crash leaves of what was not synced.
     pub(crate) fn choice(&mut self) -> Choice {
         let chance = u64::from(self.dice.word() % 100);
-        let dropped = self.plan.get(Key::Dropped);
+        let dropped = self.plan.get(PlanKey::Dropped);
         if chance < dropped {
             Choice::Drop
-        } else if chance < dropped + self.plan.get(Key::Filled) {
+        } else if chance < dropped + self.plan.get(PlanKey::Filled) {
             Choice::Fill((self.dice.word() % 256) as u8)
         } else {
             Choice::Keep
@@ -451,11 +451,11 @@ impl Scene {
 
     /// A member that runs is killed, if it is time. It is opened again later, if the plan says so.
     pub(crate) fn kill(&mut self, now: u64) -> Result<(), SimulateFault> {
-        if self.kills >= self.plan.get(Key::Kills) || now < self.plan.kill_tick(self.kills) {
+        if self.kills >= self.plan.get(PlanKey::Kills) || now < self.plan.kill_tick(self.kills) {
             return Ok(());
         }
         self.kills += 1;
-        let after = self.plan.get(Key::RestartAfter);
+        let after = self.plan.get(PlanKey::RestartAfter);
         let Some(who) = self.drawn_up() else {
             return Ok(());
         };
@@ -473,11 +473,13 @@ impl Scene {
 
     /// A member that runs is paused, if it is time.
     pub(crate) fn pause(&mut self, now: u64) {
-        if self.pauses >= self.plan.get(Key::Pauses) || now < self.plan.pause_tick(self.pauses) {
+        if self.pauses >= self.plan.get(PlanKey::Pauses)
+            || now < self.plan.pause_tick(self.pauses)
+        {
             return;
         }
         self.pauses += 1;
-        let until = now.saturating_add(self.plan.get(Key::PauseFor));
+        let until = now.saturating_add(self.plan.get(PlanKey::PauseFor));
         if let Some(who) = self.drawn_up() {
             count(&mut self.measures.counts.pauses);
             if let Some(place) = self.places.get_mut(who) {

@@ -1,6 +1,6 @@
 //! What one member of a group was given, as a script of `swim play`, and what it sent.
 
-use crate::key::Key;
+use crate::key::PlanKey;
 use crate::place::endpoint_of;
 use crate::plan::Plan;
 use std::alloc::{AllocError, Global};
@@ -10,16 +10,16 @@ use swim_member::{Deal, Event, Out};
 use swim_wire::{Datagram, MEMBERS_MAX, encode};
 
 /// The keys that are settings of a script too, by the same names.
-const SETTINGS: [Key; 9] = [
-    Key::Lambda,
-    Key::Period,
-    Key::Direct,
-    Key::Suspect,
-    Key::Forget,
-    Key::Helpers,
-    Key::Limit,
-    Key::Block,
-    Key::Rules,
+const SETTINGS: [PlanKey; 9] = [
+    PlanKey::Lambda,
+    PlanKey::Period,
+    PlanKey::Direct,
+    PlanKey::Suspect,
+    PlanKey::Forget,
+    PlanKey::Helpers,
+    PlanKey::Limit,
+    PlanKey::Block,
+    PlanKey::Rules,
 ];
 
 /// What a member is given.
@@ -89,7 +89,7 @@ impl Script {
             return Ok(script);
         }
         script.who = Some(who);
-        script.others = (plan.get(Key::Members) - 1) as usize;
+        script.others = (plan.get(PlanKey::Members) - 1) as usize;
         let me = endpoint_of(who);
         writeln!(script.lines, "group 1\nme {me}")?;
         for key in SETTINGS {

@@ -10,7 +10,7 @@ ghost use Rattle.swim_simulate.specs.Running.{HandsNothing};
 
 use crate::fault::SimulateFault;
 use crate::handed::{Clock, Handed};
-use crate::law::{Broken, Law, Stop};
+use crate::law::{Broken, LawBreak, LawRecord};
 use crate::shadow::Lapse;
 use std::alloc::Global;
 use std::marker::Model;
@@ -29,7 +29,7 @@ const ROOM: usize = 1 << 20;
 #[derive(Drop)]
 pub(crate) struct Watched {
     nodes: Nodes,
-    law: Law,
+    law: LawRecord,
     tick: u64,
     clocks: Trace<Clock>,
     handed: Trace<Handed>,
@@ -56,7 +56,7 @@ impl Model for Watched {
 }
 
 /// The law looks at what is kept from this place on. Err: there was no memory, and from here on nothing is looked at.
-fn look_on(law: &mut Law, now: u64, kept: &[Out], first: usize) -> Result<(), SimulateFault>
+fn look_on(law: &mut LawRecord, now: u64, kept: &[Out], first: usize) -> Result<(), SimulateFault>
     ensures { PassesAll law.old law.new (drop first kept.now) }
 {
     for index in first..kept.len() {
@@ -69,7 +69,12 @@ fn look_on(law: &mut Law, now: u64, kept: &[Out], first: usize) -> Result<(), Si
 }
 
 /// The law looks at what was sent last, where so many were kept before. Where no more are kept, later ones are not seen.
-fn look_at_last(law: &mut Law, now: u64, kept: &[Out], before: usize) -> Result<(), SimulateFault>
+fn look_at_last(
+    law: &mut LawRecord,
+    now: u64,
+    kept: &[Out],
+    before: usize,
+) -> Result<(), SimulateFault>
     ensures { LooksAtLast law.old law.new kept.now before }
 {
     if kept.len() >= ROOM {
@@ -94,7 +99,7 @@ impl Watched {
         let nodes = Nodes::new(alloc, settings, limit, ROOM)?;
         Ok(Watched {
             nodes,
-            law: Law::new(alloc),
+            law: LawRecord::new(alloc),
             tick: 0,
             clocks: Trace::new(),
             handed: Trace::new(),
@@ -116,7 +121,7 @@ impl Watched {
     }
 
     /// Where a law was broken first, if one was: never that of a group.
-    pub(crate) fn stop(&self) -> Option<Stop>
+    pub(crate) fn stop(&self) -> Option<LawBreak>
         ensures stop { result ≡ self.now.law.stop }
         ensures lawful { IsLawful result }
     {
@@ -231,7 +236,7 @@ impl Watched {
         ensures nodes { self.new.nodes ≡ self.old.nodes }
         ensures aside { HandsNothing self.old self.new }
     {
-        self.law.note(Stop {
+        self.law.note(LawBreak {
             tick: self.tick,
             sender,
             update,

@@ -14,4 +14,4 @@ pub use joining::peers_of;
 pub use locked_file::{LockedFile, open_locked, sync_folder};
 pub use opening::{FileNode, open};
 pub use own_file::OwnFile;
-pub use watched_disk::{Watch, WatchedDisk};
+pub use watched_disk::{WatchedDisk, WriteWatch};

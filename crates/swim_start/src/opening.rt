@@ -12,7 +12,7 @@ ghost use Rattle.swim_state.specs.Recovery.{fault_of};
 ghost use Rattle.swim_state.specs.declared.fault.RecoverFault.{RecoverFault as Faults};
 ghost use Rattle.swim_state.specs.declared.fault.RecoverFault.TheVariants.{Device};
 
-use crate::watched_disk::{Watch, WatchedDisk};
+use crate::watched_disk::{WatchedDisk, WriteWatch};
 use std::alloc::Global;
 use swim_disk::FileDisk;
 use swim_member::Settings;
@@ -25,7 +25,7 @@ pub type FileNode<W> = Node<WatchedDisk<FileDisk, W>>;
 type Unopened<W> = (WatchedDisk<FileDisk, W>, OpenFault);
 
 /// Opens the member on its state file, which was just loaded. It is written only while the watch says that it may be.
-pub fn open<W: Watch + Drop>(
+pub fn open<W: WriteWatch + Drop>(
     alloc: Global,
     disk: FileDisk,
     watch: W,

@@ -5,7 +5,7 @@ ghost use Rattle.swim_start.specs.OwnFile.{LooksOnce, is_missing, is_same_file};
 
 use crate::locked_file::LockedFile;
 use crate::named_file::{Found, NamedFile};
-use crate::watched_disk::Watch;
+use crate::watched_disk::WriteWatch;
 use std::alloc::{AllocError, Global};
 use std::fs::File;
 use std::io::{self, ErrorKind};
@@ -132,7 +132,7 @@ impl<R: Files<File = File> + Copy> OwnFile<R> {
     }
 }
 
-impl<R: Files<File = File> + Copy> Watch for OwnFile<R> {
+impl<R: Files<File = File> + Copy> WriteWatch for OwnFile<R> {
     ghost use Rattle.std.specs.Prelude.{◌≡◌, ◌++◌, ◌∷◌, [], true};
 
     ghost asked = { λ f. f.asked };

@@ -6,7 +6,7 @@ use swim_disk::{Disk, DiskFault};
 use swim_trace::Trace;
 
 /// What tells whether a disk may be written.
-pub trait Watch {
+pub trait WriteWatch {
     /// What it has said, in order.
     ghost asked: { Self → List Bool };
 
@@ -18,14 +18,14 @@ pub trait Watch {
 /// A disk over another one, that asks its watch before each write and sync. Where the watch says no, the call fails, and so
 /// does each later write and sync: the disk below gets none of them. A read is passed on.
 #[derive(Drop)]
-pub struct WatchedDisk<D: Disk, W: Watch> {
+pub struct WatchedDisk<D: Disk, W: WriteWatch> {
     inner: D,
     watch: W,
     is_lost: bool,
     refused: Trace<()>,
 }
 
-impl<D: Disk, W: Watch> WatchedDisk<D, W> {
+impl<D: Disk, W: WriteWatch> WatchedDisk<D, W> {
     ghost use Rattle.swim_start.specs.WatchedDisk.{IsAdmitted, IsRefused, disk_below, is_lost_in, refusals_of};
 
     /// A disk over this one, which was not lost yet.
@@ -59,7 +59,7 @@ impl<D: Disk, W: Watch> WatchedDisk<D, W> {
     }
 }
 
-impl<D: Disk, W: Watch> Disk for WatchedDisk<D, W> {
+impl<D: Disk, W: WriteWatch> Disk for WatchedDisk<D, W> {
     ghost use Rattle.std.specs.Prelude.{◌≤◌, length, take, drop, IfOk};
     ghost use Rattle.swim_disk.specs.Disk.{Counts, Rests, Syncs, Writes};
     ghost use Rattle.swim_start.specs.WatchedDisk.{IsPassedOn, PassesIfOwn, watched_state};

@@ -1,6 +1,6 @@
 -- Bodies of version 2, byte by byte.
 use Rattle.std.proofs.Common.{◌≡◌, ℕ, zero, suc, ◌+◌, ◌-◌, ◌*◌, ◌%◌, ◌^◌, ◌<◌, ◌≤◌, Bool, true, false, not, ◌&&◌, nat_lt, nat_le, if◌then◌else◌, List, [], ◌∷◌, ◌++◌, length, drop, replicate, slice_index, Some, None, refl, sym, ◌∙◌, ap, arith, length-append, append_assoc, All}
-use Rattle.std.proofs.lemmas.Bool.{and_from, and_parts, le-leb, leb-true}
+use Rattle.std.proofs.lemmas.Bool.{and_from, and_parts, le-leb, leb-true, false_from_ne_true}
 use Rattle.std.proofs.lemmas.List.{drop-drop, length-map, length-replicate}
 use Rattle.std.proofs.lemmas.Grind.{flat_map-append}
 use Rattle.std.proofs.lemmas.List.Elements.{All-head, All-tail}
@@ -47,14 +47,6 @@ step_on before x p rest is =
 pub step_off : (before x : ℕ) (rest : List ℕ) → None ≡ (if nat_lt before x && nat_lt 0 (x % 65536) then Some x else None) → ascend before (x ∷ rest) ≡ false
 step_off before x rest is = ap (λ t. t && ascend x rest) (none_if (nat_lt before x && nat_lt 0 (x % 65536)) x is)
 
-is_false : (t : Bool) → (t ≡ true → ⊥) → t ≡ false
-is_false true never = absurd (never refl)
-is_false false never = refl
-
-pub not_false : (t : Bool) → not t ≡ false → t ≡ true
-not_false true is = refl
-not_false false is = cc
-
 -- the tests of a body
 good_parts : (bytes : List ℕ) → is_good bytes ≡ true → (may_be_saved (saved_in bytes) ≡ true) × (bytes ≡ body (saved_in bytes))
 unfolding is_good
@@ -80,21 +72,21 @@ unfolding saved_in
 ceiling_is bytes = refl
 
 pub too_great : (bytes : List ℕ) → 2 ^ 62 < big_number 8 bytes → is_good bytes ≡ false
-too_great bytes great = is_false (is_good bytes) (λ good. absurd (let p = stand_parts (saved_in bytes) (good_parts bytes good).0 in omega (arith, p.0, ceiling_is bytes, great)))
+too_great bytes great = false_from_ne_true (is_good bytes) (λ good. absurd (let p = stand_parts (saved_in bytes) (good_parts bytes good).0 in omega (arith, p.0, ceiling_is bytes, great)))
 
 pub too_many : (bytes : List ℕ) → 8 < slice_index bytes 8 → is_good bytes ≡ false
-too_many bytes many = is_false (is_good bytes) (λ good. absurd (let p = stand_parts (saved_in bytes) (good_parts bytes good).0 in omega (arith, p.1, count_in bytes, many)))
+too_many bytes many = false_from_ne_true (is_good bytes) (λ good. absurd (let p = stand_parts (saved_in bytes) (good_parts bytes good).0 in omega (arith, p.1, count_in bytes, many)))
 
 pub not_up : (bytes : List ℕ) → ascend 0 (endpoints (slice_index bytes 8) (drop 9 bytes)) ≡ false → is_good bytes ≡ false
 unfolding saved_in
-not_up bytes not = is_false (is_good bytes) (λ good. let p = stand_parts (saved_in bytes) (good_parts bytes good).0 in let e : true ≡ false = sym (p.2) ∙ not in cc)
+not_up bytes not = false_from_ne_true (is_good bytes) (λ good. let p = stand_parts (saved_in bytes) (good_parts bytes good).0 in let e : true ≡ false = sym (p.2) ∙ not in cc)
 
 pub saved_is : (bytes : List ℕ) (ceiling : ℕ) (peers : List ℕ) → ceiling ≡ big_number 8 bytes → peers ≡ endpoints (slice_index bytes 8) (drop 9 bytes) → record { ceiling = ceiling; peers = peers } ≡ saved_in bytes
 unfolding saved_in
 saved_is bytes ceiling peers high those = λ i. record { ceiling = high i; peers = those i }
 
 pub another_body : (bytes : List ℕ) → (bytes ≡ body (saved_in bytes) → ⊥) → is_good bytes ≡ false
-another_body bytes differs = is_false (is_good bytes) (λ good. absurd (differs (good_parts bytes good).1))
+another_body bytes differs = false_from_ne_true (is_good bytes) (λ good. absurd (differs (good_parts bytes good).1))
 
 pub good_from : (bytes : List ℕ) → may_be_saved (saved_in bytes) ≡ true → bytes ≡ body (saved_in bytes) → is_good bytes ≡ true
 unfolding is_good

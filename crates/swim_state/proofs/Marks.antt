@@ -78,7 +78,7 @@ block_marked image two = take_mark image ∙ marked image two
 pub stands_two : (front : List ℕ) (slot : Slot) (kept : Saved) (image : List ℕ) → slice_index front 2048 ≡ 0xA5 → Stands version_2 front slot kept image → version_in image ≡ Two
 stands_two front slot kept image mark stands = ap version_by (sym (take_mark image) ∙ ap (λ (l : List ℕ). slice_index l 2048) stands.front ∙ mark)
 
--- an image in which the other_slot slot stands covers what it holds
+-- an image in which the other slot stands covers what it holds
 pub stands_covers : (owner : Owner) (front : List ℕ) (slot : Slot) (kept : Saved) (n : ℕ) (image : List ℕ) → take 24 front ≡ head owner → slice_index front 2048 ≡ 0xA5 → kept.ceiling ≡ n → Stands version_2 front slot kept image → Covers owner n image
 stands_covers owner front slot kept n image begins mark is stands =
     covers_by owner Two slot kept n image (stands_two front slot kept image mark stands) stands.long (sym (take_front image) ∙ ap (λ (l : List ℕ). take 24 l) stands.front ∙ begins) stands.held stands.whole (omega (arith, is))

@@ -1,5 +1,6 @@
 -- How a migration goes: first past the slots of version 1, then at the mark.
 use Rattle.std.proofs.Common.{◌≡◌, ◌⊎◌, inl, inr, ⊎_elim, ℕ, ◌+◌, ◌^◌, ◌<◌, ◌≤◌, List, [], ◌∷◌, length, take, slice_index, Result, Ok, Err, true, refl, sym, ◌∙◌, ap, subst, arith, All}
+use Rattle.swim_disk.proofs.Filled.{length_reaches}
 use Rattle.swim_disk.specs.Disk.{DiskState, Torn, Writes, Syncs, Elapses, overlaid, IsSettled}
 use Rattle.swim_disk.specs.Machinery.Torn.{overlaid_torn}
 use Rattle.swim_state.specs.Layout.{bytes_from}
@@ -19,7 +20,7 @@ use Rattle.swim_state.proofs.Bodies.{body_reads, length-body, stand_parts}
 use Rattle.swim_state.proofs.Marks.{says_in, long_as, covers_by, version_kept}
 use Rattle.swim_state.proofs.Moments.{weaker, goes_on}
 use Rattle.swim_state.proofs.Standing.{byte_kept, byte_written, reading_kept}
-use Rattle.swim_state.proofs.Torn.{part_kept, overlaid_part, overlaid_long}
+use Rattle.swim_state.proofs.Torn.{part_kept, overlaid_part}
 
 -- an image that says what another one says
 same_covers : (owner : Owner) (n : ℕ) (old new : List ℕ) → (layout_of (version_in new)).file_size ≤ length new → take 24 new ≡ take 24 old → ((slot : Slot) → says new slot ≡ says old slot) → Covers owner n old → Covers owner n new
@@ -91,9 +92,9 @@ laid_reads old saved stands fit =
     let third = overlaid second 32768 (0 ∷ []) in
     let torn_2 : Torn 24576 1 first second = overlaid_torn first 24576 (0xA5 ∷ []) in
     let torn_3 : Torn 32768 1 second third = overlaid_torn second 32768 (0 ∷ []) in
-    let long_1 : 20594 ≤ length first = omega (arith, size, overlaid_long old 20480 (body saved)) in
-    let long_2 : 24577 ≤ length second = overlaid_long first 24576 (0xA5 ∷ []) in
-    let long_3 : 32769 ≤ length third = overlaid_long second 32768 (0 ∷ []) in
+    let long_1 : 20594 ≤ length first = omega (arith, size, length_reaches old 20480 (body saved)) in
+    let long_2 : 24577 ≤ length second = length_reaches first 24576 (0xA5 ∷ []) in
+    let long_3 : 32769 ≤ length third = length_reaches second 32768 (0 ∷ []) in
     let body_1 : bytes_from first 20480 114 ≡ body saved = subst (λ k. bytes_from first 20480 k ≡ body saved) size (overlaid_part old 20480 (body saved)) in
     let body_2 : bytes_from second 20480 114 ≡ bytes_from first 20480 114 = part_kept 24576 1 first second 20480 114 torn_2 (omega (arith, long_1)) (inl (omega arith)) in
     let body_3 : bytes_from third 20480 114 ≡ bytes_from second 20480 114 = part_kept 32768 1 second third 20480 114 torn_3 (omega (arith, long_2)) (inl (omega arith)) in

@@ -1,6 +1,6 @@
 -- Which fault a content shows, test by test.
 use Rattle.std.proofs.Common.{◌≡◌, ◌≢◌, ◌⊎◌, inl, inr, ⊎_elim, ℕ, ◌^◌, ◌<◌, ◌≤◌, max, Bool, true, false, nat_lt, ◌==◌, if◌then◌else◌, List, [], ◌∷◌, length, take, Option, Some, None, refl, sym, ◌∙◌, ap, subst, arith}
-use Rattle.std.proofs.lemmas.Bool.{and_from, and_parts, eqb-true, eq-eqb, ne_eqb, lt-ltb, ltb-true}
+use Rattle.std.proofs.lemmas.Bool.{and_from, and_parts, eqb-true, eq-eqb, ne_eqb, lt-ltb, ltb-true, false_from_ne_true}
 use Rattle.std.proofs.lemmas.List.{take_at}
 use Rattle.swim_state.specs.File.{letters, owner_bytes, head, says, version_in, layout_of, IsOpen, ceiling_of, floor_of, AreOf, AreUsable, IsSound}
 use Rattle.swim_state.specs.Recovery.{same_bytes, head_fault, slots_fault, first_fault, fault_of, IsFound}
@@ -30,12 +30,8 @@ same_sound (x ∷ xs) (y ∷ ys) is =
 same_true : (xs ys : List ℕ) → xs ≡ ys → same_bytes xs ys ≡ true
 same_true xs ys is = subst (λ (l : List ℕ). same_bytes xs l ≡ true) is (same_refl xs)
 
-is_false : (t : Bool) → (t ≡ true → ⊥) → t ≡ false
-is_false true never = absurd (never refl)
-is_false false never = refl
-
 same_false : (xs ys : List ℕ) → (xs ≡ ys → ⊥) → same_bytes xs ys ≡ false
-same_false xs ys differs = is_false (same_bytes xs ys) (λ is. differs (same_sound xs ys is))
+same_false xs ys differs = false_from_ne_true (same_bytes xs ys) (λ is. differs (same_sound xs ys is))
 
 pub mark_first : (owner : Owner) → take 10 (head owner) ≡ letters
 unfolding letters
@@ -107,7 +103,7 @@ unfolding fault_of
 long_enough owner content long =
     let size = (layout_of (version_in content)).file_size in
     ap (λ t. if t then Some NotState else first_fault (head_fault owner (take 24 content)) (slots_fault (says content A) (says content B)))
-    (is_false _ (λ (less : nat_lt (length content) size ≡ true). absurd (omega (arith, long, ltb-true (length content) size less))))
+    (false_from_ne_true _ (λ (less : nat_lt (length content) size ≡ true). absurd (omega (arith, long, ltb-true (length content) size less))))
 
 -- a fault of the head, and then what the slots show, of a content that is long enough
 pub head_shows : (owner : Owner) (content found : List ℕ) (f : RecoverFault) → (layout_of (version_in content)).file_size ≤ length content → found ≡ take 24 content → head_fault owner found ≡ Some f → fault_of owner content ≡ Some f

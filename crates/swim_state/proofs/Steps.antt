@@ -1,5 +1,6 @@
 -- How steps of a save follow one another.
-use Rattle.std.proofs.Common.{◌≡◌, ◌≤◌, ℕ, true, List, ◌∷◌, [], length, Result, Ok, Err, OnOk, IfOk, subst, sym}
+use Rattle.std.proofs.Common.{◌≡◌, ◌≤◌, ℕ, true, List, ◌∷◌, [], length, Result, Ok, Err, OnOk, subst, sym}
+use Rattle.std.proofs.lemmas.Result.{on_ok_weaker}
 use Rattle.swim_disk.specs.Disk.{DiskState, Torn, overlaid}
 use Rattle.swim_state.specs.Layout.{Layout, bytes_from}
 use Rattle.swim_state.specs.Second.{body, version_2}
@@ -22,14 +23,6 @@ pub on_both : {T E : Type 0} (P Q R : Type 0) (result : Result T E) → (P → Q
 on_both P Q R (Ok v) so p q = so p q
 on_both P Q R (Err e) so p q = tt
 
-pub on_ok : {T E : Type 0} (P Q : Type 0) (result : Result T E) → (P → Q) → OnOk result P → OnOk result Q
-on_ok P Q (Ok v) so p = so p
-on_ok P Q (Err e) so p = p
-
-pub if_ok : {T E : Type 0} (P Q : T → Type 0) (result : Result T E) → ((v : T) → P v → Q v) → IfOk result P → IfOk result Q
-if_ok P Q (Ok v) so p = so v p
-if_ok P Q (Err e) so p = tt
-
 -- a step that is one write and its sync
 put_step : {T E : Type 0} (layout : Layout) (front : List ℕ) (slot : Slot) (kept : Saved) (at : ℕ) (bytes : List ℕ) (Q : List ℕ → Type 0) (result : Result T E) (old new : DiskState) → Put at bytes result old new
     → ((c : List ℕ) → Torn at (length bytes) old.content c → Stands layout front slot kept c) → Q (overlaid old.content at bytes) → SaveStep layout front slot kept Q result old new
@@ -37,7 +30,7 @@ put_step layout front slot kept at bytes Q result old new put torn done = record
   moments = weaker _ _ old new torn put.moments;
   images = λ c left. torn c (put.images c left);
   settled = put.settled;
-  done = on_ok (new.content ≡ overlaid old.content at bytes) (Q new.content) result (λ is. subst Q (sym is) done) put.done;
+  done = on_ok_weaker result (λ is. subst Q (sym is) done) put.done;
 }
 
 pub gate_step : {T E : Type 0} (layout : Layout) (front : List ℕ) (slot : Slot) (kept : Saved) (at v : ℕ) (Q : List ℕ → Type 0) (result : Result T E) (old new : DiskState) → at ≡ layout.gate_at slot → Put at (v ∷ []) result old new
@@ -65,5 +58,5 @@ body_step front slot kept at saved bytes result old new few is are put stands sh
     (λ c torn. (torn_body version_2 front slot kept old.content c stands shut (subst (λ k. Torn (version_2.body_at slot) k old.content c) (length-body saved few) torn)).0) (body_written front slot kept saved old.content few stands shut)
 
 -- what a read gives after a step is one of its images
-pub stands_after : {T E : Type 0} (layout : Layout) (front : List ℕ) (slot : Slot) (kept : Saved) (Q : List ℕ → Type 0) (result : Result T E) (old new : DiskState) → SaveStep layout front slot kept Q result old new → Stands layout front slot kept new.content
-stands_after layout front slot kept Q result old new step = step.images new.content new.reads
+pub stands_after : {T E : Type 0} {layout : Layout} {front : List ℕ} {slot : Slot} {kept : Saved} {Q : List ℕ → Type 0} {result : Result T E} {old new : DiskState} → SaveStep layout front slot kept Q result old new → Stands layout front slot kept new.content
+stands_after {new = new} step = step.images new.content new.reads

@@ -1,5 +1,5 @@
 -- A whole save, from its three steps.
-use Rattle.std.proofs.lemmas.Bool.{le-leb, leb-true}
+use Rattle.std.proofs.lemmas.Bool.{le-leb, lt-leb}
 use Rattle.std.proofs.Common.{Bool, false, nat_le, if◌then◌else◌, slice_index, ◌≡◌, ◌≢◌, inl, inr, ℕ, ◌==◌, [], ◌^◌, ◌<◌, ◌≤◌, true, List, take, Ok, Err, refl, subst, sym, ◌∙◌, ap, arith}
 use Rattle.swim_disk.specs.Disk.{DiskState, IsSettled}
 use Rattle.swim_state.specs.Layout.{other_slot, bytes_from}
@@ -17,7 +17,7 @@ use Rattle.swim_state.specs.declared.layout.Reading.TheVariants.{Shut, Holds, Da
 use Rattle.swim_state.specs.declared.slots.Slots.{Slots}
 use Rattle.swim_state.specs.declared.layout.Version.{Version}
 use Rattle.swim_state.specs.declared.layout.Version.TheVariants.{One, Two}
-use Rattle.swim_state.proofs.Marks.{says_in, long_as, stands_two, stands_covers}
+use Rattle.swim_state.proofs.Marks.{block_begins, block_marked, says_in, long_as, stands_two, stands_covers}
 use Rattle.swim_state.proofs.Standing.{read_good}
 use Rattle.swim_state.proofs.Moments.{weaker}
 
@@ -29,12 +29,24 @@ whole : (slots : Slots) (slot : Slot) → AreUsable slots → reading_in slots s
 whole slots A usable = usable.whole_a
 whole slots B usable = usable.whole_b
 
-pub stands_from : (owner : Owner) (image : List ℕ) (slots : Slots) (slot : Slot) (kept : Saved) → IsSound owner image → version_in image ≡ Two → AreOf version_2 image slots → reading_in slots (other_slot slot) ≡ Holds kept → Stands version_2 (take 4096 image) slot kept image
-stands_from owner image slots slot kept sound two are held = record {
-  long = long_as image Two two sound.long;
-  front = refl;
-  held = sym (of_slot image slots (other_slot slot) are) ∙ held;
-  whole = λ bad. sound.good slot (says_in image Two slot two ∙ bad);
+-- A save begins: the other slot holds what has the floor, over the first block of a sound file of version 2.
+pub record Begun (owner : Owner) (image : List ℕ) (slots : Slots) (slot : Slot) (kept : Saved) : Type 0 where
+  pub begins : take 24 (take 4096 image) ≡ head owner
+  pub mark : slice_index (take 4096 image) 2048 ≡ 0xA5
+  pub floor : kept.ceiling ≡ floor_of slots
+  pub stands : Stands version_2 (take 4096 image) slot kept image
+
+pub begun : {owner : Owner} {image : List ℕ} {slots : Slots} (slot : Slot) (other : (kept : Saved) × (reading_in slots (other_slot slot) ≡ Holds kept) × (kept.ceiling ≡ floor_of slots)) → IsSound owner image → version_in image ≡ Two → AreOf version_2 image slots → Begun owner image slots slot other.0
+begun {owner} {image} {slots} slot (kept, held, floor) sound two are = record {
+  begins = block_begins owner image sound;
+  mark = block_marked image two;
+  floor = floor;
+  stands = record {
+    long = long_as image Two two sound.long;
+    front = refl;
+    held = sym (of_slot image slots (other_slot slot) are) ∙ held;
+    whole = λ bad. sound.good slot (says_in image Two slot two ∙ bad);
+  };
 }
 
 -- a slot that isn't shut has a good body
@@ -68,38 +80,35 @@ usable_with slots new B kept saved written same held less le = record {
 }
 
 -- the peers after a save
-is_false : (t : Bool) → (t ≡ true → ⊥) → t ≡ false
-is_false true never = absurd (never refl)
-is_false false never = refl
-
-le_false : (m n : ℕ) → n < m → nat_le m n ≡ false
-le_false m n less = is_false (nat_le m n) (λ yes. absurd (omega (arith, less, leb-true m n yes)))
-
 pub peers_with : (slots new : Slots) (slot : Slot) (kept saved : Saved) → reading_in new slot ≡ Holds saved → reading_in new (other_slot slot) ≡ reading_in slots (other_slot slot) → reading_in slots (other_slot slot) ≡ Holds kept → kept.ceiling < saved.ceiling → peers_in new ≡ saved.peers
 peers_with slots new A kept saved written same held less =
     ap (λ a. peers_by a new.b) written ∙ ap (λ b. peers_by (Holds saved) b) (same ∙ held) ∙ ap (λ t. if t then saved.peers else kept.peers) (le-leb kept.ceiling saved.ceiling (omega (arith, less)))
 peers_with slots new B kept saved written same held less =
-    ap (λ a. peers_by a new.b) (same ∙ held) ∙ ap (λ b. peers_by (Holds kept) b) written ∙ ap (λ t. if t then kept.peers else saved.peers) (le_false saved.ceiling kept.ceiling less)
+    ap (λ a. peers_by a new.b) (same ∙ held) ∙ ap (λ b. peers_by (Holds kept) b) written ∙ ap (λ t. if t then kept.peers else saved.peers) (lt-leb saved.ceiling kept.ceiling less)
+
+-- what stands on the way covers the floor
+covers : {owner : Owner} {image : List ℕ} {slots : Slots} {slot : Slot} {kept : Saved} → Begun owner image slots slot kept → (c : List ℕ) → Stands version_2 (take 4096 image) slot kept c → Covers owner (floor_of slots) c
+covers {owner} {image} {slots} {slot} {kept} begin c stands = stands_covers owner (take 4096 image) slot kept (floor_of slots) c begin.begins begin.mark begin.floor stands
 
 -- a save that stopped
-pub stopped : {T E : Type 0} (owner : Owner) (front : List ℕ) (slot : Slot) (kept : Saved) (n : ℕ) (slots : Slots) (e : E) (old new : DiskState) → take 24 front ≡ head owner → slice_index front 2048 ≡ 0xA5 → kept.ceiling ≡ n
-    → Through (Stands version_2 front slot kept) old new → ((c : List ℕ) → new.images c → Stands version_2 front slot kept c) → Saves {T = T} owner n slots (Err e) old new
-stopped owner front slot kept n slots e old new begins mark is moments images = record {
-  moments = weaker _ _ old new (λ c stands. stands_covers owner front slot kept n c begins mark is stands) moments;
-  images = λ c left. (stands_covers owner front slot kept n c begins mark is (images c left), stands_two front slot kept c mark (images c left));
+pub stopped : {T E : Type 0} {owner : Owner} {image : List ℕ} {slots : Slots} {slot : Slot} {kept : Saved} (begin : Begun owner image slots slot kept) (e : E) {old new : DiskState}
+    → Through (Stands version_2 (take 4096 image) slot kept) old new → ((c : List ℕ) → new.images c → Stands version_2 (take 4096 image) slot kept c) → Saves {T = T} owner (floor_of slots) slots (Err e) old new
+stopped {T} {E} {owner} {image} {slots} {slot} {kept} begin e {old} {new} moments images = record {
+  moments = weaker _ _ old new (λ c stands. covers begin c stands) moments;
+  images = λ c left. (covers begin c (images c left), stands_two (take 4096 image) slot kept c begin.mark (images c left));
   settled = tt;
   sound = tt;
   same = tt;
 }
 
-pub finished : {T E : Type 0} (owner : Owner) (front : List ℕ) (slot : Slot) (kept : Saved) (n : ℕ) (slots : Slots) (v : T) (old new : DiskState) → take 24 front ≡ head owner → slice_index front 2048 ≡ 0xA5 → kept.ceiling ≡ n
-    → Through (Stands version_2 front slot kept) old new → ((c : List ℕ) → new.images c → Stands version_2 front slot kept c)
-    → IsSettled new → Stands version_2 front slot kept new.content → AreOf version_2 new.content slots → Saves {E = E} owner n slots (Ok v) old new
-finished owner front slot kept n slots v old new begins mark is moments images settled stands same = record {
-  moments = weaker _ _ old new (λ c stands. stands_covers owner front slot kept n c begins mark is stands) moments;
-  images = λ c left. (stands_covers owner front slot kept n c begins mark is (images c left), stands_two front slot kept c mark (images c left));
+pub finished : {T E : Type 0} {owner : Owner} {image : List ℕ} {slots : Slots} {slot : Slot} {kept : Saved} (begin : Begun owner image slots slot kept) (after : Slots) (v : T) {old new : DiskState}
+    → Through (Stands version_2 (take 4096 image) slot kept) old new → ((c : List ℕ) → new.images c → Stands version_2 (take 4096 image) slot kept c)
+    → IsSettled new → AreOf version_2 new.content after → Saves {E = E} owner (floor_of slots) after (Ok v) old new
+finished {T} {E} {owner} {image} {slots} {slot} {kept} begin after v {old} {new} moments images settled same = record {
+  moments = weaker _ _ old new (λ c stands. covers begin c stands) moments;
+  images = λ c left. (covers begin c (images c left), stands_two (take 4096 image) slot kept c begin.mark (images c left));
   settled = settled;
-  sound = (stands_covers owner front slot kept n new.content begins mark is stands).sound;
+  sound = (covers begin new.content (images new.content new.reads)).sound;
   same = same;
 }
 

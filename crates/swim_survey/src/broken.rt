@@ -5,7 +5,7 @@ use crate::shrink::{Trial, shrunk, write_plan};
 use std::alloc::{AllocError, Global};
 use std::fmt::Write;
 use swim_play::play;
-use swim_simulate::{Done, Kill, Plan, Script, SimulateFault, Stop, script_of, simulate};
+use swim_simulate::{Done, Kill, LawBreak, Plan, Script, SimulateFault, script_of, simulate};
 
 /// A run by a seed, which fails where it breaks the law of a group.
 #[derive(Drop)]
@@ -71,7 +71,7 @@ fn script_that_shows(
     alloc: Global,
     plan: &Plan,
     seed: u64,
-    stop: &Stop,
+    stop: &LawBreak,
 ) -> Result<Option<Script>, AskedFault> {
     let script = script_of(alloc, plan, seed, stop.sender, stop.tick)?;
     if !is_played(alloc, &script)? {

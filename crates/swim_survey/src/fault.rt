@@ -3,7 +3,7 @@
 use crate::placing::{PlacedRefusal, placed};
 use std::alloc::AllocError;
 use std::io::{self, ErrorKind};
-use swim_settings::Refusal;
+use swim_settings::SettingsRefusal;
 use swim_simulate::{PlanRefusal, SimulateFault};
 use thiserror::Error;
 
@@ -59,7 +59,7 @@ impl AskedFault {
     /// A plan with this text is refused.
     pub(crate) fn of_plan(text: &[u8], refusal: PlanRefusal) -> AskedFault {
         match refusal {
-            PlanRefusal::Text(Refusal::Memory) => AskedFault::Memory,
+            PlanRefusal::Text(SettingsRefusal::Memory) => AskedFault::Memory,
             _ => AskedFault::Plan(placed(text, refusal)),
         }
     }
@@ -67,7 +67,7 @@ impl AskedFault {
     /// A refused sweep.
     pub(crate) fn of_sweep(refusal: PlanRefusal) -> AskedFault {
         match refusal {
-            PlanRefusal::Text(Refusal::Memory) => AskedFault::Memory,
+            PlanRefusal::Text(SettingsRefusal::Memory) => AskedFault::Memory,
             _ => AskedFault::Sweep(refusal),
         }
     }

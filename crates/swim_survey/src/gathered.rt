@@ -2,7 +2,7 @@
 
 use crate::stage::Stage;
 use std::alloc::{AllocError, Global};
-use swim_simulate::{Counts, Kill, Measures};
+use swim_simulate::{Kill, Measures, RunCounts};
 
 /// What was measured in some runs, together. Times are in milliseconds.
 #[derive(Drop)]
@@ -10,7 +10,7 @@ pub struct Gathered {
     /// How many kills.
     pub kills: u64,
     /// What was counted.
-    pub(crate) counts: Counts,
+    pub(crate) counts: RunCounts,
     /// Milliseconds of members, all together.
     pub(crate) time: u64,
     started: Vec<u64>,
@@ -58,7 +58,7 @@ impl Gathered {
     pub fn none(alloc: Global) -> Gathered {
         Gathered {
             kills: 0,
-            counts: Counts::zero(),
+            counts: RunCounts::zero(),
             time: 0,
             started: Vec::new(alloc),
             suspected: Vec::new(alloc),

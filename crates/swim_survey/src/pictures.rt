@@ -8,7 +8,7 @@ use crate::table::write_subject;
 use std::alloc::{AllocError, Global};
 use std::fmt::Write;
 use swim_charts::{Curve, Drawing, Tiles, Views};
-use swim_simulate::{Key, Plan};
+use swim_simulate::{Plan, PlanKey};
 
 /// How long the stages took.
 fn curves(alloc: Global, runs: &Runs) -> Result<Vec<Curve>, AllocError> {
@@ -31,10 +31,10 @@ pub fn draw_runs(alloc: Global, plan: &Plan, seed: u64, runs: Runs) -> Result<St
     drawing.head(subject.as_str())?;
     let curves = curves(alloc, &runs)?;
     let views = Views {
-        members: plan.get(Key::Members) as usize,
+        members: plan.get(PlanKey::Members) as usize,
         tallies: runs.history,
     };
-    let time = plan.get(Key::Minutes).saturating_mul(60_000);
+    let time = plan.get(PlanKey::Minutes).saturating_mul(60_000);
     drawing.views(alloc, &views, time)?;
     let kills = runs.all.kills;
     let count = runs.count;

@@ -2,7 +2,7 @@
 
 use std::fmt;
 use swim_input::key_line;
-use swim_settings::Refusal;
+use swim_settings::SettingsRefusal;
 use swim_simulate::PlanRefusal;
 use swim_words::Word;
 
@@ -29,7 +29,7 @@ impl fmt::Display for PlacedRefusal {
 pub fn placed(text: &[u8], refusal: PlanRefusal) -> PlacedRefusal {
     let line = match &refusal {
         PlanRefusal::Key(key) => key_line(text, key.text()),
-        PlanRefusal::Text(Refusal::Unknown(key)) => key_line(text, key.as_str()),
+        PlanRefusal::Text(SettingsRefusal::Unknown(key)) => key_line(text, key.as_str()),
         PlanRefusal::Text(_) => None,
     };
     PlacedRefusal { refusal, line }

@@ -2,7 +2,7 @@
 
 use std::alloc::{AllocError, Global};
 use std::fmt::Write;
-use swim_simulate::{Key, Kill, Plan};
+use swim_simulate::{Kill, Plan, PlanKey};
 
 /// The first line.
 pub(crate) const HEAD: &str =
@@ -40,7 +40,7 @@ pub(crate) fn write_rows(
     kills: &[Kill],
 ) -> Result<String, AllocError> {
     let mut text = String::new(alloc);
-    let tick_ms = plan.get(Key::TickMs);
+    let tick_ms = plan.get(PlanKey::TickMs);
     for kill in kills {
         write_row(&mut text, seed, tick_ms, kill)?;
     }

@@ -9,7 +9,7 @@ use crate::rows::write_rows;
 use crate::series::Series;
 use std::alloc::{AllocError, Global};
 use swim_charts::Tally;
-use swim_simulate::{Done, Key, Plan, simulate};
+use swim_simulate::{Done, Plan, PlanKey, simulate};
 
 /// At how many moments of a run a picture shows what is held.
 const MOMENTS: u64 = 300;
@@ -40,7 +40,7 @@ impl Runs {
 
     /// Adds a run.
     fn add(&mut self, alloc: Global, plan: &Plan, done: Done) -> Result<(), AllocError> {
-        let gathered = Gathered::of(alloc, &done.measures, plan.get(Key::TickMs))?;
+        let gathered = Gathered::of(alloc, &done.measures, plan.get(PlanKey::TickMs))?;
         let figures = Figure::all_of(alloc, &gathered)?;
         self.figures.extend_from_slice(figures.as_slice())?;
         if self.count == 0 {

@@ -2,7 +2,7 @@
 
 use std::alloc::AllocError;
 use std::fmt::Write;
-use swim_simulate::{Key, Plan, SimulateFault};
+use swim_simulate::{Plan, PlanKey, SimulateFault};
 
 /// How often all keys are tried.
 const ROUNDS: u64 = 3;
@@ -11,24 +11,24 @@ const ROUNDS: u64 = 3;
 const HALVES: u64 = 32;
 
 /// The keys whose numbers are made smaller, those first that make a run short.
-const SHRUNK: [Key; 17] = [
-    Key::Minutes,
-    Key::Members,
-    Key::Kills,
-    Key::Pauses,
-    Key::CutMembers,
-    Key::CutFor,
-    Key::Deaf,
-    Key::Mute,
-    Key::OddClocks,
-    Key::Repeats,
-    Key::Loss,
-    Key::Jitter,
-    Key::Dropped,
-    Key::Filled,
-    Key::RestartAfter,
-    Key::PauseFor,
-    Key::FailingSyncs,
+const SHRUNK: [PlanKey; 17] = [
+    PlanKey::Minutes,
+    PlanKey::Members,
+    PlanKey::Kills,
+    PlanKey::Pauses,
+    PlanKey::CutMembers,
+    PlanKey::CutFor,
+    PlanKey::Deaf,
+    PlanKey::Mute,
+    PlanKey::OddClocks,
+    PlanKey::Repeats,
+    PlanKey::Loss,
+    PlanKey::Jitter,
+    PlanKey::Dropped,
+    PlanKey::Filled,
+    PlanKey::RestartAfter,
+    PlanKey::PauseFor,
+    PlanKey::FailingSyncs,
 ];
 
 /// What is tried with plans.
@@ -38,7 +38,7 @@ pub trait Trial {
 }
 
 /// The plan with a smaller number of a key, as far as halving finds one with which the trial fails.
-fn lowered<T: Trial>(trial: &mut T, plan: &Plan, key: Key) -> Result<Plan, SimulateFault> {
+fn lowered<T: Trial>(trial: &mut T, plan: &Plan, key: PlanKey) -> Result<Plan, SimulateFault> {
     let mut best = *plan;
     let mut low = key.range().least;
     for _ in 0..HALVES {
@@ -75,7 +75,7 @@ pub fn shrunk<T: Trial>(trial: &mut T, plan: &Plan) -> Result<Plan, SimulateFaul
 
 /// A plan as its text, with the keys that have another number than their default.
 pub fn write_plan(text: &mut String, plan: &Plan) -> Result<(), AllocError> {
-    for key in Key::ALL {
+    for key in PlanKey::ALL {
         let number = plan.get(key);
         if number != key.range().default {
             writeln!(text, "{key} = {number}")?;

@@ -1,8 +1,8 @@
 //! Sweeps over plans: for some keys a row of numbers each, and a plan for each choice of one of each row.
 
 use std::alloc::{AllocError, Global};
-use swim_settings::Refusal;
-use swim_simulate::{Key, Plan, PlanRefusal, Range};
+use swim_settings::SettingsRefusal;
+use swim_simulate::{Plan, PlanKey, PlanRefusal, Range};
 use swim_words::{read_within, split_at_byte};
 
 /// Into how many steps a row is parted whose step is not said.
@@ -15,7 +15,7 @@ const PLANS_MAX: usize = 10_000;
 #[derive(Drop)]
 pub struct Axis {
     /// The key.
-    pub key: Key,
+    pub key: PlanKey,
     /// Its numbers, the least first.
     pub numbers: Vec<u64>,
 }
@@ -95,7 +95,7 @@ fn unknown(alloc: Global, word: &[u8]) -> Result<PlanRefusal, AllocError> {
         Err(_) => "",
     };
     let word = String::from_str(alloc, text)?;
-    Ok(PlanRefusal::Text(Refusal::Unknown(word)))
+    Ok(PlanRefusal::Text(SettingsRefusal::Unknown(word)))
 }
 
 impl Sweep {
@@ -113,7 +113,7 @@ impl Sweep {
     /// Reads one word of it.
     fn read_word(&mut self, alloc: Global, word: &[u8]) -> Result<(), PlanRefusal> {
         let said = match split_at_byte(word, b'=') {
-            Some((name, span)) => Key::of(name).map(|key| (key, span)),
+            Some((name, span)) => PlanKey::of(name).map(|key| (key, span)),
             None => None,
         };
         let Some((key, span)) = said else {
@@ -131,7 +131,7 @@ impl Sweep {
     }
 
     /// Adds a key with its numbers.
-    fn add(&mut self, key: Key, numbers: Vec<u64>) -> Result<(), AllocError> {
+    fn add(&mut self, key: PlanKey, numbers: Vec<u64>) -> Result<(), AllocError> {
         self.axes.push(Axis { key, numbers })?;
         Ok(())
     }
@@ -168,8 +168,8 @@ impl Sweep {
                 None => return Err(PlanRefusal::Key(axis.key)),
             }
         }
-        if next.get(Key::Direct) >= next.get(Key::Period) {
-            return Err(PlanRefusal::Key(Key::Direct));
+        if next.get(PlanKey::Direct) >= next.get(PlanKey::Period) {
+            return Err(PlanRefusal::Key(PlanKey::Direct));
         }
         Ok(next)
     }

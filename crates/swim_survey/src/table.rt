@@ -8,7 +8,7 @@ use std::alloc::{AllocError, Global};
 use std::fmt::Write;
 use swim_charts::{Thousandths, of_hundred, spread_of};
 use swim_detect::{DetectionBound, mean_first_suspicion};
-use swim_simulate::{Counts, Key, Plan};
+use swim_simulate::{Plan, PlanKey, RunCounts};
 
 /// A cell of so many columns at least; a dash where there is no number.
 fn write_cell(
@@ -87,12 +87,12 @@ fn write_seconds(alloc: Global, text: &mut String, name: &str, ms: u64) -> Resul
 
 /// The lines of what is to be expected of a kill, and of the law of detection. A member that is alone has none.
 fn write_law(alloc: Global, text: &mut String, plan: &Plan) -> Result<(), AllocError> {
-    let others = plan.get(Key::Members) as usize - 1;
+    let others = plan.get(PlanKey::Members) as usize - 1;
     if others == 0 {
         return Ok(());
     }
-    let (period, suspect) = (plan.get(Key::Period), plan.get(Key::Suspect));
-    let tick_ms = plan.get(Key::TickMs);
+    let (period, suspect) = (plan.get(PlanKey::Period), plan.get(PlanKey::Suspect));
+    let tick_ms = plan.get(PlanKey::TickMs);
     let bound = DetectionBound::of(period, suspect, others);
     let mean = mean_first_suspicion(period * tick_ms, others);
     write_seconds(alloc, text, "suspected by one, on the mean", mean)?;
@@ -119,7 +119,7 @@ fn write_count(text: &mut String, name: &str, count: u64) -> Result<(), AllocErr
 }
 
 /// The lines of what is told as it was counted.
-fn write_counts(text: &mut String, counts: &Counts) -> Result<(), AllocError> {
+fn write_counts(text: &mut String, counts: &RunCounts) -> Result<(), AllocError> {
     write_count(text, "datagrams sent", counts.datagrams)?;
     write_count(text, "datagrams lost", counts.lost)?;
     write_count(text, "datagrams that came", counts.came)?;
@@ -157,8 +157,8 @@ pub(crate) fn write_subject(
     seed: u64,
     runs: u64,
 ) -> Result<(), AllocError> {
-    let members = plan.get(Key::Members);
-    let minutes = plan.get(Key::Minutes);
+    let members = plan.get(PlanKey::Members);
+    let minutes = plan.get(PlanKey::Minutes);
     write!(text, "{members} members, {minutes} minutes, seed {seed}")?;
     if runs > 1 {
         write!(text, ", {runs} runs")?;
@@ -176,7 +176,7 @@ pub fn report(alloc: Global, plan: &Plan, seed: u64, runs: &Runs) -> Result<Stri
     write_law(alloc, &mut text, plan)?;
     write_rates(alloc, &mut text, &runs.all)?;
     write_counts(&mut text, &runs.all.counts)?;
-    if plan.get(Key::FailingSyncs) > 0 {
+    if plan.get(PlanKey::FailingSyncs) > 0 {
         write_count(&mut text, "saves that failed", runs.all.counts.failed_saves)?;
     }
     if runs.count > 1 {

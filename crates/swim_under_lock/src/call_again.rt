@@ -1,5 +1,5 @@
 //! Callers that make each call again that was refused for want of memory. A refusal loses nothing:
-//! whichever one allocation is refused, it prints the same. `examples/refuse` refuses each in turn.
+//! whichever one allocation is refused, it prints the same. `tests/refuse` refuses each in turn.
 
 use crate::era::{Done, Work, era};
 use std::alloc::Global;

@@ -8,9 +8,9 @@ use crate::text::settings_text;
 use std::alloc::{AllocError, Global};
 use std::{env, fs, io};
 use swim_cli::{UpWords, make};
-use swim_ending::{Ending, Failure};
+use swim_ending::{Exit, Failure};
 use swim_run::{settings_at, try_addresses};
-use swim_settings::{JOIN_MAX, Key, Refusal, RunSettings, read_settings};
+use swim_settings::{JOIN_MAX, Key, RunSettings, SettingsRefusal, read_settings};
 use swim_words::{read_endpoint, read_host};
 
 /// The paths of a member.
@@ -26,7 +26,7 @@ struct Paths {
 
 /// Where there is no memory.
 fn lacks_memory(_: AllocError) -> Failure {
-    Failure::from(Ending::Memory)
+    Failure::from(Exit::Memory)
 }
 
 /// A path, from the root on.
@@ -92,21 +92,21 @@ fn judge_joins(alloc: Global, words: &UpWords<'_>) -> Result<(), Failure> {
 }
 
 /// The ending where a word is refused that is no address: too many to join, or no preset.
-fn refused(alloc: Global, refusal: Refusal, words: &UpWords<'_>) -> Failure {
+fn refused(alloc: Global, refusal: SettingsRefusal, words: &UpWords<'_>) -> Failure {
     let preset = words.preset.unwrap_or("");
-    if refusal == Refusal::Key(Key::Join) {
+    if refusal == SettingsRefusal::Key(Key::Join) {
         let about = format_args!("--join: it takes {JOIN_MAX} at most");
-        return Failure::about(alloc, Ending::Settings(refusal), about);
+        return Failure::about(alloc, Exit::Settings(refusal), about);
     }
     let about = format_args!("--preset {preset:?}: it takes local, lan or wan");
-    Failure::about(alloc, Ending::Settings(refusal), about)
+    Failure::about(alloc, Exit::Settings(refusal), about)
 }
 
 /// What a file with this text says, which is of these words. Their addresses are judged.
 fn wanted_by(alloc: Global, text: &str, words: &UpWords<'_>) -> Result<RunSettings, Failure> {
     match read_settings(alloc, text.as_bytes()) {
         Ok(wanted) => Ok(wanted),
-        Err(Refusal::Memory) => Err(Failure::from(Ending::Memory)),
+        Err(SettingsRefusal::Memory) => Err(Failure::from(Exit::Memory)),
         Err(refusal) => Err(refused(alloc, refusal, words)),
     }
 }
@@ -133,7 +133,7 @@ fn clashes(
     let (has, says) = (Said { run: told, key }, Said { run: wanted, key });
     Failure::about(
         alloc,
-        Ending::Settings(Refusal::Key(key)),
+        Exit::Settings(SettingsRefusal::Key(key)),
         format_args!(
             "{path} has {has}, and --{key} says {says}: change it there, or leave --{key} out and it stays"
         ),
@@ -145,7 +145,7 @@ fn lost(alloc: Global, paths: &Paths, told: &RunSettings) -> Failure {
     let (settings, file) = (paths.settings.as_str(), told.file.as_str());
     Failure::about(
         alloc,
-        Ending::File,
+        Exit::File,
         format_args!(
             "state file {file}: it is gone, and {settings} is there, so this member may have run: nothing is made"
         ),

@@ -6,7 +6,7 @@ use std::net::{Net, TcpStream};
 use std::sync::{Wait, WaitMethods};
 use std::thread;
 use std::time::{Clock, Duration};
-use swim_ask::{Addresses, Shown, ask_about, find, look};
+use swim_ask::{Addresses, MemberReport, ask_about, find, look};
 
 /// How long the members are left alone after they were asked, in milliseconds.
 const EVERY_MILLIS: u64 = 1000;
@@ -34,7 +34,7 @@ pub(crate) struct Asking<'a> {
 fn look_at_any<R: Net<Stream = TcpStream> + Clock + AllocGlobal>(
     rt: &R,
     of: &mut Addresses<'_>,
-) -> Option<Shown> {
+) -> Option<MemberReport> {
     for _ in 0..of.count() {
         match look(rt, of.word()) {
             Some(shown) => return Some(shown),
@@ -52,7 +52,7 @@ fn group_at<R: Net<Stream = TcpStream> + Clock + AllocGlobal>(rt: &R, word: &str
 }
 
 /// Whether a look is of a member of this group.
-fn is_of(shown: &Shown, group: u64) -> bool {
+fn is_of(shown: &MemberReport, group: u64) -> bool {
     match &shown.about {
         Some(about) => about.who.group == group,
         None => false,
@@ -142,7 +142,7 @@ impl<'a> Asking<'a> {
         rt: &R,
         group: u64,
         at: usize,
-    ) -> Option<Shown> {
+    ) -> Option<MemberReport> {
         let shown = look(rt, self.words.get(at)?.as_str())?;
         if is_of(&shown, group) {
             return Some(shown);

@@ -3,9 +3,9 @@
 use std::alloc::{AllocError, Global};
 use std::sync::Mutex;
 use std::time::{Clock, Duration, Instant, SystemTime, UNIX_EPOCH};
-use swim_ask::{Shown, may_have_left};
+use swim_ask::{MemberReport, may_have_left};
 use swim_news::{Change, Changes, Rows, compare};
-use swim_pages::{Group, Members, Reading, Seen, directory_response, response};
+use swim_pages::{Members, RequestReading, Seen, SeenGroup, directory_response, response};
 use swim_shell::About;
 use swim_wire::Update;
 
@@ -32,7 +32,7 @@ struct Times {
 pub(crate) struct Known {
     one: Seen,
     times: Times,
-    groups: Vec<Group>,
+    groups: Vec<SeenGroup>,
     /// Those of the groups, at their places.
     times_of: Vec<Times>,
 }
@@ -77,7 +77,7 @@ fn steady(known: Option<u64>, begin: Option<u64>) -> Option<u64> {
 }
 
 /// Whether a look says something else than what is known. How long an era is says nothing of the group.
-fn is_changed_by(seen: &Seen, look: &Option<Shown>) -> bool {
+fn is_changed_by(seen: &Seen, look: &Option<MemberReport>) -> bool {
     let (Some(status), Some(look)) = (&seen.status, look) else {
         return seen.status.is_some() || look.is_some();
     };
@@ -112,7 +112,7 @@ fn take_rows(seen: &mut Seen, rows: Rows, is_close: bool) {
 }
 
 /// Takes what a member said, or that it did not answer, at a look that may be shortly after the last one. Rows that it did not show stay.
-fn take_look<C: Clock>(seen: &mut Seen, clock: &C, look: Option<Shown>, is_close: bool) {
+fn take_look<C: Clock>(seen: &mut Seen, clock: &C, look: Option<MemberReport>, is_close: bool) {
     let Some(look) = look else {
         seen.status = None;
         return;
@@ -139,7 +139,7 @@ impl Times {
     }
 
     /// Takes what the member says now.
-    fn take<C: Clock>(&mut self, seen: &mut Seen, clock: &C, look: Option<Shown>) {
+    fn take<C: Clock>(&mut self, seen: &mut Seen, clock: &C, look: Option<MemberReport>) {
         let close = Duration::from_millis(CLOSE_MILLIS);
         let is_close = matches!(ago(clock, &self.asked), Some(ago) if ago < close);
         self.asked = Instant::now(clock).ok();
@@ -177,7 +177,7 @@ impl Known {
     }
 
     /// Takes what the one member said, or that it did not answer.
-    pub(crate) fn take<C: Clock>(&mut self, clock: &C, look: Option<Shown>) {
+    pub(crate) fn take<C: Clock>(&mut self, clock: &C, look: Option<MemberReport>) {
         self.times.take(&mut self.one, clock, look);
     }
 
@@ -188,12 +188,12 @@ impl Known {
         }
         self.times_of.push(Times::new())?;
         let seen = unseen();
-        self.groups.push(Group { number, seen })?;
+        self.groups.push(SeenGroup { number, seen })?;
         Ok(self.groups.len().saturating_sub(1))
     }
 
     /// Takes what a member of a group said, or that none of them answered. Without memory a group is taken later.
-    pub(crate) fn take_of<C: Clock>(&mut self, clock: &C, number: u64, look: Option<Shown>) {
+    pub(crate) fn take_of<C: Clock>(&mut self, clock: &C, number: u64, look: Option<MemberReport>) {
         let Ok(place) = self.place_of(number) else {
             return;
         };
@@ -209,7 +209,7 @@ impl Known {
         &mut self,
         alloc: Global,
         clock: &C,
-        reading: Reading,
+        reading: RequestReading,
     ) -> Result<String, AllocError> {
         let fresh = Duration::from_millis(FRESH_MILLIS);
         if self.groups.len() < 2 {

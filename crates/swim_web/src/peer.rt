@@ -9,7 +9,7 @@ use std::alloc::Global;
 use std::io::{self, ErrorKind, Read, Write};
 use std::net::Shutdown;
 use std::time::{Clock, Duration, Instant};
-use swim_pages::{Reading, read_request};
+use swim_pages::{RequestReading, read_request};
 
 /// The most that a connection may take in all, in milliseconds. One that reads or writes slowly ends then.
 const PEER_MILLIS: u64 = 5000;
@@ -114,7 +114,7 @@ impl Peer {
 
     /// Reads what has come, and says what it asks for, once it was not answered and all of that has come. An error says that it has
     /// ended. Of what comes once it is answered nothing is kept.
-    pub(crate) fn listen(&mut self) -> io::Result<Option<Reading>>
+    pub(crate) fn listen(&mut self) -> io::Result<Option<RequestReading>>
         ensures { IfSome self.old.answer (λ _. OnOk result (self.new.heard.items ≡ [])) }
     {
         self.hear()?;
@@ -123,8 +123,8 @@ impl Peer {
             return Ok(None);
         }
         match read_request(self.heard.as_slice()) {
-            Reading::More if self.is_heard => Err(io::Error::from(ErrorKind::UnexpectedEof)),
-            Reading::More => Ok(None),
+            RequestReading::More if self.is_heard => Err(io::Error::from(ErrorKind::UnexpectedEof)),
+            RequestReading::More => Ok(None),
             reading => Ok(Some(reading)),
         }
     }

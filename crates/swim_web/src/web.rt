@@ -10,7 +10,7 @@ use std::rt::Clock;
 use std::sync::{Mutex, Wait};
 use std::thread::{self, Threads};
 use swim_ask::Addresses;
-use swim_ending::{Ending, Failure};
+use swim_ending::{Exit, Failure};
 use swim_net::address_of;
 use swim_wire::Endpoint;
 use swim_words::read_endpoint;
@@ -26,7 +26,7 @@ pub struct Web<'a> {
 
 /// The ending where no socket listens there.
 fn refused(alloc: Global, listen: Endpoint, error: &Error) -> Failure {
-    let ending = Ending::of(error, Ending::Socket);
+    let ending = Exit::of(error, Exit::Socket);
     Failure::about(
         alloc,
         ending,
@@ -72,7 +72,7 @@ pub fn serve_web<
     let listener = bound.map_err(|error| refused(alloc, listen, &error))?;
     let server = Server::new(rt, listener).map_err(|error| refused(alloc, listen, &error))?;
     let Ok(asking) = Asking::new(alloc, web.of, of) else {
-        return Err(Failure::from(Ending::Memory));
+        return Err(Failure::from(Exit::Memory));
     };
     announce(rt, web, listen)?;
     let known = Mutex::new(Known::new(alloc));

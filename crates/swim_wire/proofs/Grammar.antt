@@ -22,7 +22,7 @@ use Rattle.swim_wire.specs.Faults.{Has, SomeUpdate, TakesCursor, HasNoSubject, I
 use Rattle.swim_wire.specs.Reading.{rules_of_code, kind_of, updates_of, datagram_of}
 use Rattle.swim_wire.proofs.Texts.{AreBytes-drop, take_split, cells_4, back_4, back_6, back_8, number_at-drop, endpoint_at}
 use Rattle.swim_wire.proofs.Order.{first_fault_one}
-use Rattle.swim_wire.proofs.Updates.{BeginsWell, same_number, updates_spelled, updates_fit, length-updates_of, updates_read_back, updates_are_well, length-updates}
+use Rattle.swim_wire.proofs.Updates.{BeginsWell, same_number, updates_spelled, updates_fit, length-updates_of, updates_read_back, updates_are_well, length-updates, low_bits}
 
 -- ---- rules
 
@@ -197,9 +197,6 @@ faultless_spelled bytes fits none =
     }
 
 -- ---- a text that spells a datagram
-
-low_bits : (n : ℕ) → n / 256 % 256 * 256 + (n % 256 * 1 + 0) ≡ n % 65536
-low_bits n = omega arith
 
 high_zero : (n : ℕ) → n ≡ 0 → n / 1099511627776 % 256 * 16777216 + (n / 4294967296 % 256 * 65536 + (n / 16777216 % 256 * 256 + (n / 65536 % 256 * 1 + 0))) ≡ 0
 high_zero n e = omega arith

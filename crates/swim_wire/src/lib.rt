@@ -8,6 +8,7 @@
 //! | 32 | 16 each | updates | `update.rt` |
 #![tactic(auto)]
 
+mod copying;
 mod cursor;
 mod datagram;
 mod endpoint;
@@ -19,6 +20,7 @@ mod rules;
 mod update;
 mod writing;
 
+pub use copying::copied;
 pub use cursor::Cursor;
 pub use datagram::{DATAGRAM_MAX, Datagram, Kind, UPDATES_MAX};
 pub use endpoint::Endpoint;

@@ -15,8 +15,7 @@ use crate::head::{
     HEAD_LEN, Head, count_of, has_no_sender, has_no_subject, has_reserved_head, shape_fault,
 };
 use crate::update::{
-    UPDATE_LEN, Update, has_great_number, has_no_member, has_reserved_byte, has_unknown_code,
-    is_well,
+    GreatNumber, NoMember, ReservedByte, UPDATE_LEN, UnknownCode, Update, UpdateFault, is_well,
 };
 use arrayvec::ArrayVec;
 
@@ -29,48 +28,13 @@ fn update_at(bytes: &[u8], i: usize) -> &[u8]
     &bytes[HEAD_LEN + UPDATE_LEN * i..]
 }
 
-fn has_reserved_update(bytes: &[u8], count: usize) -> bool
+/// Whether some update has this fault.
+fn some_update<F: UpdateFault>(bytes: &[u8], count: usize) -> bool
     requires { length bytes.now ≡ 32 + 16 * count }
-    ensures { IsTrue result ↔ SomeUpdate HasReservedUpdate bytes.now }
+    ensures { IsTrue result ↔ SomeUpdate F.Faulty bytes.now }
 {
     for i in 0..count {
-        if has_reserved_byte(update_at(bytes, i)) {
-            return true;
-        }
-    }
-    false
-}
-
-fn has_update_without_member(bytes: &[u8], count: usize) -> bool
-    requires { length bytes.now ≡ 32 + 16 * count }
-    ensures { IsTrue result ↔ SomeUpdate HasNoMember bytes.now }
-{
-    for i in 0..count {
-        if has_no_member(update_at(bytes, i)) {
-            return true;
-        }
-    }
-    false
-}
-
-fn has_unknown_update_kind(bytes: &[u8], count: usize) -> bool
-    requires { length bytes.now ≡ 32 + 16 * count }
-    ensures { IsTrue result ↔ SomeUpdate HasUnknownCode bytes.now }
-{
-    for i in 0..count {
-        if has_unknown_code(update_at(bytes, i)) {
-            return true;
-        }
-    }
-    false
-}
-
-fn has_number_over(bytes: &[u8], count: usize) -> bool
-    requires { length bytes.now ≡ 32 + 16 * count }
-    ensures { IsTrue result ↔ SomeUpdate HasGreatNumber bytes.now }
-{
-    for i in 0..count {
-        if has_great_number(update_at(bytes, i)) {
+        if F::is_in(update_at(bytes, i)) {
             return true;
         }
     }
@@ -98,7 +62,7 @@ fn has_reserved(bytes: &[u8], count: usize) -> bool
     requires { length bytes.now ≡ 32 + 16 * count }
     ensures { IsTrue result ↔ HasReserved bytes.now }
 {
-    has_reserved_head(bytes) || has_reserved_update(bytes, count)
+    has_reserved_head(bytes) || some_update::<ReservedByte>(bytes, count)
 }
 
 /// Whether the sender, the subject or the member of an update is no endpoint.
@@ -112,7 +76,7 @@ fn has_no_endpoint(bytes: &[u8], count: usize) -> bool
     if has_no_subject(bytes) {
         return true;
     }
-    has_update_without_member(bytes, count)
+    some_update::<NoMember>(bytes, count)
 }
 
 /// Whether no field of the head or of an update is faulty, by one look at each update.
@@ -142,10 +106,10 @@ fn ordered_fault(bytes: &[u8]) -> Option<WireFault>
     if has_no_endpoint(bytes, count) {
         return Some(WireFault::Endpoint);
     }
-    if has_unknown_update_kind(bytes, count) {
+    if some_update::<UnknownCode>(bytes, count) {
         return Some(WireFault::UpdateKind);
     }
-    if has_number_over(bytes, count) {
+    if some_update::<GreatNumber>(bytes, count) {
         return Some(WireFault::Number);
     }
     None

@@ -9,7 +9,7 @@
 //! | 2 | 6 | member: address 4, port 2 |
 //! | 8 | 8 | number |
 
-ghost use Rattle.std.specs.Prelude.{◌≡◌, ◌≢◌, ◌≤◌, ◌↔◌, length, Some, None, IsTrue, IfSome, IfNone};
+ghost use Rattle.std.specs.Prelude.{◌≡◌, ◌≢◌, ◌≤◌, ◌↔◌, ℕ, List, length, Some, None, IsTrue, IfSome, IfNone};
 ghost use Rattle.swim_wire.specs.Filler.{filler};
 ghost use Rattle.swim_wire.specs.Text.{kind_word};
 ghost use Rattle.swim_wire.specs.Updates.{update_code, HasReservedUpdate, HasNoMember, HasUnknownCode, HasGreatNumber};
@@ -148,36 +148,58 @@ impl Default for Update {
     }
 }
 
-/// Whether the byte that has to be 0 is not, in the update with which the bytes begin.
-pub(crate) fn has_reserved_byte(bytes: &[u8]) -> bool
-    requires { 16 ≤ length bytes.now }
-    ensures { IsTrue result ↔ HasReservedUpdate bytes.now }
-{
-    bytes[RESERVED_AT] != 0
+/// What may be wrong with an update.
+pub(crate) trait UpdateFault {
+    ghost Faulty: { List ℕ → Type 0 };
+
+    /// Whether the update with which the bytes begin has it.
+    fn is_in(bytes: &[u8]) -> bool
+        requires { 16 ≤ length bytes.now }
+        ensures { IsTrue result ↔ Faulty bytes.now };
 }
 
-/// Whether the update with which the bytes begin is about no member: its port is 0.
-pub(crate) fn has_no_member(bytes: &[u8]) -> bool
-    requires { 16 ≤ length bytes.now }
-    ensures { IsTrue result ↔ HasNoMember bytes.now }
-{
-    BigEndian::read_u16(&bytes[WHO_AT + PORT_AT..]) == 0
+/// The byte that has to be 0 is not.
+pub(crate) struct ReservedByte;
+
+impl UpdateFault for ReservedByte {
+    ghost Faulty = { HasReservedUpdate };
+
+    fn is_in(bytes: &[u8]) -> bool {
+        bytes[RESERVED_AT] != 0
+    }
 }
 
-/// Whether the update with which the bytes begin has the code of no kind.
-pub(crate) fn has_unknown_code(bytes: &[u8]) -> bool
-    requires { 16 ≤ length bytes.now }
-    ensures { IsTrue result ↔ HasUnknownCode bytes.now }
-{
-    UpdateKind::from_code(bytes[KIND_AT]).is_none()
+/// It is about no member: its port is 0.
+pub(crate) struct NoMember;
+
+impl UpdateFault for NoMember {
+    ghost Faulty = { HasNoMember };
+
+    fn is_in(bytes: &[u8]) -> bool {
+        BigEndian::read_u16(&bytes[WHO_AT + PORT_AT..]) == 0
+    }
 }
 
-/// Whether the update with which the bytes begin has a number over `NUMBER_MAX`.
-pub(crate) fn has_great_number(bytes: &[u8]) -> bool
-    requires { 16 ≤ length bytes.now }
-    ensures { IsTrue result ↔ HasGreatNumber bytes.now }
-{
-    BigEndian::read_u64(&bytes[NUMBER_AT..]) > NUMBER_MAX
+/// It has the code of no kind.
+pub(crate) struct UnknownCode;
+
+impl UpdateFault for UnknownCode {
+    ghost Faulty = { HasUnknownCode };
+
+    fn is_in(bytes: &[u8]) -> bool {
+        UpdateKind::from_code(bytes[KIND_AT]).is_none()
+    }
+}
+
+/// It has a number over `NUMBER_MAX`.
+pub(crate) struct GreatNumber;
+
+impl UpdateFault for GreatNumber {
+    ghost Faulty = { HasGreatNumber };
+
+    fn is_in(bytes: &[u8]) -> bool {
+        BigEndian::read_u64(&bytes[NUMBER_AT..]) > NUMBER_MAX
+    }
 }
 
 /// Whether the update with which the bytes begin has none of the four faults.
@@ -188,8 +210,8 @@ pub(crate) fn is_well(bytes: &[u8]) -> bool
     ensures kind { IsTrue result → ¬ HasUnknownCode bytes.now }
     ensures number { IsTrue result → ¬ HasGreatNumber bytes.now }
 {
-    !(has_reserved_byte(bytes)
-        || has_no_member(bytes)
-        || has_unknown_code(bytes)
-        || has_great_number(bytes))
+    !(ReservedByte::is_in(bytes)
+        || NoMember::is_in(bytes)
+        || UnknownCode::is_in(bytes)
+        || GreatNumber::is_in(bytes))
 }

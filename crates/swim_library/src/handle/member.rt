@@ -3,7 +3,7 @@
 ghost use Rattle.std.specs.Prelude.{◌≡◌, ◌≢◌, ◌↔◌, None};
 ghost use Rattle.swim_library.specs.declared.handle.member.TheConstants.{MARK};
 
-use super::slot::Slot;
+use super::slot::HandleSlot;
 use std::alloc::Global;
 
 /// What an open handle begins with: the letters SWIMOPEN.
@@ -17,6 +17,6 @@ pub struct SwimMember {
     /// What gives its memory back. It takes no room.
     pub(super) alloc: Global,
     /// What it leads to.
-    pub slot: Slot,
+    pub slot: HandleSlot,
     ghost mark_tells: { (mark ≡ MARK) ↔ (slot.kept ≢ None) },
 }

@@ -13,26 +13,26 @@ use std::ptr;
 /// A pointer to a member that runs, or, where all its bytes are 0, nothing. Dropping one does not free the member.
 #[repr(C)]
 #[derive(Drop)]
-pub struct Slot {
+pub struct HandleSlot {
     at: *mut u8,
     alloc: Global,
     /// The member, if it leads to one.
     pub ghost kept: { Option Running } by { kept_coded },
 }
 
-impl Model for Slot {
+impl Model for HandleSlot {
     ghost also_owns = { λ s. slot_owns s.alloc s.at s.kept };
 }
 
 // SAFETY: what it leads to may go to another thread, and so may the right to free it.
-unsafe impl Send for Slot {}
+unsafe impl Send for HandleSlot {}
 
-impl Slot {
+impl HandleSlot {
     /// The slot of a member.
-    pub(super) fn holding(running: Box<Running>) -> Slot
+    pub(super) fn holding(running: Box<Running>) -> HandleSlot
         ensures { result.kept ≡ Some running.value }
     {
-        Slot::of_parts(Parts::of(running))
+        HandleSlot::of_parts(Parts::of(running))
     }
 
     /// The member that a slot leads to.
@@ -44,20 +44,20 @@ impl Slot {
     }
 
     /// A slot that leads to nothing.
-    pub(super) fn to_nothing(alloc: Global) -> Slot
+    pub(super) fn to_nothing(alloc: Global) -> HandleSlot
         ensures { result.kept ≡ None }
     {
-        Slot {
+        HandleSlot {
             at: ptr::null_mut(),
             alloc,
         }
     }
 
-    fn of_parts(parts: Parts<Running, Global>) -> Slot
+    fn of_parts(parts: Parts<Running, Global>) -> HandleSlot
         ensures { result.kept ≡ Some parts.value }
     {
         let Parts { at, alloc } = parts;
-        Slot {
+        HandleSlot {
             at: at as *mut u8,
             alloc,
         }
@@ -67,7 +67,7 @@ impl Slot {
         requires { self.kept ≢ None }
         ensures { self.kept ≡ Some result.value }
     {
-        let Slot { at, alloc } = self;
+        let HandleSlot { at, alloc } = self;
         Parts {
             at: at as *mut Running,
             alloc,

@@ -7,7 +7,7 @@ use std::test::Fail;
 use std::thread::Threads;
 use std::time::{Clock, Duration, Instant};
 use swim_handle::{Crew, Pace};
-use swim_serve::{Beat, Ending, Job, Pacing, Resting, Ringing, serve};
+use swim_serve::{Job, Pacing, Resting, Ringing, Shutdown, TickTimer, serve};
 
 /// How often each test tries.
 const ROUNDS: u32 = 20;
@@ -22,11 +22,11 @@ const TICK_SECS: u64 = 5;
 fn ended_by_control<'x, T: Threads + Wait + Clock + Sync>(
     rt: &'x T,
     pace: &'x Pace,
-    ending: &'x Ending<'x, Socket>,
+    ending: &'x Shutdown<'x, Socket>,
     socket: &'x Socket,
     pause: Duration,
 ) -> Option<Instant> {
-    let mut beat = Beat::new(Duration::from_secs(TICK_SECS), u64::MAX);
+    let mut beat = TickTimer::new(Duration::from_secs(TICK_SECS), u64::MAX);
     let receiver = Job {
         rt,
         worker: Waiting { rt, socket },
@@ -68,7 +68,7 @@ fn ended_by_control<'x, T: Threads + Wait + Clock + Sync>(
 fn ended_at<T: Threads + Wait + Clock + Sync>(rt: &T, pause: Duration) -> Option<Instant> {
     let pace = Pace::new();
     let sockets = [Socket::new()];
-    let ending = Ending::new(&pace, &sockets);
+    let ending = Shutdown::new(&pace, &sockets);
     ended_by_control(rt, &pace, &ending, &sockets[0], pause)
 }
 

@@ -1,8 +1,9 @@
 use Rattle.std.proofs.Common.{arith, ◌≡◌, ◌∙◌, ◌+◌, ◌-◌, ap, min, max, length, length-drop, take, drop, ℕ, List}
 use Rattle.std.proofs.lemmas.List.{take_all}
+use Rattle.std.proofs.lemmas.Result.{on_ok_weaker}
 use Rattle.swim_disk.specs.MemDisk.{disk_of}
 use Rattle.swim_disk.specs.Replay.{Disk, written}
-use Rattle.swim_disk.proofs.Patched.{on_ok, take_min, drop_min}
+use Rattle.swim_disk.proofs.Patched.{take_min, drop_min}
 use Rattle.swim_disk.proofs.beside.write_beside.Goals as goal
 
 pub returns-clause-kept : goal.returns-clause-kept
@@ -19,7 +20,7 @@ returns-clause-done c =
     let last : take (length w - c.min-skipped.result) (drop c.min-skipped.result w) ≡ drop (end - c.args.begin) w =
     take_all (length w - c.min-skipped.result) (drop c.min-skipped.result w) (omega (arith, length-drop c.min-skipped.result w))
     ∙ ap (λ n. drop n w) (c.min-skipped.ensures ∙ ap (λ n. min (length w) n) c.saturating_sub-2.ensures) ∙ drop_min (end - c.args.begin) w in
-    on_ok _ _ c.write_apart-2.result
+    on_ok_weaker c.write_apart-2.result
     (λ is. is
     ∙ ap (λ (d : Disk). written c.max.result (take (length w - c.min-skipped.result) (drop c.min-skipped.result w)) d) c.in_ok-write_apart.ensures.done
     ∙ ap (λ n. written n (take (length w - c.min-skipped.result) (drop c.min-skipped.result w)) (written c.min.result (take c.min-before.result w) (disk_of c.args.disk.now))) high

@@ -2,8 +2,9 @@ use Rattle.std.proofs.Common.{rules, false, ◌≡◌, ◌+◌, ◌<◌, ◌≤�
 use Rattle.std.specs.List.{AllByRecursion, IsDistinct}
 use Rattle.std.proofs.lemmas.Bool.{false≢true}
 use Rattle.std.proofs.lemmas.Map.Keys.{IsDistinct-head, IsDistinct-cons}
+use Rattle.swim_member.proofs.TurnLists.{none-any, any-none}
 use Rattle.swim_group.specs.Real.{names_in}
-use Rattle.swim_group.proofs.Naming.{names-drop, distinct-drop, distinct-past, none-any, any-none}
+use Rattle.swim_group.proofs.Naming.{names-drop, distinct-drop, distinct-past}
 use Rattle.swim_group.proofs.beginning.are_apart.Goals as goal
 
 pub returns-then-has_name : goal.returns-then-has_name

@@ -1,7 +1,7 @@
 use Rattle.std.proofs.Common.{rules, All, subst}
+use Rattle.std.proofs.lemmas.List.{take_all}
 use Rattle.swim_group.specs.Checking.{IsRemembered, MaySay}
 use Rattle.swim_group.proofs.Naming.{all-more}
-use Rattle.swim_group.proofs.Holding.{take-past}
 use Rattle.swim_group.proofs.checker.first_breach.Goals as goal
 
 pub loop-i-preserved : goal.loop-i-preserved
@@ -11,4 +11,4 @@ loop-i-preserved c =
 
 pub returns-clause-none : goal.returns-clause-none
 returns-clause-none c =
-    subst (All (MaySay (IsRemembered c.args.told.now.entries) c.args.sender)) (take-past c.args.updates.now c.loop-i.i c.loop-i-test.false) c.loop-i.invariant
+    subst (All (MaySay (IsRemembered c.args.told.now.entries) c.args.sender)) (take_all c.loop-i.i c.args.updates.now c.loop-i-test.false) c.loop-i.invariant

@@ -1,11 +1,11 @@
 use Rattle.std.proofs.Common.{rules, ◌+◌, ◌∙◌, List, ℕ, take, ap, subst, sym}
 use Rattle.std.specs.List.Sorted.{IsNonDecreasing}
 use Rattle.std.proofs.lemmas.Bool.{eqb-true, eqb-false}
+use Rattle.std.proofs.lemmas.List.{take_all}
 use Rattle.swim_wire.specs.declared.update.Update.{Update}
 use Rattle.swim_group.specs.Checking.{IsAdded}
 use Rattle.swim_group.proofs.Checking.{added-other, added-own}
 use Rattle.swim_group.proofs.Naming.{take-last}
-use Rattle.swim_group.proofs.Holding.{take-past}
 use Rattle.swim_group.proofs.numbers.add_own.Goals.{then-eq, else-eq}
 use Rattle.swim_group.proofs.numbers.add_own.Goals as goal
 
@@ -32,4 +32,4 @@ loop-i-preserved c =
 
 pub returns-clause-added : goal.returns-clause-added
 returns-clause-added c =
-    subst (λ (us : List Update). IsAdded c.args.rising.now.items c.args.who us c.loop-i.rising.items) (take-past c.args.updates.now c.loop-i.i c.loop-i-test.false) c.loop-i.invariant.added
+    subst (λ (us : List Update). IsAdded c.args.rising.now.items c.args.who us c.loop-i.rising.items) (take_all c.loop-i.i c.args.updates.now c.loop-i-test.false) c.loop-i.invariant.added

@@ -1,4 +1,4 @@
-use Rattle.std.proofs.Common.{◌+◌, refl, ap}
+use Rattle.std.proofs.Common.{refl}
 use Rattle.swim_group.proofs.Refusing.{unentered}
 use Rattle.swim_group.proofs.seat.hear_there.Goals as goal
 
@@ -21,5 +21,5 @@ returns-in-Ok-clause-ok c =
 pub returns-in-Err-clause-refused : goal.returns-in-Err-clause-refused
 returns-in-Err-clause-refused c = (
   record { node = c.in-Some.node; sits = c.in-Some.is },
-  unentered c.in-Some.node (record { caller = 0; turn = c.turns-turn.result + 1 }) c.in-Err.fault (ap (λ n. n + 1) c.turns-turn.ensures.value) c.in-Err.ensures.refused,
+  unentered c.in-Some.node c.next_tag-tag.result c.in-Err.fault c.next_tag-tag.ensures.turn c.in-Err.ensures.refused,
 )

@@ -1,9 +1,10 @@
 use Rattle.std.proofs.Common.{List, subst, sym}
+use Rattle.swim_words.proofs.Tables.{IfNone_then}
 use Rattle.swim_record.specs.declared.argument.Argument.{Argument}
 use Rattle.swim_record.specs.Lines.{arguments_of, head_in}
 use Rattle.swim_record.specs.Text.{SaysArguments}
 use Rattle.swim_record.proofs.Backs.{read_back}
-use Rattle.swim_record.proofs.Texts.{IfNone_then, few_arguments, line_none, line_parts}
+use Rattle.swim_record.proofs.Texts.{few_arguments, line_none, line_parts}
 use Rattle.swim_record.proofs.line.read_line.Goals as goal
 
 pub returns-in_err-head-clause-none : goal.returns-in_err-head-clause-none

@@ -1,9 +1,9 @@
 use Rattle.std.proofs.Common.{List, subst, sym}
+use Rattle.swim_words.proofs.Tables.{IfNone_then}
 use Rattle.swim_record.specs.declared.argument.Argument.{Argument}
 use Rattle.swim_record.specs.EraTimes.{time_numbers}
 use Rattle.swim_record.specs.Text.{SaysArguments}
 use Rattle.swim_record.proofs.EraTimes.{IfSome_then, few_numbers, none_again, says_again, time_parts}
-use Rattle.swim_record.proofs.Texts.{IfNone_then}
 use Rattle.swim_record.proofs.time.time_of.Goals as goal
 
 pub returns-then-not-is_clock-clause-none : goal.returns-then-not-is_clock-clause-none

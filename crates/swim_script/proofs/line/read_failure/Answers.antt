@@ -1,6 +1,6 @@
 use Rattle.std.proofs.Common.{arith}
+use Rattle.swim_words.proofs.Tables.{IfNone_then}
 use Rattle.swim_script.proofs.Arguments.{fail_number, fail_other, fail_uncut}
-use Rattle.swim_script.proofs.Options.{IfNone_then}
 use Rattle.swim_script.proofs.line.read_failure.Goals as goal
 
 pub returns-in_err-word-clause-none : goal.returns-in_err-word-clause-none

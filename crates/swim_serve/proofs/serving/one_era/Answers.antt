@@ -1,7 +1,7 @@
 use Rattle.std.proofs.Common.{◌≡◌, ap, refl, subst, sym, ◌∙◌}
 use Rattle.std.specs.Prelude.{IfSome, is_some}
 use Rattle.swim_node.specs.Lives.{era_of}
-use Rattle.swim_recorder.specs.Handing.{begun_at}
+use Rattle.swim_record.specs.Handing.{begun_at}
 use Rattle.swim_serve.proofs.Keeping.{none_gives, some_gives}
 use Rattle.swim_node.specs.History.{granted_of}
 use Rattle.swim_state.specs.Held.{Covers, Through}

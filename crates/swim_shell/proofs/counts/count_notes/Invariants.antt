@@ -1,5 +1,5 @@
 use Rattle.std.proofs.Common.{◌≡◌, drop}
-use Rattle.swim_shell.specs.Counts.{with_notes}
+use Rattle.swim_shell.specs.CallCounts.{with_notes}
 use Rattle.swim_shell.proofs.counts.count_notes.Given as goal
 
 -- those to come make of the counts what all of them are to

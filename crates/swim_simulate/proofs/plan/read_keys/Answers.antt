@@ -1,7 +1,7 @@
 use Rattle.std.proofs.Common.{rules, ◌≡◌, ℕ, ◌<◌, Some, sym, subst, ◌∙◌}
 use Rattle.std.specs.Prelude.{IsSome}
 use Rattle.toml.specs.View.{table_view}
-use Rattle.swim_simulate.specs.declared.key.Key.{Key}
+use Rattle.swim_simulate.specs.declared.key.PlanKey.{PlanKey}
 use Rattle.swim_simulate.specs.Keys.{rank_of}
 use Rattle.swim_simulate.specs.Plan.{number_at, taken_at}
 use Rattle.swim_simulate.proofs.Planning.{fill-next, key_in, rank_of-key_in, taken-within}
@@ -19,7 +19,7 @@ returns-in-None-clause-refused c = record {
 
 pub loop-place-preserved : goal.loop-place-preserved
 loop-place-preserved c =
-    let P : Key → ℕ → Type 0 = λ key n. taken_at key (table_view c.args.table.now) ≡ Some n in
+    let P : PlanKey → ℕ → Type 0 = λ key n. taken_at key (table_view c.args.table.now) ≡ Some n in
     fill-next P c.loop-place.place c.loop-place.numbers c.in-Some.number c.loop-place-test.true (sym c.taken.ensures ∙ c.in-Some.is) c.loop-place.invariant
 
 pub invariant_of-result : goal.invariant_of-result

@@ -1,5 +1,5 @@
 use Rattle.std.proofs.Common.{◌≡◌}
-use Rattle.swim_simulate.specs.declared.key.Key.TheVariants.{Members}
+use Rattle.swim_simulate.specs.declared.key.PlanKey.TheVariants.{Members}
 use Rattle.swim_simulate.specs.Plan.{number_at}
 use Rattle.swim_simulate.specs.Running.{rounds}
 use Rattle.swim_simulate.proofs.run.simulate.Given as goal

@@ -1,8 +1,8 @@
 use Rattle.std.proofs.Common.{◌≡◌, ◌∙◌, [], sym}
 use Rattle.swim_state.specs.File.{peers_in}
-use Rattle.swim_state.proofs.Steps.{if_ok}
 use Rattle.swim_state.proofs.Whole.{one_peers, peers_read}
 use Rattle.std.proofs.Common.{subst}
+use Rattle.std.proofs.lemmas.Result.{IfOk-weaker}
 use Rattle.swim_state.specs.Alone.{IsBeside, IsEarlier, LeavesAlone}
 use Rattle.swim_state.specs.File.{AreOf, layout_of}
 use Rattle.swim_state.proofs.Alone.{alone_less, earlier_beside, target_read}
@@ -13,7 +13,7 @@ returns-in-One-clause-peers g c = λ keeps.
     let content = (g.D.Disk.state c.args.disk.now).content in
     let found = (c.requires.found keeps).1 in
     let none = peers_read content c.args.found.slots found.same ∙ one_peers content (sym found.version ∙ c.in-One.is) in
-    if_ok (λ s. peers_in s ≡ []) (λ s. peers_in s ≡ peers_in c.args.found.slots) c.migrate.result (λ s is. is ∙ sym none) c.migrate.ensures.peers
+    IfOk-weaker c.migrate.result (λ s. peers_in s ≡ []) (λ s. peers_in s ≡ peers_in c.args.found.slots) (λ s is. is ∙ sym none) c.migrate.ensures.peers
 
 pub returns-in_err-save-in-Two-clause-earlier : goal.returns-in_err-save-in-Two-clause-earlier
 returns-in_err-save-in-Two-clause-earlier g c = λ keeps. alone_less _ IsEarlier _ _ (earlier_beside _) (c.save.ensures.alone keeps)

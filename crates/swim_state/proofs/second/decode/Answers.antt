@@ -1,7 +1,8 @@
 use Rattle.std.proofs.Common.{◌≡◌, ◌∙◌, ap, sym, length, drop, arith, rules, Some, slice_index, List, ℕ}
 use Rattle.swim_state.specs.Second.{ascend, body, endpoints, may_be_saved, saved_in}
-use Rattle.swim_state.proofs.Bodies.{too_great, too_many, not_up, another_body, good_from, said_bad, said_good, saved_is, some_if, none_if, stand_from, length-endpoints, not_false}
+use Rattle.swim_state.proofs.Bodies.{too_great, too_many, not_up, another_body, good_from, said_bad, said_good, saved_is, some_if, none_if, stand_from, length-endpoints}
 use Rattle.std.proofs.lemmas.Slice.Eq.{bytes_eq-Decides}
+use Rattle.std.proofs.lemmas.Bool.{not-false}
 use Rattle.swim_state.proofs.second.decode.Goals as goal
 
 pub returns-then-ceiling-gt-NUMBER_MAX-clause-said : goal.returns-then-ceiling-gt-NUMBER_MAX-clause-said
@@ -37,7 +38,7 @@ returns-clause-said c =
     let both = some_if (ascend 0 those) those c.in-Some.peers c.in-Some.ensures in
     let is = saved_is bytes c.read_u64-ceiling.result c.in-Some.peers c.read_u64-ceiling.ensures both.1 in
     let wrote : c.as_slice.result.now ≡ body (saved_in bytes) = c.as_slice.ensures.value ∙ c.encode.ensures.bytes ∙ ap body is in
-    let same : c.as_slice.result.now ≡ bytes = (bytes_eq-Decides c.as_slice.result.now bytes).0 (not_false _ (sym c.ne.ensures ∙ c.if-ne.false)) in
+    let same : c.as_slice.result.now ≡ bytes = (bytes_eq-Decides c.as_slice.result.now bytes).0 (not-false _ (sym c.ne.ensures ∙ c.if-ne.false)) in
     let stands = stand_from (record { ceiling = c.read_u64-ceiling.result; peers = c.in-Some.peers }) (omega (arith, c.if-ceiling-gt-NUMBER_MAX.false))
     (omega (arith, ap (λ (l : List ℕ). length l) both.1, length-endpoints (slice_index bytes 8) (drop 9 bytes), c.if-count-gt-PEERS_MAX.false))
     (ap (ascend 0) both.1 ∙ both.0) in

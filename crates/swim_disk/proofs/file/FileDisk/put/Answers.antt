@@ -1,5 +1,6 @@
 use Rattle.std.proofs.Common.{rules, ◌≡◌, ◌||◌, ◌+◌, ◌-◌, ◌≤◌, min, Vec, Global, ◌∷◌, ◌++◌, [], ℕ, List, length, subst, sym, ap, ◌∙◌, slice_index}
 use Rattle.std.specs.Prelude.{OnOk}
+use Rattle.std.proofs.lemmas.Result.{on_ok_weaker}
 use Rattle.swim_disk.specs.Cache.{WaitsIn}
 use Rattle.swim_disk.specs.Count.{count_of}
 use Rattle.swim_disk.specs.Deeds.{backing_of, StaysBeside}
@@ -8,7 +9,7 @@ use Rattle.swim_disk.specs.File.{IsFile, FileView, Puts}
 use Rattle.swim_disk.specs.Replay.{fresh, replay}
 use Rattle.swim_disk.specs.declared.cached.Span.{Span}
 use Rattle.swim_disk.specs.declared.past.Call.{Call}
-use Rattle.swim_disk.proofs.Filing.{file_puts, fresh_by, if_done, span_of}
+use Rattle.swim_disk.proofs.Filing.{file_puts, fresh_by, span_of}
 use Rattle.swim_disk.proofs.file.FileDisk.put.Goals as goal
 
 module _ (c : goal.After-self-1) where
@@ -66,5 +67,5 @@ returns-clause-given c =
     subst (λ (v : FileView). Puts c.args.at c.args.bytes.now written v view) c.self.view_is (record {
       calls = (kept c, same c, c.with_write-calls.ensures.calls);
       beside = subst (λ (n : ℕ). StaysBeside n (end - n) old new) start c.write_span-written.ensures.beside;
-      done = if_done written (λ waits i low high. subst (λ (l : List ℕ). new.waiting i (slice_index l i)) reads (waits i (subst (λ (n : ℕ). n ≤ i) (sym start) low) high)) c.write_span-written.ensures.done;
+      done = on_ok_weaker written (λ waits i low high. subst (λ (l : List ℕ). new.waiting i (slice_index l i)) reads (waits i (subst (λ (n : ℕ). n ≤ i) (sym start) low) high)) c.write_span-written.ensures.done;
     })

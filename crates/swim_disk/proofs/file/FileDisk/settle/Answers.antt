@@ -1,11 +1,12 @@
 use Rattle.std.proofs.Common.{◌≡◌, List, [], ℕ, false, ap, subst, sym, ◌∙◌}
 use Rattle.std.specs.Prelude.{OnOk}
+use Rattle.std.proofs.lemmas.Result.{on_ok_weaker}
 use Rattle.swim_disk.specs.Deeds.{backing_of, KeepsAll}
 use Rattle.swim_disk.specs.File.{IsFile}
 use Rattle.swim_disk.specs.Replay.{fresh, replay}
 use Rattle.swim_disk.specs.declared.past.Call.{Call}
 use Rattle.swim_disk.specs.declared.past.Call.TheVariants.{Sync}
-use Rattle.swim_disk.proofs.Filing.{file_settles, if_done}
+use Rattle.swim_disk.proofs.Filing.{file_settles}
 use Rattle.swim_disk.proofs.Recorded.{replay_more}
 use Rattle.swim_disk.proofs.file.FileDisk.settle.Goals as goal
 
@@ -25,4 +26,4 @@ returns-in-Ok-clause-has_all c =
     let content : c.deref.result.now ≡ (replay (fresh []) c.and-self-inside.result).content =
     c.deref.ensures.value ∙ c.self.invariant.holds
     ∙ sym (ap (λ (l : List Call). (replay (fresh []) l).content) c.and-self-inside.ensures ∙ ap (λ d. d.content) (replay_more (fresh []) self.calls Sync)) in
-    if_done c.settle-settled.result (λ has_all. subst (λ (l : List ℕ). KeepsAll l file) content has_all) c.settle-settled.ensures.has_all
+    on_ok_weaker c.settle-settled.result (λ has_all. subst (λ (l : List ℕ). KeepsAll l file) content has_all) c.settle-settled.ensures.has_all

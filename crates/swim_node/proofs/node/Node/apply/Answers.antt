@@ -45,7 +45,7 @@ module _ (g : Over) (c : goal.After-copy_reply g) where
     status = rw (c.status_now-status.ensures, c.entries.ensures, c.reserve.ensures.entries) refl;
     sent = refl;
     lost = refl;
-    turn = rw (← same_entries) c.in_ok-judge.ensures.ok.0;
+    turn = rw (← same_entries) c.in_ok-admit.ensures.ok.0;
     deal = c.enter-done.ensures.deal;
     texts = c.enter-done.ensures.texts;
     caller = c.requires.caller;
@@ -82,15 +82,15 @@ pub invariant_of-self-2 : goal.invariant_of-self-2
 invariant_of-self-2 g c =
     let room : length c.self.inside.journal.entries < c.self.inside.base.limit =
     let same : c.self.inside.base.limit ≡ c.args.self.now.base.limit = ap (λ v. v.base.limit) c.self.view_is in
-    rw (← same_entries g c, same) c.in_ok-judge.ensures.ok.1 in (
+    rw (← same_entries g c, same) c.in_ok-admit.ensures.ok.1 in (
       rw (c.greatest_own-self-inside.ensures, c.settings.ensures, c.deref.ensures.0, c.add.ensures, c.reserve.ensures.entries)
           (node-snoc (base_of c.self.inside.base) c.self.inside.journal.entries (entry g c) c.self.inside.first c.self.inside.member c.enter-done.new.member c.self.inside.store.ceiling c.enter-done.new.store.ceiling c.self.inside.most c.self.invariant.0 (enters g c) room),
       c.enter-done.ensures.saved.covered,
     )
 
 -- what the file covers, said of what a caller sees
-pub returns-in_err-judge-clause-since : goal.returns-in_err-judge-clause-since
-returns-in_err-judge-clause-since g c keeps image left =
+pub returns-in_err-admit-clause-since : goal.returns-in_err-admit-clause-since
+returns-in_err-admit-clause-since g c keeps image left =
     let covered = subst (λ (n : ℕ). Held c.self.inside.store.owner (g.D.Disk.state c.self.inside.store.disk) n) (sym c.self.invariant.0.granted) (c.self.invariant.1 keeps) in
     subst (λ v. Held v.owner (g.D.Disk.state v.disk) (granted_of v.base v.entries)) c.self.view_is covered image ((g.D.Disk.state c.args.self.now.disk).only_now image left)
 

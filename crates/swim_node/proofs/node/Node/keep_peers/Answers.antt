@@ -1,7 +1,7 @@
 use Rattle.std.proofs.Common.{◌≡◌, ◌<◌, ◌∙◌, [], ap, sym, subst, refl, arith}
+use Rattle.std.proofs.lemmas.Result.{on_ok_weaker}
 use Rattle.swim_state.specs.Held.{Covers, Held, HeldSince, Through}
 use Rattle.swim_state.proofs.Moments.{since_from}
-use Rattle.swim_node.proofs.Lists.{on_ok}
 use Rattle.swim_node.specs.History.{granted_of, state_after}
 use Rattle.swim_node.specs.Lives.{GoesOn, IsRaised}
 use Rattle.swim_node.specs.Node.{base_of}
@@ -26,7 +26,7 @@ module _ (g : Over) (c : goal.After-self-1 g) where
 pub returns-clause-ok : goal.returns-clause-ok
 returns-clause-ok g c =
     let base = ap (λ v. v.base) c.self.view_is in
-    on_ok _ _ c.keep-kept.result (λ ok. (
+    on_ok_weaker c.keep-kept.result (λ ok. (
       subst (λ n. n < c.ceiling-self-inside.result) (stood g c ∙ ap (λ b. b.granted) base) (subst (λ n. c.self.inside.store.ceiling < n) (sym c.ceiling-self-inside.ensures.value) ok.0),
       ok.1 ∙ c.known_peers-peers.ensures.value ∙ ap known_peers (sym c.self.invariant.0.member) ∙ ap (λ v. known_peers (state_after v.base v.entries)) c.self.view_is,
       ok.2,

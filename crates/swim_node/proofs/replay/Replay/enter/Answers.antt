@@ -32,7 +32,7 @@ module _ (c : goal.After-add) where
     status = rw (c.status_now-status.ensures, c.entries.ensures, c.reserve.ensures.entries) refl;
     sent = refl;
     lost = refl;
-    turn = rw (← same_entries) c.in_ok-judge.ensures.ok.0;
+    turn = rw (← same_entries) c.in_ok-admit.ensures.ok.0;
     deal = c.enter_again-done.ensures.deal;
     texts = c.enter_again-done.ensures.texts;
     caller = c.requires.caller;
@@ -44,7 +44,7 @@ module _ (c : goal.After-add) where
   room : length c.self.inside.journal.entries < c.self.inside.base.limit
   room =
       let same : c.self.inside.base.limit ≡ c.args.self.now.base.limit = ap (λ (v : Era). v.base.limit) c.self.view_is in
-      rw (← same_entries, same) c.in_ok-judge.ensures.ok.1
+      rw (← same_entries, same) c.in_ok-admit.ensures.ok.1
 
 pub invariant_of-self-2 : goal.invariant_of-self-2
 invariant_of-self-2 c =

@@ -1,7 +1,7 @@
 use Rattle.swim_words.proofs.Tables.{none_named}
 use Rattle.swim_script.specs.Commands.{setting_text}
 use Rattle.swim_script.specs.declared.command.TheConstants.Setting.{ALL}
-use Rattle.swim_script.proofs.Tables.{all_settings}
+use Rattle.swim_script.proofs.Keywords.{all_settings}
 use Rattle.swim_script.proofs.command.Setting.of.Goals as goal
 
 pub returns-clause-none : goal.returns-clause-none

@@ -1,0 +1,2 @@
+-- What only proofs and private functions use: no public clause needs it.
+pub mod Counts
