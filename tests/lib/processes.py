@@ -8,7 +8,7 @@ from contextlib import contextmanager, suppress
 from types import SimpleNamespace
 from typing import NamedTuple
 
-from lib.trials import Wrong, folder_for, undisturbed
+from lib.trials import Wrong, expect, folder_for, undisturbed
 
 LONGEST = 300  # seconds that what ends by itself may take, as a long script in a program without proof
 PLACE = SimpleNamespace(program=None, folder=None, is_over=False)
@@ -71,6 +71,15 @@ def run_to_its_end(command, input=None, seconds=LONGEST, **more):
         with suppress(ValueError):  # it is being ended
             STARTED.remove(process)
     return Ran(process.returncode, (out or b"").decode(), (err or b"").decode())
+
+
+def compile_c(program, *words):
+    """Builds a program of the test's folder, without a warning. What the compiler puts aside is there too. An interrupt waits for its end,
+    since what it has started would be left."""
+    with undisturbed():
+        made = run_to_its_end(["gcc", "-O2", "-Wall", "-Wextra", "-o", program, *words], env={**os.environ, "TMPDIR": str(PLACE.folder)})
+    expect((made.status, made.err), (0, ""), f"gcc of {program.name}")
+    return program
 
 
 def swim(*words, **more):
