@@ -15,7 +15,7 @@ from typing import NamedTuple
 sys.dont_write_bytecode = True
 from lib.datagrams import GROUP
 from lib.members import Member, free_endpoint
-from lib.processes import PLACE, place_for, run_to_its_end, start
+from lib.processes import PLACE, compile_c, place_for, run_to_its_end, start
 from lib.trials import end_in_order, expect, program_parser
 
 SOURCE = Path(__file__).resolve().parent / "load.c"
@@ -37,14 +37,6 @@ class Load(NamedTuple):
     median: float
     late: float
     lost: int
-
-
-def build():
-    """The sender, which is also the echo."""
-    path = PLACE.folder / "load"
-    made = run_to_its_end(["gcc", "-O2", "-Wall", "-Wextra", "-o", path, SOURCE])
-    expect((made.status, made.err), (0, ""), "gcc")
-    return path
 
 
 def loaded(sender, port, window, seconds, updates=0):
@@ -98,7 +90,7 @@ def main():
     words = parser.parse_args()
     found = {}
     with place_for(words.program.resolve()):
-        sender = build()
+        sender = compile_c(PLACE.folder / "load", SOURCE)
         for turn in range(words.rounds):
             found.setdefault("echo in C", []).append(echo(sender, words.seconds))
             for place, (name, keys) in enumerate(MEMBERS.items()):
