@@ -177,8 +177,8 @@ pub use swim_serve::{
     run_member,
 };
 pub use swim_shell::{
-    Alarm, Alarmed, COUNTERS, Caller, ControlEnd, Counter, Counters, Doors, Inbound, LIST_MAX,
-    Observer, Paces, ReceiveFault, Refusal, WorkerEnd,
+    Alarm, Alarmed, COUNTERS, Caller, ControlEnd, Counter, Counters, Doors, Inbound, Intervals,
+    LIST_MAX, Observer, ReceiveFault, Refusal, WorkerEnd,
 };
 
 // The sockets that it usually has.

@@ -20,7 +20,7 @@ use swim_member::{Settings, SettingsFault};
 use swim_net::{SocketAlarm, Sockets, Waits, address_of, bind_datagrams, wait_of};
 use swim_node::{Node, OpenFault};
 use swim_serve::{DoorsAndChores, EndedMember, Joins, LifeSetup, NoChores, Outside, run_member};
-use swim_shell::{LIST_MAX, Paces};
+use swim_shell::{Intervals, LIST_MAX};
 use swim_wire::Endpoint;
 
 /// How many entries an era has at most, if nothing else is said.
@@ -161,7 +161,7 @@ where
         tick: Duration::from_millis(tick_ms),
         joins: Joins {
             peers: join,
-            paces: Paces::of(&settings, introduce, rejoin, tick_ms),
+            intervals: Intervals::of(&settings, introduce, rejoin, tick_ms),
         },
         key,
         expelled_ends: None,

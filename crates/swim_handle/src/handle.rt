@@ -236,9 +236,9 @@ impl<'a, N: Name, D: Disk, L: Link, R: Wait + Drop, W: Wait + Log + Clock> Calle
         match self.handle.call(event) {
             Ok(reply) => {
                 let handle = &mut self.handle;
-                // its worker may wait before the turn ends that rings: what it sends does not wait with it
+                // its worker may wait before the turn ends that notifies: what it sends does not wait with it
                 if reply.sent > 0 {
-                    handle.pace.ring();
+                    handle.pace.notify();
                 }
                 let _ = handle
                     .shared

@@ -1,7 +1,6 @@
 //! How the workers of a running member call it: what they log, count and show of each call, and what wakes them.
 #![tactic(auto)]
 
-mod bell;
 mod board;
 mod call_log;
 mod company;
@@ -11,6 +10,7 @@ mod heard;
 mod identity;
 mod note_log;
 mod note_words;
+mod notify;
 mod number_log;
 mod pace;
 mod parts;

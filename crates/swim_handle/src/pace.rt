@@ -3,7 +3,7 @@
 ghost use Rattle.std.specs.Prelude.{◌≡◌, if◌then◌else◌};
 ghost use Rattle.swim_shell.specs.declared.gate.Turn.TheVariants as turning;
 
-use crate::bell::Bell;
+use crate::notify::Notify;
 use std::sync::Wait;
 use std::sync::atomic::{AtomicBool, Ordering};
 use std::thread::Parker;
@@ -20,8 +20,8 @@ fn turn_if_over(is_over: bool) -> Turn
 /// What the gates of an era share.
 #[derive(Drop)]
 pub struct Pace {
-    /// Rings when there may be something to send.
-    bell: Bell,
+    /// That there may be something to send.
+    to_send: Notify,
     /// Whether a worker has ended, and so all others are to end.
     has_ended: AtomicBool,
     /// Wakes the ticker.
@@ -32,27 +32,27 @@ impl Pace {
     /// Of an era that begins.
     pub fn new() -> Pace {
         Pace {
-            bell: Bell::new(),
+            to_send: Notify::new(),
             has_ended: AtomicBool::new(false),
             rest: Parker::new(),
         }
     }
 
     /// There may be something to send: the sender is woken.
-    pub fn ring(&self) {
-        self.bell.ring();
+    pub fn notify(&self) {
+        self.to_send.notify();
     }
 
-    /// Waits for a ring, or until the era is over. One thread at a time may wait.
-    pub fn wait_for_ring<R: Wait>(&self, rt: &R) {
-        self.bell.wait(rt);
+    /// Waits for a notification, or until the era is over. One thread at a time may wait.
+    pub fn wait_to_send<R: Wait>(&self, rt: &R) {
+        self.to_send.wait(rt);
     }
 
-    /// The era is over: whoever rests, and whoever waits for the bell, is woken. A rest that begins later ends at once.
+    /// The era is over: whoever rests, and whoever waits to send, is woken. A rest that begins later ends at once.
     pub fn end(&self) {
         self.has_ended.store(true, Ordering::SeqCst);
         self.rest.unpark();
-        self.bell.ring();
+        self.to_send.notify();
     }
 
     /// Rests so long, or until the era is over. One thread at a time may rest.

@@ -14,7 +14,7 @@ use Rattle.swim_shell.specs.Turns.{TellsDue, after_look, turning, due_in, idle_r
 use Rattle.swim_shell.specs.Turns.{is_alone, joined_drawn, joined_listed}
 use Rattle.swim_shell.specs.declared.joiner.Due.{Due}
 use Rattle.swim_shell.specs.declared.joiner.Due.TheVariants.{Drawn, Listed, Look, Nothing}
-use Rattle.swim_shell.specs.declared.paces.Moment.{Moment}
+use Rattle.swim_shell.specs.declared.intervals.Moment.{Moment}
 use Rattle.swim_start.specs.Starting.{peers_to_join}
 use Rattle.swim_state.specs.declared.peers.TheConstants.{PEERS_MAX}
 use Rattle.swim_wire.specs.declared.update.Update.{Update}
@@ -65,7 +65,7 @@ seeds_fault seeds =
 pub record IsNewJoiner (s : Seeking) (peers : List ℕ) (word : ℕ) (k : JoinerView) : Type 0 where
   pub me : k.me ≡ s.me
   pub rules : k.rules ≡ s.rules
-  pub paces : k.paces ≡ s.paces
+  pub intervals : k.intervals ≡ s.intervals
   pub list : k.peers.list ≡ peers
   pub first : k.peers.next ≡ 0
   pub joined : k.joined ≡ None
@@ -74,7 +74,7 @@ pub record IsNewJoiner (s : Seeking) (peers : List ℕ) (word : ℕ) (k : Joiner
 -- it is new, or it was there and joins these peers from now on
 abbrev pub BeginsOn : Option JoinerView → Seeking → List ℕ → ℕ → JoinerView → Type 0
 BeginsOn None s peers word k = IsNewJoiner s peers word k
-BeginsOn (Some j) s peers word k = IsRelisted peers s.paces j k
+BeginsOn (Some j) s peers word k = IsRelisted peers s.intervals j k
 
 -- these peers are joined from now on
 pub record SeeksPeers (peers : List ℕ) (word : ℕ) (old new : Seeking) : Type 0 where

@@ -23,7 +23,7 @@ use rand_core::SeedableRng;
 use std::time::{Duration, Instant};
 use swim_member::{Event, Settings};
 use swim_news::Rows;
-use swim_shell::{Due, Joiner, LIST_MAX, Moment, Paces, QuietClock, is_alone};
+use swim_shell::{Due, Intervals, Joiner, LIST_MAX, Moment, QuietClock, is_alone};
 use swim_start::peers_of;
 use swim_state::PEERS_MAX;
 use swim_wire::{Endpoint, Rules};
@@ -42,7 +42,7 @@ const QUIET: QuietClock = QuietClock { millis: 0 };
 pub(crate) struct Seeking {
     pub(crate) me: Endpoint,
     rules: Rules,
-    paces: Paces,
+    intervals: Intervals,
     /// When the program's clock, of which each call is told the milliseconds, was 0.
     began: Option<Instant>,
     /// Whom the member joins and when; none before it was told of seeds.
@@ -78,7 +78,7 @@ impl Seeking {
         Seeking {
             me: settings.me,
             rules: settings.rules_of(),
-            paces: Paces::of(settings, INTRODUCE, REJOIN, TICK_MS),
+            intervals: Intervals::of(settings, INTRODUCE, REJOIN, TICK_MS),
             began: Instant::now(&QUIET).ok(),
             joiner: None,
         }
@@ -89,10 +89,10 @@ impl Seeking {
         ensures { SeeksPeers peers.items random self.old self.new }
     {
         match &mut self.joiner {
-            Some(joiner) => joiner.relist(peers, self.paces),
+            Some(joiner) => joiner.relist(peers, self.intervals),
             None => {
                 let rng = ChaCha20Rng::seed_from_u64(random);
-                self.joiner = Some(Joiner::new(self.me, self.rules, peers, self.paces, rng));
+                self.joiner = Some(Joiner::new(self.me, self.rules, peers, self.intervals, rng));
             }
         }
     }

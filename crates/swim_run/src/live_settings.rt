@@ -23,7 +23,7 @@ use swim_record::{Finished, Keeper};
 use swim_recorder::Scribe;
 use swim_serve::{Host, Joins};
 use swim_settings::{JOIN_MAX, Key, Level, RunSettings, restart_keys};
-use swim_shell::{AnswerText, Paces, SETTINGS_REFUSED, answer_of};
+use swim_shell::{AnswerText, Intervals, SETTINGS_REFUSED, answer_of};
 use swim_start::peers_of;
 use swim_state::Peers;
 
@@ -124,11 +124,11 @@ impl<'a, T: Threads + Wait + Log + Clock + Copy> LiveSettings<'a, T> {
         ensures peers { (listed : List ℕ) × (length listed ≤ JOIN_MAX) × (result.peers.items
             ≡ peers_to_join self.now.told.settings.me listed stored.now) }
         ensures answer { let told = self.now.told in
-            as_nanos result.paces.answer ≡ lasting told.settings.direct told.tick_ms }
+            as_nanos result.intervals.answer ≡ lasting told.settings.direct told.tick_ms }
         ensures period { let told = self.now.told in
-            as_nanos result.paces.period ≡ lasting told.settings.period told.tick_ms }
-        ensures introduce { result.paces.introduce ≡ self.now.told.introduce }
-        ensures rejoin { let told = self.now.told in option_map as_nanos result.paces.rejoin
+            as_nanos result.intervals.period ≡ lasting told.settings.period told.tick_ms }
+        ensures introduce { result.intervals.introduce ≡ self.now.told.introduce }
+        ensures rejoin { let told = self.now.told in option_map as_nanos result.intervals.rejoin
             ≡ cond (told.rejoin == 0) None (Some (lasting told.rejoin told.tick_ms)) }
     {
         let told = &self.told;
@@ -136,7 +136,7 @@ impl<'a, T: Threads + Wait + Log + Clock + Copy> LiveSettings<'a, T> {
         let listed = self.handed.listing.lock(self.around.logged).endpoints();
         Joins {
             peers: peers_of(settings.me, listed.as_slice(), stored.as_slice()),
-            paces: Paces::of(settings, told.introduce, told.rejoin, told.tick_ms),
+            intervals: Intervals::of(settings, told.introduce, told.rejoin, told.tick_ms),
         }
     }
 

@@ -4,7 +4,7 @@ use Rattle.swim_shell.specs.declared.caller.Refusal.{Refusal}
 use Rattle.swim_shell.specs.declared.conversation.ControlEnd.{ControlEnd}
 use Rattle.swim_shell.specs.declared.conversation.ControlEnd.TheVariants as ends
 use Rattle.swim_shell.specs.Calls.{CallerView}
-use Rattle.swim_shell.specs.declared.paces.Paces.{Paces}
+use Rattle.swim_shell.specs.declared.intervals.Intervals.{Intervals}
 use Rattle.swim_shell.specs.Joins.{JoinerView, IsRelisted}
 use Rattle.swim_shell.specs.Turns.{Turned, TurnedInVain}
 use Rattle.swim_shell.specs.Views.{ConversationView}
@@ -138,10 +138,12 @@ module _ (limit : ℕ) where
   Opens p os (Some c) us =
       (first : ConversationView) × IsTurnIn first os us × Converses limit first p c p 0
 
--- whom the joiner joins is the same, or, if it ever changes, it joins other peers by other paces
+-- whom the joiner joins is the same, or, if it ever changes, it joins other peers by other
+-- intervals
 abbrev pub MayRelist : Type 0 → JoinerView → JoinerView → Type 0
 MayRelist relists j k =
-    (k ≡ j) ⊎ (relists × (peers : List ℕ) × (paces : Paces) × IsRelisted peers paces j k)
+    (k ≡ j) ⊎ (relists × (peers : List ℕ) × (intervals : Intervals)
+    × IsRelisted peers intervals j k)
 
 -- the conversation has the answer to its line to write, where nothing was left to write
 pub record IsAnswered (a b : ConversationView) : Type 0 where

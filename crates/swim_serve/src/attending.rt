@@ -2,11 +2,11 @@
 
 ghost use Rattle.swim_serve.specs.Works.{LeftBy, Received, Sent, Ticked};
 
-use crate::beat::TickTimer;
-use crate::ending::Shutdown;
-use crate::gates::{Pacing, Resting, Ringing};
+use crate::gates::{Notifying, Pacing, Resting};
 use crate::job::{Job, Left, Manned};
+use crate::shutdown::Shutdown;
 use crate::threads::{Back, Work, serve};
+use crate::tick_timer::TickTimer;
 use log::Log;
 use std::sync::Wait;
 use std::thread::Threads;
@@ -43,7 +43,7 @@ pub fn attend<
 >(
     rt: &'x T,
     ending: &'x Shutdown<'x, A>,
-    beat: &mut TickTimer,
+    timer: &mut TickTimer,
     workers: Workers<C, I, O, J>,
 ) -> Attended<C::Parts, I, O, J::Done>
     ensures receiver { LeftBy (Received I.tells C.limit) C.parted workers.receiver.worker
@@ -70,14 +70,14 @@ pub fn attend<
             rt,
             worker: receiver.worker,
             caller: receiver.caller,
-            gate: Ringing::new(pace),
+            gate: Notifying::new(pace),
             ending,
         },
         ticker: Job {
             rt,
             worker: ticker.worker,
             caller: ticker.caller,
-            gate: Pacing::new(rt, pace, beat),
+            gate: Pacing::new(rt, pace, timer),
             ending,
         },
         sender: Job {

@@ -2,7 +2,7 @@
 
 ghost use Rattle.std.specs.Prelude.{◌≡◌, ◌<◌, ◌≤◌, [], ◌∷◌, ◌++◌, None, Some, IfNone, IfSome, IfOk, IfErr};
 ghost use Rattle.std.specs.Prelude.{OnErr, OnOk, IsSome, IsTrue, true, false, not, ◌+◌, length, min, if◌then◌else◌};
-ghost use Rattle.swim_serve.specs.declared.aside.TheConstants.{OPEN_MAX};
+ghost use Rattle.swim_serve.specs.declared.connection_queue.TheConstants.{OPEN_MAX};
 ghost use Rattle.swim_shell.specs.Joins.{IsRelisted};
 ghost use Rattle.swim_shell.specs.Turns.{Turned, TurnedInVain};
 ghost use Rattle.swim_shell.specs.declared.conversation.ControlEnd.TheVariants as ends;
@@ -10,8 +10,8 @@ ghost use Rattle.swim_shell.specs.Calls.{CallerView};
 ghost use Rattle.swim_shell.specs.Control.{Converses};
 ghost use Rattle.swim_serve.specs.Desks.{HasAnswer, OfConnection, OfMember, Opens};
 
-use crate::aside::{ConnectionQueue, OPEN_MAX};
 use crate::chores::Chores;
+use crate::connection_queue::{ConnectionQueue, OPEN_MAX};
 use arrayvec::ArrayVec;
 use log::Log;
 use std::alloc::{AllocError, Global};
@@ -19,7 +19,8 @@ use std::marker::Model;
 use std::time::Clock;
 use swim_handle::Identity;
 use swim_shell::{
-    AnswerText, ControlEnd, Conversation, Doors, Joiner, LIST_MAX, Observer, Paces, Refusal, Worker,
+    AnswerText, ControlEnd, Conversation, Doors, Intervals, Joiner, LIST_MAX, Observer, Refusal,
+    Worker,
 };
 use swim_wire::Endpoint;
 
@@ -46,7 +47,7 @@ pub struct Desk<W: Log + Clock + Drop, O: Doors + Chores + Drop> {
 
 impl<W: Log + Clock + Drop, O: Doors + Chores + Drop> Model for Desk<W, O> {
     ghost use Rattle.std.specs.Prelude.{◌≤◌, ◌+◌, length, option_to_list};
-    ghost use Rattle.swim_serve.specs.declared.aside.TheConstants.{OPEN_MAX};
+    ghost use Rattle.swim_serve.specs.declared.connection_queue.TheConstants.{OPEN_MAX};
     ghost use Rattle.swim_serve.specs.Desks.{DeskView};
 
     ghost Value = { DeskView };
@@ -122,13 +123,13 @@ impl<W: Log + Clock + Drop, O: Doors + Chores + Drop> Desk<W, O> {
         self.joiner.listed()
     }
 
-    /// Has the joiner join these peers from now on, by these paces.
-    pub(crate) fn relist(&mut self, peers: ArrayVec<Endpoint, LIST_MAX>, paces: Paces)
-        ensures joiner { IsRelisted peers.items paces self.old.joiner self.new.joiner }
+    /// Has the joiner join these peers from now on, by these intervals.
+    pub(crate) fn relist(&mut self, peers: ArrayVec<Endpoint, LIST_MAX>, intervals: Intervals)
+        ensures joiner { IsRelisted peers.items intervals self.old.joiner self.new.joiner }
         ensures same { (self.new.conversation ≡ self.old.conversation)
             × (self.new.others ≡ self.old.others) }
     {
-        self.joiner.relist(peers, paces);
+        self.joiner.relist(peers, intervals);
     }
 
     /// Gives the conversation that has the turns the answer to its line `reload`.

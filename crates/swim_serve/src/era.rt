@@ -11,15 +11,15 @@ ghost use Rattle.swim_serve.specs.Eras.{ByPass, NamesParts, SendsBy, Serves, Sta
 ghost use Rattle.swim_serve.specs.Works.{Received, Ticked};
 
 use crate::attending::{Attended, attend};
-use crate::beat::TickTimer;
 use crate::chores::Chores;
 use crate::desk::Desk;
-use crate::ending::Shutdown;
 use crate::era_counts::EraCounts;
-use crate::gates::Ringing;
+use crate::gates::Notifying;
 use crate::job::{Job, Left, Manned};
 use crate::outgoing::RingLink;
 use crate::outside::{CallLogs, Outside};
+use crate::shutdown::Shutdown;
+use crate::tick_timer::TickTimer;
 use log::Log;
 use std::alloc::Global;
 use std::sync::Wait;
@@ -215,7 +215,7 @@ fn take_apart<
     back: Came<N, I, M, R, O>,
     room: Vec<Pass<N>>,
     eras: EraCounts,
-    beat: TickTimer,
+    timer: TickTimer,
     expelled_ends: Option<u64>,
 ) -> Returned<N, I, M, R, O>
     ensures receiver { (result.outside.receiver ≡ back.crew.receiver.worker)
@@ -255,7 +255,7 @@ fn take_apart<
         },
         eras,
         owed: 0,
-        beat,
+        timer,
         expelled_ends,
     };
     Returned {
@@ -319,7 +319,7 @@ fn work<
         logs,
         eras,
         owed,
-        mut beat,
+        mut timer,
         expelled_ends,
     } = outside;
     let pace = ending.pace();
@@ -346,12 +346,12 @@ fn work<
             rt,
             worker: desk,
             caller: callers.control,
-            gate: Ringing::new(pace),
+            gate: Notifying::new(pace),
             ending,
         },
     };
-    let back = attend(rt, ending, &mut beat, workers);
-    Ok(take_apart(back, held.passes, eras, beat, expelled_ends))
+    let back = attend(rt, ending, &mut timer, workers);
+    Ok(take_apart(back, held.passes, eras, timer, expelled_ends))
 }
 
 /// What is left of an era.

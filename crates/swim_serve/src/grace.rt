@@ -5,12 +5,12 @@ ghost use Rattle.swim_member.specs.declared.state.Phase.TheVariants as phases;
 ghost use Rattle.swim_serve.specs.Faults.{fault_of};
 ghost use Rattle.swim_serve.specs.Members.{EndsMember, FailsMember, end_by_phase, member_end};
 
-use crate::beat::TickTimer;
 use crate::chores::Chores;
 use crate::era::EraEnds;
 use crate::expulsion::Expulsion;
 use crate::fault::{Fault, fault_of};
 use crate::outside::Outside;
+use crate::tick_timer::TickTimer;
 use log::Log;
 use std::thread;
 use std::time::{Clock, Duration};
@@ -33,24 +33,24 @@ pub enum MemberEnd {
     Expelled,
 }
 
-/// Whether the wait of a member that is expelled is over, after an era of this beat. If it is not, the next era ends then.
-fn is_wait_over(expulsion: &mut Expulsion, beat: &mut TickTimer, phase: Phase) -> bool
+/// Whether the wait of a member that is expelled is over, after an era of this timer. If it is not, the next era ends then.
+fn is_wait_over(expulsion: &mut Expulsion, timer: &mut TickTimer, phase: Phase) -> bool
     requires { IsSome expulsion.old.end_at → IsSome expulsion.old.wait }
     ensures wait { expulsion.new.wait ≡ expulsion.old.wait }
     ensures ends { IsTrue result → IsSome expulsion.old.wait }
     ensures known { IsSome expulsion.new.end_at → IsSome expulsion.new.wait }
-    ensures over { IsTrue result → IfSome expulsion.new.end_at (λ at. at ≤ beat.old.made) }
+    ensures over { IsTrue result → IfSome expulsion.new.end_at (λ at. at ≤ timer.old.made) }
     ensures not_yet { phase ≡ phases.Expelled → result ≡ false
-        → IfSome expulsion.new.end_at (λ at. beat.new.end_at ≤ at) }
+        → IfSome expulsion.new.end_at (λ at. timer.new.end_at ≤ at) }
 {
     if phase != Phase::Expelled {
         return false;
     }
-    let Some(at) = expulsion.end_at(beat.made()) else {
+    let Some(at) = expulsion.end_at(timer.made()) else {
         return false;
     };
-    beat.end_era_by(at);
-    at <= beat.made()
+    timer.end_era_by(at);
+    at <= timer.made()
 }
 
 /// How many eras in a row had no thread for one of their workers.
@@ -159,7 +159,7 @@ impl Grace {
         if let Err(fault) = self.famine.wait(rt, had_threads) {
             return Some(Err(fault));
         }
-        let is_over = is_wait_over(&mut self.expulsion, &mut outside.beat, phase);
+        let is_over = is_wait_over(&mut self.expulsion, &mut outside.timer, phase);
         let end = member_end(ends.control, phase, is_over)?;
         Some(Ok(end))
     }

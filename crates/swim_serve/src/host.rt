@@ -11,7 +11,7 @@ use std::time::Clock;
 use swim_node::Link;
 use swim_record::{Keeper, Unkept};
 use swim_shell::{
-    AnswerText, ControlEnd, Doors, Inbound, LIST_MAX, Paces, SETTINGS_REFUSED, answer_of,
+    AnswerText, ControlEnd, Doors, Inbound, Intervals, LIST_MAX, SETTINGS_REFUSED, answer_of,
 };
 use swim_state::Peers;
 use swim_wire::Endpoint;
@@ -22,7 +22,7 @@ pub struct Joins {
     /// Whom the member joins.
     pub peers: ArrayVec<Endpoint, LIST_MAX>,
     /// How often it does what.
-    pub paces: Paces,
+    pub intervals: Intervals,
 }
 
 /// Who keeps the eras of a member that ended, reads its settings again where a line asks for that, and says then whom it joins.
@@ -72,6 +72,6 @@ pub(crate) fn ask_host<
         outside.desk.answer(host.reload());
     }
     if let Some(joins) = host.joins(stored) {
-        outside.desk.relist(joins.peers, joins.paces);
+        outside.desk.relist(joins.peers, joins.intervals);
     }
 }

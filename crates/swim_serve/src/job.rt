@@ -1,6 +1,6 @@
 //! A worker with all that it works with.
 
-use crate::ending::Shutdown;
+use crate::shutdown::Shutdown;
 use crate::threads::Work;
 use std::sync::Wait;
 use swim_handle::IntoParts;

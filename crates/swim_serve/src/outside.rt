@@ -6,12 +6,12 @@ ghost use Rattle.swim_shell.specs.Inbounds.{receiver_of};
 ghost use Rattle.swim_serve.specs.EraCounts.{with_era};
 ghost use Rattle.swim_serve.specs.Views.{link_of};
 
-use crate::beat::TickTimer;
 use crate::chores::Chores;
 use crate::desk::Desk;
 use crate::era_counts::EraCounts;
 use crate::era_saves::EraSaves;
 use crate::host::Joins;
+use crate::tick_timer::TickTimer;
 use log::Log;
 use rand_chacha::ChaCha20Rng;
 use rand_core::SeedableRng;
@@ -56,7 +56,7 @@ pub struct Outside<
     /// The losses that no call has told.
     pub(crate) owed: u32,
     /// When ticks are due.
-    pub(crate) beat: TickTimer,
+    pub(crate) timer: TickTimer,
     /// For how many ticks the member waits before it ends once it is expelled; none if it is to stay.
     pub(crate) expelled_ends: Option<u64>,
 }
@@ -125,7 +125,7 @@ impl<I: Inbound + Drop, M: Link + Drop, R: Log + Clock + Drop, O: Doors + Chores
         ensures { self.new ≡ record self.old { eras = with_era saves self.old.eras } }
     {
         self.eras.add(saves);
-        self.beat.repeat_if(was_full);
+        self.timer.repeat_if(was_full);
     }
 
     /// What such a life begins with: datagrams come from the inbound and go to the link, and control connections come in at the doors.
@@ -143,7 +143,7 @@ impl<I: Inbound + Drop, M: Link + Drop, R: Log + Clock + Drop, O: Doors + Chores
         ensures ticker { IfOk result (λ o. o.ticker ≡ of_seed setup.key) }
         ensures member { IfOk result (λ o. o.desk.joiner.me ≡ setup.settings.me) }
         ensures list { IfOk result (λ o. o.desk.joiner.peers.list ≡ setup.joins.peers.items) }
-        ensures paces { IfOk result (λ o. o.desk.joiner.paces ≡ setup.joins.paces) }
+        ensures intervals { IfOk result (λ o. o.desk.joiner.intervals ≡ setup.joins.intervals) }
         ensures draws { IfOk result (λ o. o.desk.joiner.rng
             ≡ record (of_seed setup.key) { stream = DRAWS }) }
         ensures nobody { IfOk result (λ o. (o.desk.conversation ≡ None)
@@ -165,7 +165,7 @@ impl<I: Inbound + Drop, M: Link + Drop, R: Log + Clock + Drop, O: Doors + Chores
         let mut draws = ChaCha20Rng::from_seed(key);
         draws.set_stream(DRAWS);
         let rules = settings.rules_of();
-        let joiner = Joiner::new(me, rules, joins.peers, joins.paces, draws);
+        let joiner = Joiner::new(me, rules, joins.peers, joins.intervals, draws);
         let desk = Desk::new(alloc, rt, identity, joiner, doors)?;
         let first_end = settings.period.saturating_mul(FIRST_ERA_PERIODS);
         Ok(Outside {
@@ -176,7 +176,7 @@ impl<I: Inbound + Drop, M: Link + Drop, R: Log + Clock + Drop, O: Doors + Chores
             logs: new_logs(me, rules, number),
             eras: EraCounts::new(),
             owed: 0,
-            beat: TickTimer::new(tick, first_end),
+            timer: TickTimer::new(tick, first_end),
             expelled_ends,
         })
     }

@@ -16,7 +16,7 @@ use Rattle.swim_node.specs.declared.entry.Reply.{Reply}
 use Rattle.swim_shell.specs.declared.caller.Refusal.{Refusal}
 use Rattle.swim_shell.specs.Calls.{CallerView, events_of, NewCall, Refuses}
 use Rattle.swim_shell.specs.Joins.{JoinerView, IsNext, IsPeer, IsEligibleIn, IsDrawnFrom, IsAsked, AreAsked, Asks, AsksInVain, pages_of, AreWhole, AreFull, AreConsecutive, AreAllPages, AreLooks, Looks, LooksAll, LooksInVain, ReadsPage, place_after}
-use Rattle.swim_shell.specs.declared.paces.Moment.{Moment}
+use Rattle.swim_shell.specs.declared.intervals.Moment.{Moment}
 use Rattle.swim_shell.specs.Turns.{JoinsIf, JoinsPeer, LooksRound, TellsDue, after_look, joined_drawn, joined_drawn_by}
 use Rattle.swim_shell.proofs.News.{assoc, events_of-append, no_gain, more_gains}
 

@@ -22,9 +22,9 @@ use Rattle.swim_shell.specs.declared.caller.Refusal.{Refusal}
 use Rattle.std.specs.Duration.{as_nanos, max_nanos}
 use Rattle.rand_chacha.specs.ChaCha.{ChaCha, next_word}
 use Rattle.std.specs.declared.time.Instant.{Instant}
-use Rattle.swim_shell.specs.declared.paces.Paces.{Paces}
-use Rattle.swim_shell.specs.declared.paces.TheConstants.{ALONE_PERIODS, EARLY_JOINS, QUICK_JOINS}
-use Rattle.swim_shell.specs.declared.paces.TheConstants.{INTRODUCTIONS_AN_ANSWER}
+use Rattle.swim_shell.specs.declared.intervals.Intervals.{Intervals}
+use Rattle.swim_shell.specs.declared.intervals.TheConstants.{ALONE_PERIODS, EARLY_JOINS}
+use Rattle.swim_shell.specs.declared.intervals.TheConstants.{INTRODUCTIONS_AN_ANSWER, QUICK_JOINS}
 use Rattle.swim_shell.specs.declared.introductions.Introductions.{Introductions}
 use Rattle.swim_shell.specs.declared.silence.Silence.{Silence}
 use Rattle.swim_shell.specs.Moments.{NewsView, has_passed}
@@ -56,15 +56,15 @@ begun_again p = record p { next = 0; were_all = length p.list == 0 }
 abbrev pub IsNext : PeersView → ℕ → Type 0
 IsNext p x = slice_get p.list p.next ≡ Some x
 
--- what a contract sees of a joiner: whose it is, by which rules that one lives, and its paces; its
--- peers, and what draws others; how many peers were joined, how many of them since somebody was
+-- what a contract sees of a joiner: whose it is, by which rules that one lives, and its intervals;
+-- its peers, and what draws others; how many peers were joined, how many of them since somebody was
 -- known last, and when the last join was; the rows of a look that was cut off, and the drawn member
 -- whose join is still due; of which peer it said that it is not known; its introductions; how often
 -- the list was asked in vain; and its news
 pub record JoinerView : Type 0 where
   pub me : ℕ
   pub rules : Rules
-  pub paces : Paces
+  pub intervals : Intervals
   pub peers : PeersView
   pub rng : ChaCha
   pub joins : ℕ
@@ -77,9 +77,9 @@ pub record JoinerView : Type 0 where
   pub silence : Silence
   pub news : NewsView
 
--- these peers are joined from now on, by these paces: the list begins anew, of which nobody was
+-- these peers are joined from now on, by these intervals: the list begins anew, of which nobody was
 -- asked in vain yet, no join of a drawn member is due, and all else is the same
-pub record IsRelisted (peers : List ℕ) (paces : Paces) (j k : JoinerView) : Type 0 where
+pub record IsRelisted (peers : List ℕ) (intervals : Intervals) (j k : JoinerView) : Type 0 where
   pub list : k.peers.list ≡ peers
   pub first : k.peers.next ≡ 0
   pub all : (k.peers.were_all ≡ true) ↔ (peers ≡ [])
@@ -87,7 +87,7 @@ pub record IsRelisted (peers : List ℕ) (paces : Paces) (j k : JoinerView) : Ty
   pub gone : k.peers.gone ≡ j.peers.gone
   pub rest : k ≡ record j {
     peers = k.peers;
-    paces = paces;
+    intervals = intervals;
     drawn = None;
     silence = asked_anew j.silence;
   }
@@ -99,18 +99,18 @@ quick_rest joins =
 
 -- how long after so many joins the next peer is joined, if it is, by whether all were and whether
 -- the member is alone
-abbrev pub rest_after : Paces → ℕ → Bool → Bool → Option ℕ
-rest_after paces joins false true = Some (as_nanos paces.answer)
-rest_after paces joins false false = Some (as_nanos paces.period)
-rest_after paces joins true true =
-    if nat_le joins QUICK_JOINS then Some (min (quick_rest joins) (as_nanos paces.period)) else
-    (if nat_lt joins EARLY_JOINS then Some (as_nanos paces.period) else
-    Some (min (as_nanos paces.period * ALONE_PERIODS) max_nanos))
-rest_after paces joins true false = None
+abbrev pub rest_after : Intervals → ℕ → Bool → Bool → Option ℕ
+rest_after intervals joins false true = Some (as_nanos intervals.answer)
+rest_after intervals joins false false = Some (as_nanos intervals.period)
+rest_after intervals joins true true =
+    if nat_le joins QUICK_JOINS then Some (min (quick_rest joins) (as_nanos intervals.period)) else
+    (if nat_lt joins EARLY_JOINS then Some (as_nanos intervals.period) else
+    Some (min (as_nanos intervals.period * ALONE_PERIODS) max_nanos))
+rest_after intervals joins true false = None
 
 -- how long after its last join a member introduces itself to the next
-abbrev pub introduction_rest : Paces → ℕ
-introduction_rest paces = as_nanos paces.answer / INTRODUCTIONS_AN_ANSWER
+abbrev pub introduction_rest : Intervals → ℕ
+introduction_rest intervals = as_nanos intervals.answer / INTRODUCTIONS_AN_ANSWER
 
 -- the next word of a generator, and the generator after it
 unfoldable pub next_draw : ChaCha → ℕ × ChaCha
@@ -173,9 +173,9 @@ watched rows now p = record p {
 -- a peer that no row shows may be asked: by rules 2 at any time, and by rules 1 once those that
 -- were the last to confirm one have forgotten it too, since who still holds this member for failed
 -- expels it
-abbrev pub may_ask : Rules → Paces → PeersView → Option Instant → Bool
-may_ask One paces p now = has_passed now p.gone (as_nanos paces.forget)
-may_ask Two paces p now = true
+abbrev pub may_ask : Rules → Intervals → PeersView → Option Instant → Bool
+may_ask One intervals p now = has_passed now p.gone (as_nanos intervals.forget)
+may_ask Two intervals p now = true
 
 -- who is joined where a member is to be drawn: the peer of the list that comes next, if no row
 -- shows it and it may be asked, or if a row shows it at the list's turn; and else the member that a

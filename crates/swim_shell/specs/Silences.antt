@@ -3,7 +3,7 @@ use Rattle.std.specs.Prelude.{ℕ, ◌+◌, ◌-◌, ◌*◌, ◌^◌, min, nat_
 use Rattle.std.specs.Prelude.{List, length, Option, Some, None}
 use Rattle.std.specs.declared.time.Instant.{Instant}
 use Rattle.swim_shell.specs.declared.silence.Silence.{Silence}
-use Rattle.swim_shell.specs.declared.paces.TheConstants.{QUICK_JOINS}
+use Rattle.swim_shell.specs.declared.intervals.TheConstants.{QUICK_JOINS}
 use Rattle.swim_shell.specs.declared.silence.TheConstants.{ROUNDS, SAID_SECONDS}
 use Rattle.swim_shell.specs.Moments.{has_passed}
 

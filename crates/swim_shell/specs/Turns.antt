@@ -17,8 +17,8 @@ use Rattle.swim_node.specs.declared.entry.Status.{Status}
 use Rattle.swim_shell.specs.declared.caller.Refusal.{Refusal}
 use Rattle.swim_shell.specs.declared.joiner.Due.{Due}
 use Rattle.swim_shell.specs.declared.joiner.Due.TheVariants.{Listed, Drawn, Look, Nothing}
-use Rattle.swim_shell.specs.declared.paces.Moment.{Moment}
-use Rattle.swim_shell.specs.declared.paces.TheConstants.{EARLY_JOINS}
+use Rattle.swim_shell.specs.declared.intervals.Moment.{Moment}
+use Rattle.swim_shell.specs.declared.intervals.TheConstants.{EARLY_JOINS}
 use Rattle.swim_shell.specs.Calls.{CallerView, NewCall, Refuses}
 use Rattle.swim_shell.specs.Moments.{NewsView, TellsNews, has_passed}
 use Rattle.swim_shell.specs.Joins.{JoinerView, stepped, begun_again, watched, may_ask}
@@ -49,7 +49,7 @@ due_after (Some rest) j now =
 
 -- the peer of the list that is due, if one is
 abbrev pub due_peer : JoinerView → Moment → Option ℕ
-due_peer j at = due_after (rest_after j.paces j.joins j.peers.were_all at.is_alone) j at.now
+due_peer j at = due_after (rest_after j.intervals j.joins j.peers.were_all at.is_alone) j at.now
 
 -- introductions are left, and somebody is known to whom they can be made
 abbrev pub is_introducing : JoinerView → Moment → Bool
@@ -59,8 +59,8 @@ is_introducing j at = if at.is_alone then false else nat_lt 0 j.introductions.le
 -- now and then
 abbrev pub draw_rest : JoinerView → Moment → Option ℕ
 draw_rest j at =
-    if is_introducing j at then Some (introduction_rest j.paces)
-    else option_map as_nanos j.paces.rejoin
+    if is_introducing j at then Some (introduction_rest j.intervals)
+    else option_map as_nanos j.intervals.rejoin
 
 -- one of the first joins was not answered yet, and introductions are left to be made then
 abbrev pub awaits_answer : JoinerView → Bool
@@ -72,7 +72,7 @@ awaits_answer j =
 -- member makes them, and as long while it waits for the answer after which it begins to
 abbrev pub idle_rest : JoinerView → ℕ
 idle_rest j =
-    if go_on j.introductions || awaits_answer j then introduction_rest j.paces else max_nanos
+    if go_on j.introductions || awaits_answer j then introduction_rest j.intervals else max_nanos
 
 -- it is so long since the last join or the first turn
 abbrev pub is_draw_due : Option ℕ → Option Instant → Option Instant → Bool
@@ -83,7 +83,7 @@ is_draw_due (Some time) (Some since) now = has_passed now (Some since) time
 -- the rows are to be compared: a period has passed, and the log shows it
 abbrev pub are_news_due : JoinerView → Moment → Bool
 are_news_due j at =
-    if at.is_shown then has_passed at.now j.news.compared (as_nanos j.paces.period) else false
+    if at.is_shown then has_passed at.now j.news.compared (as_nanos j.intervals.period) else false
 
 -- ---- draws
 
@@ -100,7 +100,7 @@ drawing j = next_draw (list_turn j.rules j.rng).1
 abbrev pub drawn_for : JoinerView → List Update → Option Instant → Option ℕ
 drawn_for j rows now =
     due_by j.me rows (slice_get j.peers.list j.peers.next) (drawing j).0
-    (list_turn j.rules j.rng).0 (may_ask j.rules j.paces j.peers now)
+    (list_turn j.rules j.rng).0 (may_ask j.rules j.intervals j.peers now)
 
 -- of whom it was said that it is not known, once it is said of this one, unless it was of another
 abbrev pub told_missing : List ℕ → ℕ → List ℕ
@@ -113,7 +113,7 @@ with_turn j rows now None = j
 with_turn j rows now (Some peer) = record j {
   peers = stepped j.peers;
   missing = if has_row rows peer then j.missing
-      else (if may_ask j.rules j.paces j.peers now then told_missing j.missing peer
+      else (if may_ask j.rules j.intervals j.peers now then told_missing j.missing peer
       else j.missing);
 }
 
@@ -183,7 +183,7 @@ joined_listed now j = record j {
 -- asked in vain then; a lone member introduces itself anew once somebody is known
 abbrev pub with_answer : Moment → JoinerView → JoinerView
 with_answer at j =
-    if at.is_alone then record j { introductions = introductions_of j.paces.introduce }
+    if at.is_alone then record j { introductions = introductions_of j.intervals.introduce }
     else record j {
       unanswered = 0;
       silence = heard_nobody;

@@ -14,10 +14,10 @@ ghost use Rattle.swim_shell.specs.declared.joiner.Due.TheVariants.{Listed, Drawn
 
 use crate::caller::{Caller, Observer, Refusal};
 use crate::draw::{draw, next_draw};
+use crate::intervals::{EARLY_JOINS, Intervals, Moment, has_passed};
 use crate::introductions::Introductions;
 use crate::look::look;
 use crate::news_log::{News, are_shown};
-use crate::paces::{EARLY_JOINS, Moment, Paces, has_passed};
 use crate::peers::{LIST_MAX, Peers, has_row};
 use crate::silence::Silence;
 use arrayvec::ArrayVec;
@@ -54,7 +54,7 @@ pub struct Joiner {
     me: Endpoint,
     rules: Rules,
     peers: Peers,
-    paces: Paces,
+    intervals: Intervals,
     /// What draws the members.
     rng: ChaCha20Rng,
     /// How many peers of the list were joined.
@@ -86,7 +86,7 @@ impl Model for Joiner {
     ghost view = { λ j. record {
       me = j.me;
       rules = j.rules;
-      paces = j.paces;
+      intervals = j.intervals;
       peers = j.peers;
       rng = j.rng;
       joins = j.joins;
@@ -142,15 +142,15 @@ impl Joiner {
         me: Endpoint,
         rules: Rules,
         peers: ArrayVec<Endpoint, LIST_MAX>,
-        paces: Paces,
+        intervals: Intervals,
         rng: ChaCha20Rng,
     ) -> Joiner
         ensures me { result.me ≡ me }
-        ensures by { (result.rules ≡ rules) × (result.paces ≡ paces) × (result.rng ≡ rng) }
+        ensures by { (result.rules ≡ rules) × (result.intervals ≡ intervals) × (result.rng ≡ rng) }
         ensures first { (result.joins ≡ 0) × (result.joined ≡ None) × (result.missing ≡ [])
             × (result.unanswered ≡ 0) × (result.silence ≡ heard_nobody) }
         ensures nothing { (result.looked ≡ []) × (result.drawn ≡ None) }
-        ensures introductions { result.introductions ≡ introductions_of paces.introduce }
+        ensures introductions { result.introductions ≡ introductions_of intervals.introduce }
         ensures shown { (result.peers.shown ≡ []) × (result.peers.gone ≡ None) }
         ensures news { (result.news.rows ≡ []) × (result.news.compared ≡ None) }
         ensures list { (result.peers.list ≡ peers.items) × (result.peers.next ≡ 0) }
@@ -160,7 +160,7 @@ impl Joiner {
             me,
             rules,
             peers: Peers::new(peers),
-            paces,
+            intervals,
             rng,
             joins: 0,
             unanswered: 0,
@@ -170,7 +170,7 @@ impl Joiner {
             news: News::new(),
             has_told: false,
             missing: Trace::new(),
-            introductions: Introductions::new(paces.introduce),
+            introductions: Introductions::new(intervals.introduce),
             silence: Silence::new(),
         }
     }
@@ -202,17 +202,17 @@ impl Joiner {
         ensures { as_nanos result ≡ idle_rest self.now }
     {
         if self.introductions.go_on() || self.awaits_answer() {
-            return self.paces.until_introduction();
+            return self.intervals.until_introduction();
         }
         Duration::MAX
     }
 
-    /// Joins these peers from now on, by these paces. The list begins anew, and all else goes on.
-    pub fn relist(&mut self, peers: ArrayVec<Endpoint, LIST_MAX>, paces: Paces)
-        ensures { IsRelisted peers.items paces self.old self.new }
+    /// Joins these peers from now on, by these intervals. The list begins anew, and all else goes on.
+    pub fn relist(&mut self, peers: ArrayVec<Endpoint, LIST_MAX>, intervals: Intervals)
+        ensures { IsRelisted peers.items intervals self.old self.new }
     {
         self.peers.relist(peers);
-        self.paces = paces;
+        self.intervals = intervals;
         self.drawn = None;
         self.silence.begin_again();
     }
@@ -228,7 +228,7 @@ impl Joiner {
             × (self.new.drawn ≡ self.old.drawn) }
     {
         if at.is_alone {
-            self.introductions = Introductions::new(self.paces.introduce);
+            self.introductions = Introductions::new(self.intervals.introduce);
             return;
         }
         if self.unanswered > 1 {
@@ -244,7 +244,9 @@ impl Joiner {
         ensures next { IfSome result (IsNext self.now.peers) }
     {
         let were_all = self.peers.were_all();
-        let rest = self.paces.until_next(self.joins, were_all, at.is_alone)?;
+        let rest = self
+            .intervals
+            .until_next(self.joins, were_all, at.is_alone)?;
         if has_passed(at.now, self.joined, rest) {
             return self.peers.next();
         }
@@ -272,9 +274,9 @@ impl Joiner {
         ensures { option_map as_nanos result ≡ draw_rest self.now at }
     {
         if self.is_introducing(at) {
-            return Some(self.paces.until_introduction());
+            return Some(self.intervals.until_introduction());
         }
-        self.paces.rejoin
+        self.intervals.rejoin
     }
 
     /// Whether a drawn member is to be joined.
@@ -291,7 +293,7 @@ impl Joiner {
     fn are_news_due(&self, at: Moment) -> bool
         ensures { result ≡ are_news_due self.now at }
     {
-        self.news.is_due(at.now, at.is_shown, self.paces.period)
+        self.news.is_due(at.now, at.is_shown, self.intervals.period)
     }
 
     /// Says once that a listed member is not known.
@@ -309,10 +311,10 @@ impl Joiner {
     /// Whether a peer that no row shows may be asked: by rules 1 only once all have forgotten it, since who holds this member for
     /// failed yet would expel it.
     fn may_ask(&self, now: Option<Instant>) -> bool
-        ensures { result ≡ may_ask self.now.rules self.now.paces self.now.peers now }
+        ensures { result ≡ may_ask self.now.rules self.now.intervals self.now.peers now }
     {
         match self.rules {
-            Rules::One => has_passed(now, self.peers.gone(), self.paces.forget),
+            Rules::One => has_passed(now, self.peers.gone(), self.intervals.forget),
             Rules::Two => true,
         }
     }

@@ -4,7 +4,7 @@ ghost use Rattle.std.specs.Prelude.{◌≡◌, ◌++◌, [], None, false, if◌t
 ghost use Rattle.std.specs.Duration.{as_nanos};
 ghost use Rattle.swim_shell.specs.Moments.{has_passed, TellsNews};
 
-use crate::paces::has_passed;
+use crate::intervals::has_passed;
 use log::{Level, Log, info, log_enabled};
 use std::marker::Model;
 use std::time::{Duration, Instant};

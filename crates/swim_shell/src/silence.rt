@@ -3,7 +3,7 @@
 ghost use Rattle.std.specs.Prelude.{◌≡◌, ◌≤◌, length};
 ghost use Rattle.swim_shell.specs.Silences.{asked_anew, heard_nobody, is_due, with_ask};
 
-use crate::paces::{QUICK_JOINS, has_passed};
+use crate::intervals::{QUICK_JOINS, has_passed};
 use crate::peers::LIST_MAX;
 use log::{Log, warn};
 use std::fmt::{self, Display, Formatter};

@@ -14,7 +14,7 @@ use rand_chacha::ChaCha20Rng;
 use swim_member::{Event, Settings};
 use swim_node::{Entry, Reply, Save, Status, Tag};
 use swim_shell::{
-    COUNTERS, Caller, Counters, Joiner, LIST_MAX, Observer, Paces, QuietClock, Refusal, Who,
+    COUNTERS, Caller, Counters, Intervals, Joiner, LIST_MAX, Observer, QuietClock, Refusal, Who,
 };
 use swim_trace::Trace;
 use swim_wire::{Endpoint, Rules, UPDATES_MAX, Update};
@@ -161,7 +161,7 @@ pub(crate) fn joiner_of(
 ) -> Option<Joiner> {
     settings.check().ok()?;
     let introduce = plan.get(PlanKey::Introduce) as u32;
-    let paces = Paces::of(
+    let intervals = Intervals::of(
         settings,
         introduce,
         plan.get(PlanKey::Rejoin),
@@ -171,7 +171,7 @@ pub(crate) fn joiner_of(
         settings.me,
         settings.rules_of(),
         listed_by(plan, who),
-        paces,
+        intervals,
         rng,
     ))
 }

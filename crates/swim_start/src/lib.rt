@@ -1,4 +1,4 @@
-//! What a running member starts with: a state file that is its own, its generators, whom it joins, and its paces.
+//! What a running member starts with: a state file that is its own, its generators, whom it joins, and its intervals.
 #![tactic(auto)]
 
 mod drawing;

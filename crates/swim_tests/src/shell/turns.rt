@@ -20,7 +20,7 @@ use std::test::Fail;
 use std::time::{Clock, Duration};
 use swim_member::Event;
 use swim_scenes::endpoint;
-use swim_shell::{Joiner, LIST_MAX, Paces, Receiver, Refusal, run};
+use swim_shell::{Intervals, Joiner, LIST_MAX, Receiver, Refusal, run};
 use swim_wire::{Endpoint, Rules};
 
 /// A clock that a test sets, beside a log in memory.
@@ -125,7 +125,7 @@ fn turn<const LIMIT: u32>(
 /// The joiner of 10.0.0.1:7000 with this list, which introduces itself to so many. The answer time is 300 ms and the period 1 s, and a
 /// member is drawn each 10 s.
 fn joiner_of(peers: ArrayVec<Endpoint, LIST_MAX>, introduce: u32) -> Result<Joiner, Fail> {
-    let paces = Paces {
+    let intervals = Intervals {
         answer: Duration::from_millis(300),
         period: Duration::from_secs(1),
         rejoin: Some(Duration::from_secs(10)),
@@ -134,7 +134,7 @@ fn joiner_of(peers: ArrayVec<Endpoint, LIST_MAX>, introduce: u32) -> Result<Join
     };
     let me = endpoint(1).ok_or("an endpoint")?;
     let rng = ChaCha20Rng::from_seed(KEY);
-    Ok(Joiner::new(me, Rules::One, peers, paces, rng))
+    Ok(Joiner::new(me, Rules::One, peers, intervals, rng))
 }
 
 /// What is due is done in each turn, and nothing else. A clock that is not read holds nothing for passed.

@@ -11,7 +11,7 @@ use std::test::Fail;
 use std::time::Duration;
 use swim_member::Event;
 use swim_scenes::endpoint;
-use swim_shell::{Joiner, Paces, Receiver, Refusal, Ticker, WorkerEnd, run};
+use swim_shell::{Intervals, Joiner, Receiver, Refusal, Ticker, WorkerEnd, run};
 use swim_wire::Rules;
 
 pub(super) const KEY: [u8; 32] = [
@@ -110,14 +110,14 @@ fn joins_listed_and_drawn(rt: HostRuntime) -> Result<(), Fail> {
         for last in list {
             let _ = peers.try_push(endpoint(last).expect(&rt, "an endpoint"));
         }
-        let paces = Paces {
+        let intervals = Intervals {
             answer: Duration::from_millis(300),
             period: Duration::from_secs(1),
             rejoin,
             introduce: 0,
             forget: Duration::from_secs(600),
         };
-        let mut joiner = Joiner::new(me, rules, peers, paces, ChaCha20Rng::from_seed(KEY));
+        let mut joiner = Joiner::new(me, rules, peers, intervals, ChaCha20Rng::from_seed(KEY));
         same(&rt, joiner.turn(&rt, &mut caller), Ok(()));
         let mut receiver = Receiver::new(Listed::new(&[Given::Ping(1)]));
         run(&rt, &mut receiver, &mut caller, &mut Goes { left: 1 });
@@ -143,7 +143,7 @@ fn joins_listed_and_drawn(rt: HostRuntime) -> Result<(), Fail> {
 /// again by a lone member alone: quickly at first, then each period, and later each third.
 #[test]
 fn waits_between_joins(rt: HostRuntime) -> Result<(), Fail> {
-    let paces = Paces {
+    let intervals = Intervals {
         answer: Duration::from_millis(300),
         period: Duration::from_secs(1),
         rejoin: None,
@@ -161,7 +161,7 @@ fn waits_between_joins(rt: HostRuntime) -> Result<(), Fail> {
         (10, true, true, Some(3_000)),
         (1, true, false, None),
     ] {
-        let rest = paces.until_next(joins, were_all, is_alone);
+        let rest = intervals.until_next(joins, were_all, is_alone);
         same(&rt, rest, millis.map(Duration::from_millis));
     }
     Ok(())

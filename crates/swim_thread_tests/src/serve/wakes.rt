@@ -7,7 +7,7 @@ use std::test::Fail;
 use std::thread::Threads;
 use std::time::{Clock, Duration, Instant};
 use swim_handle::{Crew, Pace};
-use swim_serve::{Job, Pacing, Resting, Ringing, Shutdown, TickTimer, serve};
+use swim_serve::{Job, Notifying, Pacing, Resting, Shutdown, TickTimer, serve};
 
 /// How often each test tries.
 const ROUNDS: u32 = 20;
@@ -18,7 +18,7 @@ const END_MILLIS: u64 = 50;
 /// A tick that no test lives to see, in seconds.
 const TICK_SECS: u64 = 5;
 
-/// When control ended beside three workers that wait: for a datagram, a tick, and the bell.
+/// When control ended beside three workers that wait: for a datagram, a tick, and something to send.
 fn ended_by_control<'x, T: Threads + Wait + Clock + Sync>(
     rt: &'x T,
     pace: &'x Pace,
@@ -26,19 +26,19 @@ fn ended_by_control<'x, T: Threads + Wait + Clock + Sync>(
     socket: &'x Socket,
     pause: Duration,
 ) -> Option<Instant> {
-    let mut beat = TickTimer::new(Duration::from_secs(TICK_SECS), u64::MAX);
+    let mut timer = TickTimer::new(Duration::from_secs(TICK_SECS), u64::MAX);
     let receiver = Job {
         rt,
         worker: Waiting { rt, socket },
         caller: Nobody::new(),
-        gate: Ringing::new(pace),
+        gate: Notifying::new(pace),
         ending,
     };
     let ticker = Job {
         rt,
         worker: Idle,
         caller: Nobody::new(),
-        gate: Pacing::new(rt, pace, &mut beat),
+        gate: Pacing::new(rt, pace, &mut timer),
         ending,
     };
     let sender = Job {
@@ -52,7 +52,7 @@ fn ended_by_control<'x, T: Threads + Wait + Clock + Sync>(
         rt,
         worker: ends_third(rt, pause),
         caller: Nobody::new(),
-        gate: Ringing::new(pace),
+        gate: Notifying::new(pace),
         ending,
     };
     let crew = Crew {

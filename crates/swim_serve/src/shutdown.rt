@@ -5,9 +5,9 @@ use swim_shell::Alarm;
 
 /// Ends all workers of an era, wherever they wait.
 ///
-/// No wake is lost. First the end is set, and then all that workers wait for is rung: the sender's bell, the ticker's rest,
-/// and the alarms of those that wait at sockets. Each of them keeps a ring that comes while nobody waits, and the next wait
-/// ends at once. So a worker whose gate saw no end waits until its ring at most, and its gate, asked again, sees the end.
+/// No wake is lost. First the end is set, and then all who wait are woken: the sender by a notification, the ticker from its
+/// rest, and those that wait at sockets by their alarms. Each of these keeps a wake that comes while nobody waits, and the next
+/// wait ends at once. So a worker whose gate saw no end waits until its wake at most, and its gate, asked again, sees the end.
 #[derive(Drop)]
 pub struct Shutdown<'a, A: Alarm> {
     pace: &'a Pace,

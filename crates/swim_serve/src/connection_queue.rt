@@ -2,7 +2,7 @@
 
 ghost use Rattle.std.specs.Prelude.{◌≡◌, ◌<◌, ◌≤◌, [], ◌∷◌, ◌++◌, length, IfNone, IfOk, IfSome};
 ghost use Rattle.std.specs.VecDeque.{deque_len, deque_capacity};
-ghost use Rattle.swim_serve.specs.declared.aside.TheConstants.{OPEN_MAX};
+ghost use Rattle.swim_serve.specs.declared.connection_queue.TheConstants.{OPEN_MAX};
 
 use std::alloc::{AllocError, Global};
 use std::collections::VecDeque;
@@ -23,7 +23,7 @@ impl<S: Drop> Model for ConnectionQueue<S> {
 
     ghost Value = { List S };
 
-    ghost view = { λ aside. aside.waiting.items };
+    ghost view = { λ queue. queue.waiting.items };
 }
 
 impl<S: Drop> ConnectionQueue<S> {

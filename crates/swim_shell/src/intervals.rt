@@ -26,7 +26,7 @@ const INTRODUCTIONS_AN_ANSWER: u32 = 16;
 
 /// How often a joiner does what.
 #[derive(Clone, Copy, Debug, PartialEq, Eq)]
-pub struct Paces {
+pub struct Intervals {
     /// How long a datagram takes there and back, at most.
     pub answer: Duration,
     /// The protocol period, the least from one comparison of rows to the next.
@@ -60,10 +60,10 @@ fn quick_rest(joins: u32) -> Duration
     })
 }
 
-impl Paces {
+impl Intervals {
     /// Those of a member with these settings, which introduces itself to so many others and joins a drawn one after each `rejoin` ticks,
     /// or never if it is 0. A tick lasts so many milliseconds. An answer is there before others are asked to probe.
-    pub fn of(settings: &Settings, introduce: u32, rejoin: u64, tick_ms: u64) -> Paces
+    pub fn of(settings: &Settings, introduce: u32, rejoin: u64, tick_ms: u64) -> Intervals
         requires sound { AreSound settings.now }
         requires rejoin { rejoin ≤ 1000000 }
         requires tick { tick_ms ≤ 60000 }
@@ -74,7 +74,7 @@ impl Paces {
             ≡ (if rejoin == 0 then None else Some (lasting rejoin tick_ms)) }
         ensures forget { as_nanos result.forget ≡ lasting settings.now.forget tick_ms }
     {
-        Paces {
+        Intervals {
             answer: lasting(settings.direct, tick_ms),
             period: lasting(settings.period, tick_ms),
             rejoin: if rejoin == 0 {
