@@ -40,8 +40,7 @@ pub fn hear<D: Disk, L: Link>(
     ensures refused { IfErr result (λ fault. Refused node.old.base node.old.entries tag fault) }
 {
     let reply = node.apply(link, tag, event)?;
-    // what a life that ends now was
-    let _ = node.disk();
+    node.life_may_end();
     Ok(reply)
 }
 
@@ -55,8 +54,7 @@ pub fn end_era<D: Disk>(node: &mut Node<D>) -> Era
         → IsMoveOf D.state node.old node.new (λ sent. Unit {0}) (λ which. Rebases which) }
 {
     let era = node.end_era();
-    // what a life that ends now was
-    let _ = node.disk();
+    node.life_may_end();
     era
 }
 
@@ -68,8 +66,7 @@ pub fn rebase<D: Disk>(node: &mut Node<D>)
         → IsMoveOf D.state node.old node.new (λ sent. Unit {0}) (λ which. Rebases which) }
 {
     node.rebase();
-    // what a life that ends now was
-    let _ = node.disk();
+    node.life_may_end();
 }
 
 /// Saves the peers of a node, as `Node::keep_peers` does. That is the next move of each group in which the node lives,
@@ -81,8 +78,7 @@ pub fn keep_peers<D: Disk>(node: &mut Node<D>) -> Result<(), SaveFault>
     ensures raised { OnOk result (node.old.base.granted < node.new.base.granted) }
 {
     let kept = node.keep_peers();
-    // what a life that ends now was
-    let _ = node.disk();
+    node.life_may_end();
     kept
 }
 
@@ -107,8 +103,7 @@ pub fn open_again<D: Disk>(
         → IfErr result (λ fault. IsUnopened limit (D.state disk).content fault.1) }
 {
     let node = Node::open(alloc, disk, settings, limit)?;
-    // what a life that ends now was
-    let _ = node.disk();
+    node.life_may_end();
     Ok(node)
 }
 

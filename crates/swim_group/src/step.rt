@@ -70,8 +70,7 @@ fn happen(
     ensures within { length kept.new.items ≤ room }
 {
     let ceiling = granted.max(members[member].number());
-    // a history may go on from the state as it is
-    let _ = members[member].base();
+    members[member].history_may_go_on();
     let answer = members[member].step(event, ceiling);
     keep(kept, room, &answer.outs);
 }

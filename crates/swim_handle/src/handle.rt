@@ -92,7 +92,7 @@ impl<'a, N: Name, D: Disk, L: Link, R: Wait + Drop, W: Wait + Log + Clock> Handl
     pub fn history_is_legal(&self)
         ensures { IsLegal N.base self.now.known.seen }
     {
-        let _ = self.pass.calls();
+        self.pass.list_is_legal();
     }
 }
 
@@ -110,7 +110,7 @@ impl<'a, N: Name, D: Disk, L: Link, R: Wait + Drop, W: Wait + Log + Clock> IntoP
         // beside what every caller does
         ensures log { result.log ≡ self.entry.log }
     {
-        let _ = self.pass.calls();
+        self.pass.list_is_legal();
         let Handle {
             rt: _,
             shared: _,

@@ -121,11 +121,9 @@ impl Running {
             Err(ApplyFault::NoMemory) => return Err(Refusal::NoMemory),
             Err(_) => unreachable!(),
         };
-        // that its journal is legal
-        let _ = self.node.journal();
+        self.node.journal_is_legal();
         end_era_of(&mut self.node, self.limit);
-        // that its life may end
-        let _ = self.node.disk();
+        self.node.life_may_end();
         Ok(reply)
     }
 
@@ -262,8 +260,7 @@ impl Running {
     {
         end_era_of(&mut self.node, 1);
         let kept = self.node.keep_peers();
-        // that its life may end
-        let _ = self.node.disk();
+        self.node.life_may_end();
         match kept {
             Ok(()) => Ok(()),
             Err(fault) => Err(Refusal::Keeping(fault)),

@@ -79,8 +79,7 @@ fn node_on(
     let disk = disk_of(alloc, fd)?;
     match Node::open(alloc, disk, settings, limit) {
         Ok(node) => {
-            // that its life may end
-            let _ = node.disk();
+            node.life_may_end();
             Ok(node)
         }
         Err((_, fault)) => Err(Refusal::Opening(fault)),
@@ -174,8 +173,7 @@ pub extern "C" fn swim_library_close(member: &mut SwimMember) -> u32
     match take(member) {
         None => code(Err(Refusal::Closed)),
         Some(running) => {
-            // that its life may end
-            let _ = running.node.disk();
+            running.node.life_may_end();
             code(Ok(()))
         }
     }

@@ -73,4 +73,11 @@ impl Deal {
     {
         &self.numbers
     }
+
+    /// That each number is dealt once. It does nothing: its contract is what counts.
+    pub(crate) fn numbers_are_dealt(&self)
+        ensures { IsDeal self.now }
+    {
+        self.numbers();
+    }
 }

@@ -130,8 +130,7 @@ impl Member {
         ensures deal { HasDeal event.now }
     {
         if let Event::Tick { deal } = event {
-            // the type's invariant holds
-            let _ = deal.numbers();
+            deal.numbers_are_dealt();
         }
         if self.phase != Phase::Running {
             return Member::judge_stopped(event);

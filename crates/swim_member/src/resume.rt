@@ -417,7 +417,7 @@ impl Member {
         // what holds of the parts
         begin_above_none(self.table.rows());
         let _ = self.buffer.len();
-        let _ = self.turn.listed();
+        self.turn.nobody_is_listed_twice();
     }
 
     /// All that the member has now. A member goes on from it.

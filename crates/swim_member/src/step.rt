@@ -145,8 +145,7 @@ impl Member {
     {
         if let Event::Tick { deal } = event {
             if self.phase == Phase::Running && self.time < LAST_TIME {
-                // the type's invariant holds
-                let _ = deal.numbers();
+                deal.numbers_are_dealt();
                 self.tick(deal, answer);
                 return;
             }

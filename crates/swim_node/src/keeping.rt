@@ -55,8 +55,6 @@ fn raise_by_one<D: Disk>(store: &mut Store<D>, peers: &Peers) -> Result<(), Save
         → LeavesAlone (IsBeside (target_in (D.state store.old.disk).content))
         (D.state store.old.disk) (D.state store.new.disk) }
 {
-    // what the file covers, said of the disk before
-    let _ = store.disk();
     let ceiling = store.ceiling();
     if ceiling == NUMBER_MAX {
         return Err(SaveFault::Exhausted);

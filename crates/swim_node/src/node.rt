@@ -108,6 +108,14 @@ impl<D: Disk> Node<D> {
         self.journal.entries()
     }
 
+    /// That the entries of this era are legal. It does nothing: its contract is what counts.
+    pub fn journal_is_legal(&self)
+        ensures legal { IsLegal self.now.base self.now.entries }
+        ensures short { length self.now.entries ≤ LIMIT_MAX }
+    {
+        self.journal();
+    }
+
     /// How many entries this era has.
     pub fn len(&self) -> usize
         ensures { result ≡ length self.now.entries }
@@ -176,9 +184,27 @@ impl<D: Disk> Node<D> {
             (owns self.now.base self.now.entries) }
         ensures begun { AreAtLeast self.now.first (owns self.now.base self.now.entries) }
         ensures first { self.now.first ≤ granted_of self.now.base self.now.entries }
-        ensures lived { D.keeps_model → MayEnd D.state self.now }
     {
         self.store.disk()
+    }
+
+    /// That the file covers each number that was granted, and so each that was sent. It does nothing: its contract is what
+    /// counts.
+    pub fn numbers_are_covered(&self)
+        ensures held { D.keeps_model
+            → Held self.now.owner (D.state self.now.disk)
+            (granted_of self.now.base self.now.entries) }
+        ensures owns { AreAtMost (granted_of self.now.base self.now.entries)
+            (owns self.now.base self.now.entries) }
+    {
+        self.disk();
+    }
+
+    /// That this life may end as it is now. It does nothing: its contract is what counts.
+    pub fn life_may_end(&self)
+        ensures { D.keeps_model → MayEnd D.state self.now }
+    {
+        self.store.disk();
     }
 
     /// The disk, by value, with all that `disk` says of it.

@@ -130,7 +130,6 @@ impl<D: Disk> Node<D> {
             Err((disk, fault)) => Err((disk, OpenFault::Refused(fault))),
             Ok(store) => {
                 let first = store.ceiling();
-                let _ = store.disk();
                 let member = Member::new(settings, first);
                 Ok(Node {
                     base: base_at(&member, first, None, limit),

@@ -49,8 +49,7 @@ pub fn run<D: Disk, L: Link>(
         → LeavesAlone IsEarlier (D.state node.old.disk) (D.state node.new.disk) }
     ensures living { GoesOn D.state node.old node.new }
 {
-    // what the file covers, said of the disk before
-    let _ = node.disk();
+    node.numbers_are_covered();
     for i in 0..calls.len() {
         let call = &calls[i];
         if let Err(fault) = node.apply(link, call.0, copy_event(&call.1)) {

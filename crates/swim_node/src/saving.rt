@@ -18,8 +18,6 @@ pub(crate) fn save<D: Disk>(store: &mut Store<D>, member: &Member, wanted: Optio
     ensures { Saved D.keeps_model D.state member.now.settings.block (known_peers member.now) wanted
         result store.old store.new }
 {
-    // what the file covers, said of the disk before
-    let _ = store.disk();
     let ceiling = store.ceiling();
     match wanted {
         None => Save::Kept,

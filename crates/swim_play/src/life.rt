@@ -235,8 +235,7 @@ impl OpenLife {
             eras,
             mut node,
         } = self;
-        // what the node says of its disk holds of the life that ends
-        let _ = node.disk();
+        node.life_may_end();
         let first = node.first();
         let last = node.end_era();
         let disk = node.into_disk();

@@ -105,8 +105,7 @@ impl<N: Name, D: Disk, L: Link, R: Wait + Drop> Locked<N, D, L, R> {
         ensures may { IfSome result (MayAdd (sight N.book self.old.journal)) }
         ensures kept { IsTrue self.old.has_pen → IsSome result }
     {
-        // the journal is short
-        let _ = self.node.journal();
+        self.node.journal_is_legal();
         match self.pen.take() {
             Some(pen) => Some(pen),
             None => self.front.claim(&self.head),
@@ -126,16 +125,14 @@ impl<N: Name, D: Disk, L: Link, R: Wait + Drop> Locked<N, D, L, R> {
         ensures pen { OnErr result (self.new.has_pen ≡ true) }
     {
         pass.front().compare(&self.front);
-        // the journal is short, and legal
-        let _ = self.node.journal();
+        self.node.journal_is_legal();
         let tag = Tag {
             caller: pass.caller(),
             turn: pass.calls() + 1,
         };
         match self.node.apply(&mut self.link, tag, event) {
             Ok(reply) => {
-                // what the disk holds now
-                let _ = self.node.disk();
+                self.node.numbers_are_covered();
                 let entry = self.node.last();
                 self.pen = None;
                 self.front.add(&self.head, pen, entry);
@@ -155,8 +152,7 @@ impl<N: Name, D: Disk, L: Link, R: Wait + Drop> Locked<N, D, L, R> {
         ensures shown { IsTrue result → self.new.shown ≡ self.new.journal }
         ensures pen { self.new.has_pen ≡ self.old.has_pen }
     {
-        // the journal is legal
-        let _ = self.node.journal();
+        self.node.journal_is_legal();
         let shown = Shown {
             status: self.node.status(),
             front: self.front.again(),
@@ -170,8 +166,7 @@ impl<N: Name, D: Disk, L: Link, R: Wait + Drop> Locked<N, D, L, R> {
         ensures book { result.now.book ≡ N.book }
         ensures legal { IsLegal N.base self.now.journal }
     {
-        // the journal is legal
-        let _ = self.node.journal();
+        self.node.journal_is_legal();
         &self.front
     }
 
@@ -256,8 +251,7 @@ impl<N: Name, D: Disk, L: Link, R: Wait + Drop> Locked<N, D, L, R> {
         ensures link { L.name result.1 ≡ N.link }
         ensures took { L.tells → L.took result.1 ≡ N.start ++ taken_of self.journal }
     {
-        // the journal is legal
-        let _ = self.node.journal();
+        self.node.journal_is_legal();
         let Locked {
             node,
             link,

@@ -71,8 +71,7 @@ impl<N: Name, D: Disk, L: Link, R: Wait + Drop> Shared<N, D, L, R> {
         match set_up::<N, D, R>(alloc, rt, &node, &opened.front, callers, watches) {
             Ok((publisher, passes, views)) => {
                 let Opened { head, front } = opened;
-                // what the disk holds as the era begins
-                let _ = node.disk();
+                node.numbers_are_covered();
                 let locked = Locked::new(node, link, head, front, publisher);
                 let lock = Mutex::new(locked);
                 Ok((Shared { lock }, passes, views))

@@ -9,5 +9,5 @@ returns-clause-ok g c =
       ok.1.reply_is,
       ok.1.entries,
       ok.1.texts,
-      λ keeps. entered-moves g.D.Disk.state c.args.node.now c.apply.new.self c.args.event ok.0 ok.1.event_is c.apply.ensures.base c.apply.ensures.first ok.1.entries c.apply.ensures.living (c.disk.ensures.lived keeps),
+      λ keeps. entered-moves g.D.Disk.state c.args.node.now c.apply.new.self c.args.event ok.0 ok.1.event_is c.apply.ensures.base c.apply.ensures.first ok.1.entries c.apply.ensures.living (c.life_may_end.ensures keeps),
     )

@@ -7,10 +7,10 @@ use Rattle.swim_group.proofs.node.open_again.Goals as goal
 
 pub returns-clause-moved : goal.returns-clause-moved
 returns-clause-moved g c keeps =
-    opened-moves g.D.Disk.state c.args.settings c.args.limit c.args.disk c.in_ok-node.node c.in_ok-node.ensures.base c.in_ok-node.ensures.entries (c.in_ok-node.ensures.living keeps) (c.disk.ensures.lived keeps)
+    opened-moves g.D.Disk.state c.args.settings c.args.limit c.args.disk c.in_ok-node.node c.in_ok-node.ensures.base c.in_ok-node.ensures.entries (c.in_ok-node.ensures.living keeps) (c.life_may_end.ensures keeps)
 
 pub returns-clause-lived : goal.returns-clause-lived
-returns-clause-lived g c keeps = (c.in_ok-node.ensures.living keeps, c.disk.ensures.lived keeps)
+returns-clause-lived g c keeps = (c.in_ok-node.ensures.living keeps, c.life_may_end.ensures keeps)
 
 pub returns-clause-limit : goal.returns-clause-limit
 returns-clause-limit g c = within-limit c.args.limit c.in_ok-node.ensures.limit.0 c.in_ok-node.ensures.limit.1

@@ -19,4 +19,4 @@ returns-clause-event c =
     let number : c.number.result ≡ c.index_mut.result.now.number = c.number.ensures ∙ ap (λ (s : State). s.number) first in
     let ceiling : c.max-ceiling.result ≡ max c.args.granted c.index_mut.result.now.number = omega arith in
     goes-on c.args.members.now.items c.args.kept.now.items c.keep.new.kept.items c.args.room c.args.member c.args.event.now c.args.granted c.max-ceiling.result c.index_mut.result.now c.step-answer.new.self c.step-answer.result
-    c.requires.there c.index_mut.ensures.value (subst (λ (s : State). state_of s [] ≡ s) second c.base.ensures.reads) ceiling c.step-answer.ensures.state c.step-answer.ensures.answer c.keep.ensures.kept
+    c.requires.there c.index_mut.ensures.value (subst (λ (s : State). state_of s [] ≡ s) second c.history_may_go_on.ensures) ceiling c.step-answer.ensures.state c.step-answer.ensures.answer c.keep.ensures.kept

@@ -6,5 +6,5 @@ pub returns-in-Some-clause-ends : goal.returns-in-Some-clause-ends
 returns-in-Some-clause-ends c = λ ok. (
   c.deref.result.now,
   c.in-Some.ensures.open ∙ ap (λ (r : Running). Some r) (sym c.deref.ensures),
-  c.disk.ensures.lived tt,
+  c.life_may_end.ensures tt,
 )

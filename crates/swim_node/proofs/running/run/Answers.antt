@@ -67,10 +67,10 @@ pub returns-clause-moments : goal.returns-clause-moments
 returns-clause-moments g c keeps = c.loop-i.invariant.moments keeps
 
 pub returns-in-Err-clause-since : goal.returns-in-Err-clause-since
-returns-in-Err-clause-since g c keeps = since_from _ _ _ (returns-in-Err-clause-moments g c keeps) (c.disk.ensures.held keeps)
+returns-in-Err-clause-since g c keeps = since_from _ _ _ (returns-in-Err-clause-moments g c keeps) (c.numbers_are_covered.ensures.held keeps)
 
 pub returns-clause-since : goal.returns-clause-since
-returns-clause-since g c keeps = since_from _ _ _ (c.loop-i.invariant.moments keeps) (c.disk.ensures.held keeps)
+returns-clause-since g c keeps = since_from _ _ _ (c.loop-i.invariant.moments keeps) (c.numbers_are_covered.ensures.held keeps)
 
 pub returns-in-Err-clause-earlier : goal.returns-in-Err-clause-earlier
 returns-in-Err-clause-earlier g c keeps = rw c.in-Err.ensures.err.0 (c.loop-i.invariant.earlier keeps)

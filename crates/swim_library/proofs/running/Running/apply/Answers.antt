@@ -20,7 +20,7 @@ returns-clause-added c =
       event_is = added.event_is;
       reply_is = added.reply_is;
       legal = subst (λ (b : Base). IsLegal b (old.entries ++ e ∷ [])) base_is
-          (subst (λ (h : List Entry). IsLegal mid.base h) entries_are c.journal.ensures.legal);
+          (subst (λ (h : List Entry). IsLegal mid.base h) entries_are c.journal_is_legal.ensures.legal);
       era = ⊎_elim
           (λ same. inl (same.0 ∙ base_is, same.1 ∙ entries_are))
           (λ next. inr (
@@ -41,6 +41,6 @@ returns-clause-added c =
           (c.in-Ok.ensures.living settings limit opened eras lives);
       held = record {
         moments = subst (λ (d : FileView). Through (Covers old.owner (granted_of old.base old.entries)) (file_state old.disk) (file_state d)) (sym c.end_era_of.ensures.disk) (c.in-Ok.ensures.moments tt);
-        ends = c.disk.ensures.lived tt;
+        ends = c.life_may_end.ensures tt;
       };
     }

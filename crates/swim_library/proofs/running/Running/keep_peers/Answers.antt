@@ -37,7 +37,7 @@ returns-in-Ok-clause-kept c =
       lives = λ settings limit opened eras lives.
           let before = c.end_era_of.ensures.lives settings limit opened eras lives in
           (before.0, c.in-Ok.ensures.living settings limit opened (eras ++ before.0) before.1);
-      held = holds c.args.self.now.node c.end_era_of.new.node c.keep_peers-kept.new.self (c.end_era_of.ensures.empty refl) c.end_era_of.ensures.owner c.end_era_of.ensures.disk c.end_era_of.ensures.granted (c.in-Ok.ensures.moments tt) (c.disk.ensures.lived tt);
+      held = holds c.args.self.now.node c.end_era_of.new.node c.keep_peers-kept.new.self (c.end_era_of.ensures.empty refl) c.end_era_of.ensures.owner c.end_era_of.ensures.disk c.end_era_of.ensures.granted (c.in-Ok.ensures.moments tt) (c.life_may_end.ensures tt);
     }
 
 pub returns-in-Ok-clause-goes_on : goal.returns-in-Ok-clause-goes_on
@@ -52,7 +52,7 @@ returns-in-Ok-clause-goes_on c = record {
   lives = λ settings limit opened eras lives.
       let before = c.end_era_of.ensures.lives settings limit opened eras lives in
       (before.0, c.in-Ok.ensures.living settings limit opened (eras ++ before.0) before.1);
-  held = holds c.args.self.now.node c.end_era_of.new.node c.keep_peers-kept.new.self (c.end_era_of.ensures.empty refl) c.end_era_of.ensures.owner c.end_era_of.ensures.disk c.end_era_of.ensures.granted (c.in-Ok.ensures.moments tt) (c.disk.ensures.lived tt);
+  held = holds c.args.self.now.node c.end_era_of.new.node c.keep_peers-kept.new.self (c.end_era_of.ensures.empty refl) c.end_era_of.ensures.owner c.end_era_of.ensures.disk c.end_era_of.ensures.granted (c.in-Ok.ensures.moments tt) (c.life_may_end.ensures tt);
 }
 
 pub returns-in-Err-clause-goes_on : goal.returns-in-Err-clause-goes_on
@@ -67,5 +67,5 @@ returns-in-Err-clause-goes_on c = record {
   lives = λ settings limit opened eras lives.
       let before = c.end_era_of.ensures.lives settings limit opened eras lives in
       (before.0, c.in-Err.ensures.living settings limit opened (eras ++ before.0) before.1);
-  held = holds c.args.self.now.node c.end_era_of.new.node c.keep_peers-kept.new.self (c.end_era_of.ensures.empty refl) c.end_era_of.ensures.owner c.end_era_of.ensures.disk c.end_era_of.ensures.granted (c.in-Err.ensures.moments tt) (c.disk.ensures.lived tt);
+  held = holds c.args.self.now.node c.end_era_of.new.node c.keep_peers-kept.new.self (c.end_era_of.ensures.empty refl) c.end_era_of.ensures.owner c.end_era_of.ensures.disk c.end_era_of.ensures.granted (c.in-Err.ensures.moments tt) (c.life_may_end.ensures tt);
 }
