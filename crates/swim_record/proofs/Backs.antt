@@ -29,37 +29,18 @@ back_times : List Argument → Option Line
 back_times (Number p ∷ Number d ∷ Number s ∷ Number f ∷ Number h ∷ Number b ∷ Number li ∷ []) = Some (line.Times (record { period = p; direct = d; suspect = s; forget = f; helpers = h; block = b; limit = li }))
 back_times _ = None
 
-back_rowalive : List Argument → Option Line
-back_rowalive (Who x ∷ Number n ∷ Number t ∷ []) = Some (line.Row Alive x n t)
-back_rowalive _ = None
+-- of a member with its number and a time, of one with a sequence number, and of a number
+timed : (ℕ → ℕ → ℕ → Line) → List Argument → Option Line
+timed says (Who x ∷ Number n ∷ Number t ∷ []) = Some (says x n t)
+timed says _ = None
 
-back_rowsuspect : List Argument → Option Line
-back_rowsuspect (Who x ∷ Number n ∷ Number t ∷ []) = Some (line.Row Suspect x n t)
-back_rowsuspect _ = None
+asked : (ℕ → ℕ → Line) → List Argument → Option Line
+asked says (Who x ∷ Number s ∷ []) = Some (says x s)
+asked says _ = None
 
-back_rowconfirm : List Argument → Option Line
-back_rowconfirm (Who x ∷ Number n ∷ Number t ∷ []) = Some (line.Row Confirm x n t)
-back_rowconfirm _ = None
-
-back_sayalive : List Argument → Option Line
-back_sayalive (Who x ∷ Number n ∷ Number t ∷ []) = Some (line.Say Alive x n t)
-back_sayalive _ = None
-
-back_saysuspect : List Argument → Option Line
-back_saysuspect (Who x ∷ Number n ∷ Number t ∷ []) = Some (line.Say Suspect x n t)
-back_saysuspect _ = None
-
-back_sayconfirm : List Argument → Option Line
-back_sayconfirm (Who x ∷ Number n ∷ Number t ∷ []) = Some (line.Say Confirm x n t)
-back_sayconfirm _ = None
-
-back_probe : List Argument → Option Line
-back_probe (Who x ∷ Number s ∷ []) = Some (line.Probe x s)
-back_probe _ = None
-
-back_answered : List Argument → Option Line
-back_answered (Who x ∷ Number s ∷ []) = Some (line.Answered x s)
-back_answered _ = None
+counted : (ℕ → Line) → List Argument → Option Line
+counted says (Number n ∷ []) = Some (says n)
+counted says _ = None
 
 back_relay : List Argument → Option Line
 back_relay (Who x ∷ Number s ∷ Who y ∷ Number r ∷ Number t ∷ []) = Some (line.Relay x s y r t)
@@ -74,35 +55,23 @@ back_listed : List Argument → Option Line
 back_listed (Who x ∷ []) = Some (line.Listed x)
 back_listed _ = None
 
-back_caller : List Argument → Option Line
-back_caller (Number n ∷ []) = Some (line.Caller n)
-back_caller _ = None
-
-back_granted : List Argument → Option Line
-back_granted (Number n ∷ []) = Some (line.Granted n)
-back_granted _ = None
-
-back_lost : List Argument → Option Line
-back_lost (Number n ∷ []) = Some (line.Lost n)
-back_lost _ = None
-
 back : Head → List Argument → Option Line
 back head.Member args = back_member args
 back head.Times args = back_times args
-back head.RowAlive args = back_rowalive args
-back head.RowSuspect args = back_rowsuspect args
-back head.RowConfirm args = back_rowconfirm args
-back head.SayAlive args = back_sayalive args
-back head.SaySuspect args = back_saysuspect args
-back head.SayConfirm args = back_sayconfirm args
-back head.Probe args = back_probe args
-back head.Answered args = back_answered args
+back head.RowAlive args = timed (λ x n t. line.Row Alive x n t) args
+back head.RowSuspect args = timed (λ x n t. line.Row Suspect x n t) args
+back head.RowConfirm args = timed (λ x n t. line.Row Confirm x n t) args
+back head.SayAlive args = timed (λ x n t. line.Say Alive x n t) args
+back head.SaySuspect args = timed (λ x n t. line.Say Suspect x n t) args
+back head.SayConfirm args = timed (λ x n t. line.Say Confirm x n t) args
+back head.Probe args = asked (λ x s. line.Probe x s) args
+back head.Answered args = asked (λ x s. line.Answered x s) args
 back head.Relay args = back_relay args
 back head.Joining args = back_joining args
 back head.Listed args = back_listed args
-back head.Caller args = back_caller args
-back head.Granted args = back_granted args
-back head.Lost args = back_lost args
+back head.Caller args = counted (λ n. line.Caller n) args
+back head.Granted args = counted (λ n. line.Granted n) args
+back head.Lost args = counted (λ n. line.Lost n) args
 back head.Running args = begun phase.Running args
 back head.Left args = begun phase.Left args
 back head.Expelled args = begun phase.Expelled args
@@ -117,7 +86,7 @@ back-begun phase.Expelled n t s pl g None = refl
 back-begun phase.Expelled n t s pl g (Some m) = refl
 
 back-line : (l : Line) → back (head_in l) (arguments_of l) ≡ Some l
-unfolding back back_member back_times back_rowalive back_rowsuspect back_rowconfirm back_sayalive back_saysuspect back_sayconfirm back_probe back_answered back_relay back_joining back_listed back_caller back_granted back_lost
+unfolding back back_member back_times timed asked counted back_relay back_joining back_listed
 back-line (line.Row Alive x n t) = refl
 back-line (line.Row Suspect x n t) = refl
 back-line (line.Row Confirm x n t) = refl

@@ -10,45 +10,23 @@ preset_text Local = codes "local"
 preset_text Lan = codes "lan"
 preset_text Wan = codes "wan"
 
--- what stands in the place of the keys that a file has not, by its preset
+-- the times of a preset, in the order of its keys
+abbrev pub preset_times : ℕ → ℕ → ℕ → ℕ → ℕ → ℕ → ℕ → ℕ → PresetTimes
+preset_times tick_ms lambda period direct suspect forget helpers rejoin = record {
+  tick_ms = tick_ms;
+  lambda = lambda;
+  period = period;
+  direct = direct;
+  suspect = suspect;
+  forget = forget;
+  helpers = helpers;
+  rejoin = rejoin;
+}
+
+-- what stands in the place of the keys that a file has not, by its preset: tick_ms, lambda, period,
+-- direct, suspect, forget, helpers, rejoin
 abbrev pub times_of : Option Preset → PresetTimes
-times_of None = record {
-  tick_ms = 100;
-  lambda = 3;
-  period = 10;
-  direct = 3;
-  suspect = 50;
-  forget = 6000;
-  helpers = 3;
-  rejoin = 300;
-}
-times_of (Some Local) = record {
-  tick_ms = 20;
-  lambda = 3;
-  period = 10;
-  direct = 3;
-  suspect = 50;
-  forget = 3000;
-  helpers = 3;
-  rejoin = 100;
-}
-times_of (Some Lan) = record {
-  tick_ms = 50;
-  lambda = 3;
-  period = 10;
-  direct = 2;
-  suspect = 80;
-  forget = 12000;
-  helpers = 5;
-  rejoin = 600;
-}
-times_of (Some Wan) = record {
-  tick_ms = 200;
-  lambda = 4;
-  period = 15;
-  direct = 5;
-  suspect = 150;
-  forget = 6000;
-  helpers = 3;
-  rejoin = 50;
-}
+times_of None = preset_times 100 3 10 3 50 6000 3 300
+times_of (Some Local) = preset_times 20 3 10 3 50 3000 3 100
+times_of (Some Lan) = preset_times 50 3 10 2 80 12000 5 600
+times_of (Some Wan) = preset_times 200 4 15 5 150 6000 3 50
