@@ -6,7 +6,8 @@ use crate::same::{given, holds, holds_at, same, same_at};
 use arrayvec::ArrayVec;
 use std::alloc::{AllocError, Global};
 use std::test::Fail;
-use swim_simulate::{LawRecord, Plan, PlanKey, RunCounts, endpoint_of, simulate};
+use swim_plan::{Plan, PlanKey};
+use swim_simulate::{LawRecord, RunCounts, endpoint_of, simulate};
 use swim_wire::{Cursor, Datagram, Kind, Rules, Update, UpdateKind};
 
 /// What a plan is refused for, and nothing where it is not.

@@ -4,7 +4,8 @@ use crate::same::{given, holds, holds_at, same, same_at};
 use std::alloc::{AllocError, Global};
 use std::test::Fail;
 use swim_group::Breach;
-use swim_simulate::{Broken, Kill, LawBreak, Plan, PlanKey, SimulateFault, simulate};
+use swim_plan::{Plan, PlanKey};
+use swim_simulate::{Broken, Kill, LawBreak, SimulateFault, simulate};
 use swim_survey::{
     Gathered, Made, Series, Span, Stage, Sweep, Trial, draw_runs, draw_sweep, numbers_of, placed,
     read_span, report, run_all, run_sweep, shrunk, told, write_plan,

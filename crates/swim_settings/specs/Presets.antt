@@ -23,8 +23,8 @@ preset_times tick_ms lambda period direct suspect forget helpers rejoin = record
   rejoin = rejoin;
 }
 
--- what stands in the place of the keys that a file has not, by its preset: tick_ms, lambda, period,
--- direct, suspect, forget, helpers, rejoin
+-- what stands in the place of the keys that a file has not, by its preset: milliseconds of a tick,
+-- lambda, period, direct, suspect, forget, helpers, rejoin
 abbrev pub times_of : Option Preset → PresetTimes
 times_of None = preset_times 100 3 10 3 50 6000 3 300
 times_of (Some Local) = preset_times 20 3 10 3 50 3000 3 100

@@ -1,4 +1,3 @@
-pub mod Planning
 mod Detecting
 pub mod Watching
 pub mod Asking

@@ -1,5 +1,3 @@
-pub mod Keys
-pub mod Plan
 pub mod Network
 pub mod Detection
 pub mod Laws

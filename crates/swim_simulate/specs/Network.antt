@@ -1,14 +1,14 @@
 -- The network.
 use Rattle.std.specs.Prelude.{◌⊎◌, ◌+◌, ◌*◌, ◌%◌, ◌<◌, ◌≤◌, ℕ, List, Bool, nat_lt, cond}
 use Rattle.std.specs.Prelude.{◌||◌}
-use Rattle.swim_simulate.specs.declared.key.PlanKey.TheVariants.{Loss, Repeats, Delay, Jitter}
-use Rattle.swim_simulate.specs.declared.key.PlanKey.TheVariants.{CutMembers, CutAt, CutFor}
-use Rattle.swim_simulate.specs.declared.key.PlanKey.TheVariants.{Deaf, Mute}
+use Rattle.swim_plan.specs.declared.key.PlanKey.TheVariants.{Loss, Repeats, Delay, Jitter}
+use Rattle.swim_plan.specs.declared.key.PlanKey.TheVariants.{CutMembers, CutAt, CutFor}
+use Rattle.swim_plan.specs.declared.key.PlanKey.TheVariants.{Deaf, Mute}
 use Rattle.swim_simulate.specs.declared.network.Draw.{Draw}
 use Rattle.swim_simulate.specs.declared.network.Fate.{Fate}
 use Rattle.swim_simulate.specs.declared.place.TheConstants.{FIRST, PORT}
 use Rattle.swim_simulate.specs.declared.network.Fate.TheVariants.{Lost, Comes, ComesTwice}
-use Rattle.swim_simulate.specs.Plan.{number_at}
+use Rattle.swim_plan.specs.Plan.{number_at}
 
 -- the endpoint of the member with this place: 10.0.0.1:7000, and the addresses after it
 abbrev pub endpoint_of : ℕ → ℕ

@@ -7,12 +7,12 @@ use Rattle.swim_simulate.specs.declared.handed.Clock.{Clock}
 use Rattle.swim_simulate.specs.declared.handed.Handed.{Handed}
 use Rattle.swim_simulate.specs.declared.handed.Handed.TheVariants.{Tick, Datagram}
 use Rattle.swim_simulate.specs.declared.flight.Flight.{Flight}
-use Rattle.swim_simulate.specs.declared.key.PlanKey.TheVariants.{Members, OddClocks, ClockRate}
+use Rattle.swim_plan.specs.declared.key.PlanKey.TheVariants.{Members, OddClocks, ClockRate}
 use Rattle.swim_simulate.specs.declared.network.Fate.{Fate}
 use Rattle.swim_simulate.specs.declared.network.Fate.TheVariants.{Lost, Comes, ComesTwice}
 use Rattle.swim_simulate.specs.declared.place.Place.{Place}
 use Rattle.swim_simulate.specs.Laws.{LawView}
-use Rattle.swim_simulate.specs.Plan.{number_at}
+use Rattle.swim_plan.specs.Plan.{number_at}
 
 -- the nodes of a run and the law over them, the tick of the group, which clocks went on in which
 -- tick, and what came to which node in which tick

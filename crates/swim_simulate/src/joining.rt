@@ -5,14 +5,13 @@ ghost use Rattle.std.specs.Prelude.{◌≡◌, None, [], length};
 ghost use Rattle.swim_node.specs.History.{calls_by};
 ghost use Rattle.swim_simulate.specs.Joining.{HasTurn, joined_after, last_joined};
 
-use crate::key::PlanKey;
 use crate::place::endpoint_of;
-use crate::plan::Plan;
 use crate::views::Views;
 use arrayvec::{ArrayString, ArrayVec};
 use rand_chacha::ChaCha20Rng;
 use swim_member::{Event, Settings};
 use swim_node::{Entry, Reply, Save, Status, Tag};
+use swim_plan::{Plan, PlanKey};
 use swim_shell::{
     COUNTERS, Caller, Counters, Intervals, Joiner, LIST_MAX, Observer, QuietClock, Refusal, Who,
 };

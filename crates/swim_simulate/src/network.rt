@@ -3,8 +3,7 @@
 ghost use Rattle.std.specs.Prelude.{◌≡◌, ◌+◌, ◌*◌, ◌↔◌, length, IsTrue};
 ghost use Rattle.swim_simulate.specs.Network.{IsApart, IsCutOff, IsNoWay, delay_of, fate_of};
 
-use crate::key::PlanKey;
-use crate::plan::Plan;
+use swim_plan::{Plan, PlanKey};
 use swim_wire::Datagram;
 
 /// What becomes of a datagram.

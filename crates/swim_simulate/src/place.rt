@@ -4,9 +4,8 @@ ghost use Rattle.std.specs.Prelude.{◌≡◌, ◌+◌, ◌*◌, ◌<◌};
 ghost use Rattle.swim_simulate.specs.Network.{endpoint_of};
 ghost use Rattle.swim_simulate.specs.Running.{is_awake};
 
-use crate::key::PlanKey;
-use crate::plan::Plan;
 use swim_member::{Deal, Settings};
+use swim_plan::{Plan, PlanKey};
 use swim_wire::Endpoint;
 
 /// The address of the first member, 10.0.0.1.

@@ -2,21 +2,19 @@
 
 ghost use Rattle.std.specs.Prelude.{◌≡◌, ◌+◌, ◌-◌, ◌<◌, ◌^◌, ◌++◌, ◌∷◌, [], None, slice_get, IfOk, OnOk};
 ghost use Rattle.swim_group.specs.RealNodes.{HasSoundNodeRun};
-ghost use Rattle.swim_simulate.specs.declared.key.PlanKey.TheVariants.{Members};
+ghost use Rattle.swim_plan.specs.declared.key.PlanKey.TheVariants.{Members};
 ghost use Rattle.swim_simulate.specs.declared.handed.Handed.TheVariants.{Tick, Datagram};
 ghost use Rattle.swim_simulate.specs.Laws.{IsLawful};
-ghost use Rattle.swim_simulate.specs.Plan.{number_at, tick_count};
+ghost use Rattle.swim_plan.specs.Plan.{number_at, tick_count};
 ghost use Rattle.swim_simulate.specs.Running.{HandsNothing, arrival_at, arrival_by, beats_of, round, rounds, ticks_to};
 
 use crate::dice::Dice;
 use crate::fault::SimulateFault;
 use crate::flight::Flight;
 use crate::handed::{Clock, Handed};
-use crate::key::PlanKey;
 use crate::law::LawBreak;
 use crate::measures::{Measures, count};
 use crate::place::{Place, place_of, settings_of};
-use crate::plan::Plan;
 use crate::scene::{Scene, joiners_of, shadows_of};
 use crate::script::{Given, Script};
 use crate::views::Views;
@@ -26,6 +24,7 @@ use swim_charts::Tally;
 use swim_group::{Failure, Nodes, NodesFault};
 use swim_member::{Event, Phase};
 use swim_node::{Save, Status};
+use swim_plan::{Plan, PlanKey};
 use swim_trace::Trace;
 use swim_wire::{Cursor, Endpoint, UPDATES_MAX, Update};
 

@@ -1,12 +1,11 @@
 //! What one member of a group was given, as a script of `swim play`, and what it sent.
 
-use crate::key::PlanKey;
 use crate::place::endpoint_of;
-use crate::plan::Plan;
 use std::alloc::{AllocError, Global};
 use std::fmt::Write;
 use swim_disk::Choice;
 use swim_member::{Deal, Event, Out};
+use swim_plan::{Plan, PlanKey};
 use swim_wire::{Datagram, MEMBERS_MAX, encode};
 
 /// The keys that are settings of a script too, by the same names.

@@ -12,7 +12,7 @@ use crate::table::report;
 use std::fs::{self, File};
 use std::io::Stderr;
 use std::rt::Files;
-use swim_simulate::Plan;
+use swim_plan::Plan;
 
 /// What is asked for.
 #[derive(Clone, Copy, Debug, PartialEq, Eq)]

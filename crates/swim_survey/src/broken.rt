@@ -4,8 +4,9 @@ use crate::fault::AskedFault;
 use crate::shrink::{Trial, shrunk, write_plan};
 use std::alloc::{AllocError, Global};
 use std::fmt::Write;
+use swim_plan::Plan;
 use swim_play::play;
-use swim_simulate::{Done, Kill, LawBreak, Plan, Script, SimulateFault, script_of, simulate};
+use swim_simulate::{Done, Kill, LawBreak, Script, SimulateFault, script_of, simulate};
 
 /// A run by a seed, which fails where it breaks the law of a group.
 #[derive(Drop)]

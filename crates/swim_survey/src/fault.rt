@@ -3,8 +3,9 @@
 use crate::placing::{PlacedRefusal, placed};
 use std::alloc::AllocError;
 use std::io::{self, ErrorKind};
+use swim_plan::PlanRefusal;
 use swim_settings::SettingsRefusal;
-use swim_simulate::{PlanRefusal, SimulateFault};
+use swim_simulate::SimulateFault;
 use thiserror::Error;
 
 /// Why nothing more is printed.

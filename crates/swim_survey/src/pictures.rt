@@ -8,7 +8,7 @@ use crate::table::write_subject;
 use std::alloc::{AllocError, Global};
 use std::fmt::Write;
 use swim_charts::{Curve, Drawing, Tiles, Views};
-use swim_simulate::{Plan, PlanKey};
+use swim_plan::{Plan, PlanKey};
 
 /// How long the stages took.
 fn curves(alloc: Global, runs: &Runs) -> Result<Vec<Curve>, AllocError> {

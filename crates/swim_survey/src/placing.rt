@@ -2,8 +2,8 @@
 
 use std::fmt;
 use swim_input::key_line;
+use swim_plan::PlanRefusal;
 use swim_settings::SettingsRefusal;
-use swim_simulate::PlanRefusal;
 use swim_words::Word;
 
 /// Why a plan is refused, and on which line. It prints both, on one line.

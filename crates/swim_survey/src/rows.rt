@@ -2,7 +2,8 @@
 
 use std::alloc::{AllocError, Global};
 use std::fmt::Write;
-use swim_simulate::{Kill, Plan, PlanKey};
+use swim_plan::{Plan, PlanKey};
+use swim_simulate::Kill;
 
 /// The first line.
 pub(crate) const HEAD: &str =

@@ -9,7 +9,8 @@ use crate::rows::write_rows;
 use crate::series::Series;
 use std::alloc::{AllocError, Global};
 use swim_charts::Tally;
-use swim_simulate::{Done, Plan, PlanKey, simulate};
+use swim_plan::{Plan, PlanKey};
+use swim_simulate::{Done, simulate};
 
 /// At how many moments of a run a picture shows what is held.
 const MOMENTS: u64 = 300;

@@ -2,7 +2,8 @@
 
 use std::alloc::AllocError;
 use std::fmt::Write;
-use swim_simulate::{Plan, PlanKey, SimulateFault};
+use swim_plan::{Plan, PlanKey};
+use swim_simulate::SimulateFault;
 
 /// How often all keys are tried.
 const ROUNDS: u64 = 3;

@@ -1,8 +1,8 @@
 //! Sweeps over plans: for some keys a row of numbers each, and a plan for each choice of one of each row.
 
 use std::alloc::{AllocError, Global};
+use swim_plan::{Plan, PlanKey, PlanRefusal, Range};
 use swim_settings::SettingsRefusal;
-use swim_simulate::{Plan, PlanKey, PlanRefusal, Range};
 use swim_words::{read_within, split_at_byte};
 
 /// Into how many steps a row is parted whose step is not said.

@@ -10,7 +10,7 @@ use crate::sweep::Sweep;
 use std::alloc::{AllocError, Global};
 use std::fmt::Write;
 use swim_charts::Thousandths;
-use swim_simulate::Plan;
+use swim_plan::Plan;
 
 /// The first line: the keys, and the figures.
 fn head(alloc: Global, sweep: &Sweep) -> Result<String, AllocError> {

@@ -8,7 +8,8 @@ use std::alloc::{AllocError, Global};
 use std::fmt::Write;
 use swim_charts::{Thousandths, of_hundred, spread_of};
 use swim_detect::{DetectionBound, mean_first_suspicion};
-use swim_simulate::{Plan, PlanKey, RunCounts};
+use swim_plan::{Plan, PlanKey};
+use swim_simulate::RunCounts;
 
 /// A cell of so many columns at least; a dash where there is no number.
 fn write_cell(

@@ -1,6 +1,6 @@
 use Rattle.std.proofs.Common.{◌≡◌}
-use Rattle.swim_simulate.specs.declared.key.PlanKey.TheVariants.{Members}
-use Rattle.swim_simulate.specs.Plan.{number_at}
+use Rattle.swim_plan.specs.declared.key.PlanKey.TheVariants.{Members}
+use Rattle.swim_plan.specs.Plan.{number_at}
 use Rattle.swim_simulate.specs.Running.{rounds}
 use Rattle.swim_simulate.proofs.run.simulate.Given as goal
 

@@ -6,9 +6,9 @@ ghost use Rattle.toml.specs.Parse.{parse_document};
 ghost use Rattle.toml.specs.View.{table_view, view};
 ghost use Rattle.swim_settings.specs.Says.{natural_of};
 ghost use Rattle.swim_settings.specs.Unknown.{AreNamed};
-ghost use Rattle.swim_simulate.specs.declared.key.PlanKey.TheVariants as key;
-ghost use Rattle.swim_simulate.specs.Keys.{plan_keys, plan_key, range_of};
-ghost use Rattle.swim_simulate.specs.Plan.{AreDefaults, IsFirstKey, IsPlanReason, Says, kill_tick, pause_tick, number_at, with_number, taken_at, taken_from, tick_count, data_at};
+ghost use Rattle.swim_plan.specs.declared.key.PlanKey.TheVariants as key;
+ghost use Rattle.swim_plan.specs.Keys.{plan_keys, plan_key, range_of};
+ghost use Rattle.swim_plan.specs.Plan.{AreDefaults, IsFirstKey, IsPlanReason, Says, kill_tick, pause_tick, number_at, with_number, taken_at, taken_from, tick_count, data_at};
 
 use crate::key::{KEYS, PlanKey, Range};
 use crate::refusal::PlanRefusal;
@@ -26,7 +26,7 @@ pub struct Plan {
 
 impl Model for Plan {
     ghost use Rattle.std.specs.Prelude.{ℕ, List};
-    ghost use Rattle.swim_simulate.specs.Plan.{AreInRanges};
+    ghost use Rattle.swim_plan.specs.Plan.{AreInRanges};
 
     ghost Value = { List ℕ };
 

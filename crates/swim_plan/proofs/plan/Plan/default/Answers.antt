@@ -1,8 +1,8 @@
 use Rattle.std.proofs.Common.{◌≡◌, ℕ, ap}
-use Rattle.swim_simulate.specs.declared.key.PlanKey.{PlanKey}
-use Rattle.swim_simulate.specs.Keys.{range_of}
-use Rattle.swim_simulate.proofs.Planning.{fill-next}
-use Rattle.swim_simulate.proofs.plan.Plan.default.Goals as goal
+use Rattle.swim_plan.specs.declared.key.PlanKey.{PlanKey}
+use Rattle.swim_plan.specs.Keys.{range_of}
+use Rattle.swim_plan.proofs.Planning.{fill-next}
+use Rattle.swim_plan.proofs.plan.Plan.default.Goals as goal
 
 pub loop-place-preserved : goal.loop-place-preserved
 loop-place-preserved c =

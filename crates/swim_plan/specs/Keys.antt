@@ -1,18 +1,18 @@
 -- The keys of a plan, and the numbers that they take.
 use Rattle.std.specs.Prelude.{ℕ, List, [], ◌∷◌, codes}
-use Rattle.swim_simulate.specs.declared.key.PlanKey.{PlanKey}
-use Rattle.swim_simulate.specs.declared.key.Range.{Range}
-use Rattle.swim_simulate.specs.declared.key.PlanKey.TheVariants.{Members, Minutes, TickMs, Lambda}
-use Rattle.swim_simulate.specs.declared.key.PlanKey.TheVariants.{Period, Direct, Suspect, Forget}
-use Rattle.swim_simulate.specs.declared.key.PlanKey.TheVariants.{Helpers, Limit, Block, Rules}
-use Rattle.swim_simulate.specs.declared.key.PlanKey.TheVariants.{Listed, Rejoin, Introduce}
-use Rattle.swim_simulate.specs.declared.key.PlanKey.TheVariants.{BeginWithin, Loss, Repeats}
-use Rattle.swim_simulate.specs.declared.key.PlanKey.TheVariants.{Delay, Jitter, Kills, RestartAfter}
-use Rattle.swim_simulate.specs.declared.key.PlanKey.TheVariants.{Dropped, Filled}
-use Rattle.swim_simulate.specs.declared.key.PlanKey.TheVariants.{OddClocks, ClockRate}
-use Rattle.swim_simulate.specs.declared.key.PlanKey.TheVariants.{CutMembers, CutAt, CutFor}
-use Rattle.swim_simulate.specs.declared.key.PlanKey.TheVariants.{Deaf, Mute}
-use Rattle.swim_simulate.specs.declared.key.PlanKey.TheVariants.{Pauses, PauseFor, FailingSyncs}
+use Rattle.swim_plan.specs.declared.key.PlanKey.{PlanKey}
+use Rattle.swim_plan.specs.declared.key.Range.{Range}
+use Rattle.swim_plan.specs.declared.key.PlanKey.TheVariants.{Members, Minutes, TickMs, Lambda}
+use Rattle.swim_plan.specs.declared.key.PlanKey.TheVariants.{Period, Direct, Suspect, Forget}
+use Rattle.swim_plan.specs.declared.key.PlanKey.TheVariants.{Helpers, Limit, Block, Rules}
+use Rattle.swim_plan.specs.declared.key.PlanKey.TheVariants.{Listed, Rejoin, Introduce}
+use Rattle.swim_plan.specs.declared.key.PlanKey.TheVariants.{BeginWithin, Loss, Repeats}
+use Rattle.swim_plan.specs.declared.key.PlanKey.TheVariants.{Delay, Jitter, Kills, RestartAfter}
+use Rattle.swim_plan.specs.declared.key.PlanKey.TheVariants.{Dropped, Filled}
+use Rattle.swim_plan.specs.declared.key.PlanKey.TheVariants.{OddClocks, ClockRate}
+use Rattle.swim_plan.specs.declared.key.PlanKey.TheVariants.{CutMembers, CutAt, CutFor}
+use Rattle.swim_plan.specs.declared.key.PlanKey.TheVariants.{Deaf, Mute}
+use Rattle.swim_plan.specs.declared.key.PlanKey.TheVariants.{Pauses, PauseFor, FailingSyncs}
 use Rattle.swim_wire.specs.declared.update.TheConstants.{MEMBERS_MAX}
 use Rattle.swim_member.specs.declared.settings.TheConstants.{HELPERS_MAX, BLOCK_MAX}
 use Rattle.swim_node.specs.declared.opening.TheConstants.{LIMIT_MAX}

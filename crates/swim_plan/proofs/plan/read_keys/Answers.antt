@@ -1,11 +1,11 @@
 use Rattle.std.proofs.Common.{rules, ◌≡◌, ℕ, ◌<◌, Some, sym, subst, ◌∙◌}
 use Rattle.std.specs.Prelude.{IsSome}
 use Rattle.toml.specs.View.{table_view}
-use Rattle.swim_simulate.specs.declared.key.PlanKey.{PlanKey}
-use Rattle.swim_simulate.specs.Keys.{rank_of}
-use Rattle.swim_simulate.specs.Plan.{number_at, taken_at}
-use Rattle.swim_simulate.proofs.Planning.{fill-next, key_in, rank_of-key_in, taken-within}
-use Rattle.swim_simulate.proofs.plan.read_keys.Goals as goal
+use Rattle.swim_plan.specs.declared.key.PlanKey.{PlanKey}
+use Rattle.swim_plan.specs.Keys.{rank_of}
+use Rattle.swim_plan.specs.Plan.{number_at, taken_at}
+use Rattle.swim_plan.proofs.Planning.{fill-next, key_in, rank_of-key_in, taken-within}
+use Rattle.swim_plan.proofs.plan.read_keys.Goals as goal
 
 pub returns-in-None-clause-refused : goal.returns-in-None-clause-refused
 returns-in-None-clause-refused c = record {

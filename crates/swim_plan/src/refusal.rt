@@ -1,7 +1,7 @@
 //! Why a plan is refused.
 
 ghost use Rattle.std.specs.Prelude.{◌≡◌};
-ghost use Rattle.swim_simulate.specs.declared.refusal.PlanRefusal.TheVariants as refusals;
+ghost use Rattle.swim_plan.specs.declared.refusal.PlanRefusal.TheVariants as refusals;
 
 use crate::key::PlanKey;
 use std::alloc::AllocError;

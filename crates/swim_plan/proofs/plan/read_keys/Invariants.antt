@@ -1,8 +1,8 @@
 use Rattle.std.proofs.Common.{◌≡◌, Some}
 use Rattle.toml.specs.View.{table_view}
-use Rattle.swim_simulate.specs.Plan.{taken_at}
-use Rattle.swim_simulate.proofs.Planning.{IsFilled}
-use Rattle.swim_simulate.proofs.plan.read_keys.Given as goal
+use Rattle.swim_plan.specs.Plan.{taken_at}
+use Rattle.swim_plan.proofs.Planning.{IsFilled}
+use Rattle.swim_plan.proofs.plan.read_keys.Given as goal
 
 abbrev pub invariant-loop-place : goal.invariant-loop-place
 invariant-loop-place l =

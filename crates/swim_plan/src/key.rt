@@ -1,7 +1,7 @@
 //! The keys of a plan. The value of each is a number.
 
 ghost use Rattle.std.specs.Prelude.{◌≡◌, ◌≢◌, ◌<◌, All, IfSome, IfNone};
-ghost use Rattle.swim_simulate.specs.Keys.{plan_keys, plan_key, rank_of, range_of};
+ghost use Rattle.swim_plan.specs.Keys.{plan_keys, plan_key, rank_of, range_of};
 
 use std::fmt;
 use swim_words::{Word, named};

@@ -1,5 +1,5 @@
 use Rattle.toml.proofs.Views.{table_get}
-use Rattle.swim_simulate.proofs.plan.find.Goals as goal
+use Rattle.swim_plan.proofs.plan.find.Goals as goal
 
 pub returns : goal.returns
 returns c =

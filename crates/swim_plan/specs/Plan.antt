@@ -6,13 +6,13 @@ use Rattle.toml.specs.Parse.{parse_document}
 use Rattle.toml.specs.Data.{Data, Members, get_member, as_integer}
 use Rattle.swim_settings.specs.Says.{natural_of, IsOfText}
 use Rattle.swim_settings.specs.Unknown.{IsOfUnknown}
-use Rattle.swim_simulate.specs.declared.key.PlanKey.{PlanKey}
-use Rattle.swim_simulate.specs.declared.key.PlanKey.TheVariants.{Minutes, TickMs, Kills}
-use Rattle.swim_simulate.specs.declared.key.PlanKey.TheVariants.{Direct, Period, Pauses}
-use Rattle.swim_simulate.specs.declared.key.Range.{Range}
-use Rattle.swim_simulate.specs.declared.refusal.PlanRefusal.{PlanRefusal}
-use Rattle.swim_simulate.specs.declared.refusal.PlanRefusal.TheVariants as refusals
-use Rattle.swim_simulate.specs.Keys.{plan_keys, plan_key, range_of, rank_of}
+use Rattle.swim_plan.specs.declared.key.PlanKey.{PlanKey}
+use Rattle.swim_plan.specs.declared.key.PlanKey.TheVariants.{Minutes, TickMs, Kills}
+use Rattle.swim_plan.specs.declared.key.PlanKey.TheVariants.{Direct, Period, Pauses}
+use Rattle.swim_plan.specs.declared.key.Range.{Range}
+use Rattle.swim_plan.specs.declared.refusal.PlanRefusal.{PlanRefusal}
+use Rattle.swim_plan.specs.declared.refusal.PlanRefusal.TheVariants as refusals
+use Rattle.swim_plan.specs.Keys.{plan_keys, plan_key, range_of, rank_of}
 
 -- a plan is a list of numbers, in the order of the keys. This is the number of the key
 abbrev pub number_at : PlanKey → List ℕ → ℕ

@@ -7,13 +7,13 @@ use Rattle.std.proofs.lemmas.List.FromFn.{get_or-range_with_len}
 use borrow.Author.Count.{below_more}
 use Rattle.toml.specs.Data.{Data, Members as Table, as_integer}
 use Rattle.swim_settings.specs.Says.{natural_of}
-use Rattle.swim_simulate.specs.declared.key.PlanKey.{PlanKey}
-use Rattle.swim_simulate.specs.declared.key.PlanKey.TheVariants.{Members, Minutes, TickMs, Lambda, Period, Direct, Suspect, Forget, Helpers}
-use Rattle.swim_simulate.specs.declared.key.PlanKey.TheVariants.{Limit, Block, Rules, Listed, Rejoin, Introduce, BeginWithin, Loss, Repeats, Delay, Jitter}
-use Rattle.swim_simulate.specs.declared.key.PlanKey.TheVariants.{Kills, RestartAfter, Dropped, Filled, OddClocks, ClockRate, CutMembers, CutAt, CutFor, Deaf, Mute, Pauses, PauseFor, FailingSyncs}
-use Rattle.swim_simulate.specs.declared.key.Range.{Range}
-use Rattle.swim_simulate.specs.Keys.{plan_keys, rank_of, range_of}
-use Rattle.swim_simulate.specs.Plan.{IsInRange, number_at, taken_at, taken_from, taken_of, data_at}
+use Rattle.swim_plan.specs.declared.key.PlanKey.{PlanKey}
+use Rattle.swim_plan.specs.declared.key.PlanKey.TheVariants.{Members, Minutes, TickMs, Lambda, Period, Direct, Suspect, Forget, Helpers}
+use Rattle.swim_plan.specs.declared.key.PlanKey.TheVariants.{Limit, Block, Rules, Listed, Rejoin, Introduce, BeginWithin, Loss, Repeats, Delay, Jitter}
+use Rattle.swim_plan.specs.declared.key.PlanKey.TheVariants.{Kills, RestartAfter, Dropped, Filled, OddClocks, ClockRate, CutMembers, CutAt, CutFor, Deaf, Mute, Pauses, PauseFor, FailingSyncs}
+use Rattle.swim_plan.specs.declared.key.Range.{Range}
+use Rattle.swim_plan.specs.Keys.{plan_keys, rank_of, range_of}
+use Rattle.swim_plan.specs.Plan.{IsInRange, number_at, taken_at, taken_from, taken_of, data_at}
 
 -- the key in this place
 abbrev pub key_in : ℕ → PlanKey
