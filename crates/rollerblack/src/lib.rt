@@ -41,8 +41,8 @@
 //!     link: &mut L,
 //!     event: Event,
 //! ) -> Result<Reply, ApplyFault> {
-//!     let turn = node.turns(0) + 1;
-//!     node.apply(link, Tag { caller: 0, turn }, event)
+//!     let tag = node.next_tag(0);
+//!     node.apply(link, tag, event)
 //! }
 //!
 //! /// What is left of a life.

@@ -13,7 +13,7 @@ use std::alloc::Global;
 use std::mem;
 use swim_disk::MemDisk;
 use swim_member::Event;
-use swim_node::{Entry, Link, LinkFault, Node, Save, Tag};
+use swim_node::{Entry, Link, LinkFault, Node, Save};
 use swim_state::{Owner, init};
 use swim_wire::{DATAGRAM_MAX, Endpoint};
 
@@ -85,10 +85,7 @@ fn call(node: &mut Node<MemDisk>, link: &mut LastLink, event: Event) -> bool
         × (node.new.entries ≡ node.old.entries ++ e ∷ []) }
     ensures refused { result ≡ false → node.new ≡ node.old }
 {
-    let tag = Tag {
-        caller: 0,
-        turn: node.turns(0) + 1,
-    };
+    let tag = node.next_tag(0);
     node.apply(link, tag, event).is_ok()
 }
 

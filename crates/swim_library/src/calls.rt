@@ -19,7 +19,7 @@ use crate::running::Running;
 use crate::shapes::{SwimEndpoint, SwimRow, SwimStatus};
 use swim_disk::FileDisk;
 use swim_member::{Deal, Event, NOTES_MAX, Note};
-use swim_node::{ApplyFault, Node, Reply, Tag};
+use swim_node::{ApplyFault, Node, Reply};
 use swim_state::PEERS_MAX;
 use swim_wire::{Cursor, Endpoint, UPDATES_MAX, Update};
 
@@ -112,10 +112,7 @@ impl Running {
         ensures refused { IfErr result (λ refusal. refusal ≡ why.NoMemory) }
         ensures same { OnErr result (self.new ≡ self.old) }
     {
-        let tag = Tag {
-            caller: 0,
-            turn: self.node.turns(0) + 1,
-        };
+        let tag = self.node.next_tag(0);
         let reply = match self.node.apply(&mut self.outbox, tag, event) {
             Ok(reply) => reply,
             Err(ApplyFault::NoMemory) => return Err(Refusal::NoMemory),

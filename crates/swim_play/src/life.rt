@@ -25,7 +25,7 @@ use std::marker::Model;
 use std::snapshot::Snapshot;
 use swim_disk::{FaultDisk, MemDisk};
 use swim_member::Event;
-use swim_node::{ApplyFault, Entry, Era, MemoryLink, Node, OpenFault, Tag};
+use swim_node::{ApplyFault, Entry, Era, MemoryLink, Node, OpenFault};
 use swim_state::{Peers, SaveFault};
 
 /// The disk of a script.
@@ -181,10 +181,7 @@ impl OpenLife {
         ensures refused { IfErr result (λ fault. IsDeclined self.old fault) }
         ensures err { OnErr result (self.new ≡ self.old) }
     {
-        let tag = Tag {
-            caller: 0,
-            turn: self.node.turns(0) + 1,
-        };
+        let tag = self.node.next_tag(0);
         self.node.apply(link, tag, event)?;
         Ok(())
     }

@@ -2,7 +2,7 @@
 
 use rollerblack::{
     ApplyFault, ArrayVec, Cursor, Datagram, Deal, Endpoint, Event, Kind, Link, MemDisk, MemoryLink,
-    Node, Owner, RECEIVED_MAX, Reply, Rules, Settings, Tag, Update, UpdateKind, encode, init,
+    Node, Owner, RECEIVED_MAX, Reply, Rules, Settings, Update, UpdateKind, encode, init,
 };
 use std::alloc::Global;
 use std::test::Fail;
@@ -41,8 +41,8 @@ fn call<L: Link>(
     link: &mut L,
     event: Event,
 ) -> Result<Reply, ApplyFault> {
-    let turn = node.turns(0) + 1;
-    node.apply(link, Tag { caller: 0, turn }, event)
+    let tag = node.next_tag(0);
+    node.apply(link, tag, event)
 }
 
 /// What is left of a life.

@@ -1,4 +1,4 @@
-use Rattle.std.proofs.Common.{ap, refl}
+use Rattle.std.proofs.Common.{ap, refl, ◌∙◌}
 use Rattle.swim_node.specs.declared.entry.Tag.{Tag}
 use Rattle.swim_play.proofs.Lives.{mine-happened}
 use Rattle.swim_play.proofs.life.OpenLife.happen.Goals as goal
@@ -11,7 +11,7 @@ invariant_of-self-2 c =
       living = c.apply.ensures.living _ _ _ _ before.living;
       mine = record {
         ended = before.mine.ended;
-        last = rw ok.1.entries (mine-happened c.self.inside.node.entries ok.0 before.mine.last (ap (λ (t : Tag). t.caller) ok.1.tag_is));
+        last = rw ok.1.entries (mine-happened c.self.inside.node.entries ok.0 before.mine.last (ap (λ (t : Tag). t.caller) ok.1.tag_is ∙ c.next_tag-tag.ensures.caller));
       };
       room = rw c.apply.ensures.base before.room;
     }
