@@ -24,7 +24,7 @@ use swim_ask::{
 };
 use swim_check::{CaptureStop, check};
 use swim_cli::{Subcommand, hold_standard, make, read_words};
-use swim_ending::{Exit, Failure};
+use swim_exit::{Exit, Failure};
 use swim_explain::{ExplainFault, Printed, Tale, in_order, print_tales, recordings_at, tell_file};
 use swim_input::{InputFault, SETTINGS_MAX, look_at, open_file};
 use swim_log::{LogLevel, LogStream, Stamped};

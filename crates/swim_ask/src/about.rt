@@ -9,7 +9,7 @@ use arrayvec::ArrayString;
 use std::net::{Net, TcpStream};
 use std::rt::Clock;
 use std::{fmt, str};
-use swim_ending::Failure;
+use swim_exit::Failure;
 use swim_shell::{About, ProgramVersion, Who, about_answer};
 use swim_wire::{Endpoint, Rules};
 use swim_words::{read_endpoint, split_at_byte};

@@ -2,7 +2,7 @@
 
 use crate::place::judge;
 use std::alloc::Global;
-use swim_ending::Failure;
+use swim_exit::Failure;
 
 /// The control sockets of members of one group, of which one is asked, and the next one once that does not answer.
 #[derive(Clone, Copy, Debug)]

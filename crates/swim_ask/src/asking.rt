@@ -11,7 +11,7 @@ use std::net::{Net, TcpStream};
 use std::rt::Clock;
 use std::thread::Threads;
 use std::time::{Duration, Instant};
-use swim_ending::{Exit, Failure};
+use swim_exit::{Exit, Failure};
 use swim_net::address_of;
 use swim_wire::Endpoint;
 use swim_words::{read_number, split_at_byte};

@@ -15,7 +15,7 @@ use std::net::{Net, TcpStream};
 use std::rt::Clock;
 use std::thread::{self, Threads};
 use std::time::Duration;
-use swim_ending::{Exit, Failure};
+use swim_exit::{Exit, Failure};
 use swim_news::Rows;
 use swim_shell::{Counters, ERA_COUNTS};
 use swim_wire::{Endpoint, Update, UpdateKind};

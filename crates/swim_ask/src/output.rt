@@ -8,7 +8,7 @@ use std::os::fd::RawFd;
 use std::rt::Clock;
 use std::time::Duration;
 use std::{io, thread};
-use swim_ending::Exit;
+use swim_exit::Exit;
 
 /// The descriptor of standard output.
 const STANDARD_OUTPUT: RawFd = 1;

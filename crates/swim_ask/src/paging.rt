@@ -14,7 +14,7 @@ use std::net::{Net, TcpStream};
 use std::rt::Clock;
 use std::time::Duration;
 use std::{str, thread};
-use swim_ending::{Exit, Failure};
+use swim_exit::{Exit, Failure};
 use swim_news::{PAGES_MAX, Rows};
 use swim_wire::{Endpoint, MEMBERS_MAX, UPDATES_MAX, Update, UpdateKind};
 use swim_words::{read_endpoint, read_number, split_at_byte};

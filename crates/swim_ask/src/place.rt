@@ -7,7 +7,7 @@ use std::net::Net;
 use std::thread::Threads;
 use std::time::Instant;
 use std::{io, str};
-use swim_ending::{Exit, Failure};
+use swim_exit::{Exit, Failure};
 use swim_net::first_address;
 use swim_wire::Endpoint;
 use swim_words::{read_endpoint, read_host};

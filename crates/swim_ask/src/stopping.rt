@@ -9,7 +9,7 @@ use std::net::{Net, TcpStream};
 use std::rt::Clock;
 use std::thread;
 use std::time::{Duration, Instant};
-use swim_ending::{Exit, Failure};
+use swim_exit::{Exit, Failure};
 use swim_net::address_of;
 use swim_wire::Endpoint;
 

@@ -16,7 +16,7 @@ use std::rt::Clock;
 use std::sync::{Wait, WaitMethods};
 use std::thread::Threads;
 use std::time::Duration;
-use swim_ending::{Exit, Failure};
+use swim_exit::{Exit, Failure};
 use swim_news::{Change, ChangeJson, Changes, RowJson, Rows, compare};
 use swim_shell::Alone;
 use swim_wire::{Endpoint, Update};

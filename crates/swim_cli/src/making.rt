@@ -5,7 +5,7 @@ use std::fs::File;
 use std::io::{self, ErrorKind};
 use std::rt::Files;
 use swim_disk::FileDisk;
-use swim_ending::{Exit, Failure};
+use swim_exit::{Exit, Failure};
 use swim_start::{open_locked, sync_folder};
 use swim_state::{InitFault, Owner, init};
 use swim_wire::NUMBER_MAX;

@@ -1,10 +1,10 @@
 //! How a member ended, as the program ends by it.
 
 ghost use Rattle.std.specs.Prelude.{◌≡◌, ◌≢◌, ◌↔◌, IsOk, Ok, Err};
-ghost use Rattle.swim_ending.specs.declared.ending.Exit.TheVariants as endings;
+ghost use Rattle.swim_exit.specs.declared.ending.Exit.TheVariants as endings;
 ghost use Rattle.swim_serve.specs.declared.grace.MemberEnd.TheVariants as member_ends;
 
-use swim_ending::Exit;
+use swim_exit::Exit;
 use swim_serve::{Fault, MemberEnd};
 
 /// The ending of a member that a fault ended.

@@ -5,7 +5,7 @@ ghost use Rattle.swim_settings.specs.Ranges.{AreInRange};
 
 use std::fs::File;
 use std::rt::Files;
-use swim_ending::Failure;
+use swim_exit::Failure;
 use swim_input::{SETTINGS_MAX, read_file};
 use swim_settings::{RunSettings, read_settings};
 

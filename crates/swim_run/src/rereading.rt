@@ -3,7 +3,7 @@
 use crate::errand::{Beside, Errand};
 use crate::reading::{CheckedSettings, checked_at};
 use std::thread::Threads;
-use swim_ending::Failure;
+use swim_exit::Failure;
 
 /// What a settings file says, or why it is refused.
 pub(crate) type Read = Result<CheckedSettings, Failure>;

@@ -22,7 +22,7 @@ use std::rt::Files;
 use std::sync::{Mutex, Wait};
 use std::thread::Threads;
 use std::time::{Clock, Duration};
-use swim_ending::{Exit, Failure};
+use swim_exit::{Exit, Failure};
 use swim_log::LogLevel;
 use swim_member::Settings;
 use swim_net::Sockets;

@@ -5,7 +5,7 @@ use std::alloc::Global;
 use std::io;
 use std::net::{Net, SocketAddr, TcpListener, TcpStream, UdpSocket};
 use std::time::Clock;
-use swim_ending::{Exit, Failure};
+use swim_exit::{Exit, Failure};
 use swim_net::{SocketAlarm, Sockets, Waits, address_of, bind_datagrams, wait_of};
 use swim_settings::RunSettings;
 use swim_wire::Endpoint;

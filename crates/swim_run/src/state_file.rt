@@ -6,7 +6,7 @@ ghost use Rattle.swim_member.specs.Checks.{AreSound};
 use std::alloc::Global;
 use std::io;
 use swim_disk::FileDisk;
-use swim_ending::{Exit, Failure};
+use swim_exit::{Exit, Failure};
 use swim_member::Settings;
 use swim_node::OpenFault;
 use swim_start::{FileNode, LockedFile, OwnFile, WriteWatch, open, open_locked};

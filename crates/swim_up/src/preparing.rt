@@ -8,7 +8,7 @@ use crate::text::settings_text;
 use std::alloc::{AllocError, Global};
 use std::{env, fs, io};
 use swim_cli::{UpWords, make};
-use swim_ending::{Exit, Failure};
+use swim_exit::{Exit, Failure};
 use swim_run::{settings_at, try_addresses};
 use swim_settings::{JOIN_MAX, Key, RunSettings, SettingsRefusal, read_settings};
 use swim_words::{read_endpoint, read_host};

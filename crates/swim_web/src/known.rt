@@ -4,8 +4,8 @@ use std::alloc::{AllocError, Global};
 use std::sync::Mutex;
 use std::time::{Clock, Duration, Instant, SystemTime, UNIX_EPOCH};
 use swim_ask::{MemberReport, may_have_left};
+use swim_http::{Members, RequestReading, Seen, SeenGroup, directory_response, response};
 use swim_news::{Change, Changes, Rows, compare};
-use swim_pages::{Members, RequestReading, Seen, SeenGroup, directory_response, response};
 use swim_shell::About;
 use swim_wire::Update;
 

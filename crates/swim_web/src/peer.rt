@@ -9,7 +9,7 @@ use std::alloc::Global;
 use std::io::{self, ErrorKind, Read, Write};
 use std::net::Shutdown;
 use std::time::{Clock, Duration, Instant};
-use swim_pages::{RequestReading, read_request};
+use swim_http::{RequestReading, read_request};
 
 /// The most that a connection may take in all, in milliseconds. One that reads or writes slowly ends then.
 const PEER_MILLIS: u64 = 5000;

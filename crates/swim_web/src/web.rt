@@ -10,7 +10,7 @@ use std::rt::Clock;
 use std::sync::{Mutex, Wait};
 use std::thread::{self, Threads};
 use swim_ask::Addresses;
-use swim_ending::{Exit, Failure};
+use swim_exit::{Exit, Failure};
 use swim_net::address_of;
 use swim_wire::Endpoint;
 use swim_words::read_endpoint;

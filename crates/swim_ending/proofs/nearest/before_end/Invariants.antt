@@ -1,6 +1,0 @@
-use Rattle.swim_ending.specs.Nearest.{EndAlike}
-use Rattle.swim_ending.proofs.nearest.before_end.Given as goal
-
--- what was passed is the same in both
-abbrev pub invariant-loop : goal.invariant-loop
-invariant-loop l = EndAlike l.one l.other l.first l.second
