@@ -102,10 +102,6 @@ pub record GoesOnOpen (old new : Running) : Type 0 where
   pub held : KeepsHeld old.node new.node
 
 -- the peers that it knows are saved, and a crash leaves them
-pub record SavesPeers (old new : NodeView FileView) : Type 0 where
+pub record SavesPeers (new : NodeView FileView) : Type 0 where
   pub peers : new.peers ≡ known_peers (state_after new.base new.entries)
   pub named : HasPeers (file_state new.disk) new.peers
-  pub owner : new.owner ≡ old.owner
-  pub first : new.first ≡ old.first
-  pub lives : LivesOn old new
-  pub held : KeepsHeld old new

@@ -252,15 +252,12 @@ impl Running {
 
     /// Saves whom the member knows, the first eight that are Alive or Suspect.
     pub(crate) fn keep_peers(&mut self) -> Result<(), Refusal>
-        ensures kept { OnOk result (SavesPeers self.old.node self.new.node) }
+        ensures kept { OnOk result (SavesPeers self.new.node) }
         ensures goes_on { GoesOnOpen self.old self.new }
     {
         end_era_of(&mut self.node, 1);
         let kept = self.node.keep_peers();
         self.node.life_may_end();
-        match kept {
-            Ok(()) => Ok(()),
-            Err(fault) => Err(Refusal::Keeping(fault)),
-        }
+        kept.map_err(|fault| Refusal::Keeping(fault))
     }
 }

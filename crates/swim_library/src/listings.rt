@@ -141,7 +141,7 @@ pub extern "C" fn swim_library_stored_peers(
 #[unsafe(no_mangle)]
 pub extern "C" fn swim_library_keep_peers(member: &mut SwimMember) -> u32
     ensures kept { result ≡ OK → HandleBecomes member.old member.new
-        (λ before after. SavesPeers before.node after.node) }
+        (λ before after. SavesPeers after.node) }
     // also if they were not saved
     ensures goes_on { held member.old ≢ None
         → HandleBecomes member.old member.new GoesOnOpen }
