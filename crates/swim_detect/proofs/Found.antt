@@ -6,7 +6,7 @@ use Rattle.swim_wire.specs.declared.update.UpdateKind.{UpdateKind}
 use Rattle.swim_wire.specs.declared.update.UpdateKind.TheVariants.{Alive, Suspect, Confirm}
 use Rattle.swim_rules.specs.declared.table.Row.{Row}
 use Rattle.swim_rules.specs.Rows.{row_of, is_kind}
-use Rattle.swim_member.specs.declared.judge.Judgement.TheVariants as judged
+use Rattle.swim_member.specs.Judged as judged
 use Rattle.swim_member.specs.Checks.{AreSound}
 use Rattle.swim_member.specs.Deals.{IsDeal}
 use Rattle.swim_member.specs.Judge.{HasDeal}

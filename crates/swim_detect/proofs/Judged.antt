@@ -6,8 +6,8 @@ use Rattle.swim_wire.specs.declared.fault.WireFault.{WireFault}
 use Rattle.swim_wire.specs.Decoding.{decoded}
 use Rattle.swim_member.specs.declared.event.Event.{Event}
 use Rattle.swim_member.specs.declared.event.Event.TheVariants as event
-use Rattle.swim_member.specs.declared.judge.Judgement.{Judgement}
-use Rattle.swim_member.specs.declared.judge.Judgement.TheVariants as judged
+use Rattle.swim_member.specs.Judged.{Judged}
+use Rattle.swim_member.specs.Judged as judged
 use Rattle.swim_member.specs.declared.note.Note.{Note}
 use Rattle.swim_member.specs.declared.note.Note.TheVariants as note
 use Rattle.swim_member.specs.declared.own_number.OwnNumber.{OwnNumber}
@@ -38,7 +38,7 @@ pub record IsLeave (s : State) (e : Event) : Type 0 where
   pub leave : e ≡ event.Leave
   pub running : s.phase ≡ Running
 
-abbrev IsKnown : State → Event → Judgement → Type 0
+abbrev IsKnown : State → Event → Judged → Type 0
 IsKnown s e (judged.Tick deal) = IsTick s e deal
 IsKnown s e (judged.Datagram d own) = IsAccepted s e d own
 IsKnown s e judged.Leave = IsLeave s e

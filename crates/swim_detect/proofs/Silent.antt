@@ -24,8 +24,8 @@ use Rattle.swim_member.specs.declared.state.Joining.{Joining}
 use Rattle.swim_member.specs.declared.note.Note.TheVariants as note
 use Rattle.swim_member.specs.declared.own_number.OwnNumber.{OwnNumber}
 use Rattle.swim_member.specs.declared.own_number.OwnNumber.TheVariants.{Stays, Wanted, Confirmed}
-use Rattle.swim_member.specs.declared.judge.Judgement.{Judgement}
-use Rattle.swim_member.specs.declared.judge.Judgement.TheVariants as judged
+use Rattle.swim_member.specs.Judged.{Judged}
+use Rattle.swim_member.specs.Judged as judged
 use Rattle.swim_member.specs.Checks.{AreSound, rules_of}
 use Rattle.swim_member.specs.State.{State, Change, Heard, Queued, NumberRaised, Ticked, Probed, Joined, Looked, Noted}
 use Rattle.swim_member.specs.Readings.{state}
@@ -414,7 +414,7 @@ step-silent n x base log e silent known now = by_judgement (judge s e.event) ref
     s : State
     s = state base log
 
-    to : (j : Judgement) → judge s e.event ≡ j → StepSilent n x s (changes_from s (actions_of j e.granted)) → StepSilent n x s (step_news s e.event e.granted)
+    to : (j : Judged) → judge s e.event ≡ j → StepSilent n x s (changes_from s (actions_of j e.granted)) → StepSilent n x s (step_news s e.event e.granted)
     to j h k = subst (λ i. StepSilent n x s (changes_from s (actions_of i e.granted))) (sym h) k
 
     came : (fs : List Change) (r : Row) → row_of (apply_all fs s).rows x ≡ Some r → (row_of s.rows x ≡ Some r) ⊎ Has (Heard r.update) fs
@@ -493,7 +493,7 @@ step-silent n x base log e silent known now = by_judgement (judge s e.event) ref
         by_row None k = absurd (false≢true (sym (ap is_eligible_row k) ∙ now))
         by_row (Some r) k = with_row r k
 
-    by_judgement : (j : Judgement) → judge s e.event ≡ j → StepSilent n x s (step_news s e.event e.granted)
+    by_judgement : (j : Judged) → judge s e.event ≡ j → StepSilent n x s (step_news s e.event e.granted)
     by_judgement (judged.Note m) h = to (judged.Note m) h (quiet (Take m ∷ []) (tt, tt) (tt, tt))
     by_judgement (judged.Tick deal) h = to (judged.Tick deal) h (ticked deal)
     by_judgement (judged.Datagram p own) h = to (judged.Datagram p own) h (received p own (silent p own h))

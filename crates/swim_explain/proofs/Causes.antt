@@ -14,8 +14,8 @@ use Rattle.swim_rules.specs.declared.table.Row.{Row}
 use Rattle.swim_rules.specs.Rows.{heard_as, row_of}
 use Rattle.swim_rules.proofs.Hearing.{about-row_of}
 use Rattle.swim_member.specs.declared.answer.Out.{Out}
-use Rattle.swim_member.specs.declared.judge.Judgement.{Judgement}
-use Rattle.swim_member.specs.declared.judge.Judgement.TheVariants as judged
+use Rattle.swim_member.specs.Judged.{Judged}
+use Rattle.swim_member.specs.Judged as judged
 use Rattle.swim_member.specs.declared.own_number.OwnNumber.{OwnNumber}
 use Rattle.swim_member.specs.declared.settings.Settings.{Settings}
 use Rattle.swim_member.specs.declared.state.Phase.{Phase}
@@ -244,7 +244,7 @@ named-tick base before e x deal low f =
 
 -- Any call
 
-named-met : (base : State) (before : List Step) (e : Step) (x : ℕ) → 1 ≤ base.settings.period → (j : Judgement) → judge (state_of base before) e.event ≡ j → Named base before e x (met (state_of base before).settings x (view_of (state_of base before) x) (view_of (state_of base (before ++ e ∷ [])) x) j)
+named-met : (base : State) (before : List Step) (e : Step) (x : ℕ) → 1 ≤ base.settings.period → (j : Judged) → judge (state_of base before) e.event ≡ j → Named base before e x (met (state_of base before).settings x (view_of (state_of base before) x) (view_of (state_of base (before ++ e ∷ [])) x) j)
 named-met base before e x low (judged.Datagram p own) f = named-datagram base before e x (state_of base before).settings (view_of (state_of base before) x) (view_of (state_of base (before ++ e ∷ [])) x) p own f
 named-met base before e x low (judged.Tick deal) f = named-tick base before e x deal low f
 named-met base before e x low (judged.Note n) f = tt {0}
@@ -258,7 +258,7 @@ names-causes base before e x sound =
     let s : State = state_of base before in
     let v : View = view_of s x in
     let w : View = view_of (state_of base (before ++ step_of e ∷ [])) x in
-    let j : Judgement = judge s e.event in
+    let j : Judged = judge s e.event in
     let low : 1 ≤ base.settings.period = (let l : 2 ≤ base.settings.period = sound.period_low in omega arith) in
     all-append (IsCause base before (step_of e) x) (met s.settings x v w j ++ itself x s.settings.me v w) (sent x (purpose_of j) e.outs.items e.outcomes.items)
     (all-append (IsCause base before (step_of e) x) (met s.settings x v w j) (itself x s.settings.me v w)
@@ -352,8 +352,8 @@ none-out base before e x r sound i n k = elim (row-step x r base before (step_of
     who : r.update.who ≡ x
     who = about-row_of (state_of base (before ++ step_of e ∷ [])).rows x r i
 
-    by : (j : Judgement) → judge s e.event ≡ j → AreTold x r.update (met s.settings x v w j) → AreTold x r.update (met s.settings x v w (judge s e.event))
-    by j g t = subst (λ (q : Judgement). AreTold x r.update (met s.settings x v w q)) (sym g) t
+    by : (j : Judged) → judge s e.event ≡ j → AreTold x r.update (met s.settings x v w j) → AreTold x r.update (met s.settings x v w (judge s e.event))
+    by j g t = subst (λ (q : Judged). AreTold x r.update (met s.settings x v w q)) (sym g) t
 
     due : (deal : List ℕ) → CameFrom (apply Ticked s) r.update → AreTold x r.update (by_tick s.settings x v w)
     due deal c =

@@ -16,8 +16,8 @@ use Rattle.swim_rules.specs.declared.table.Row.{Row}
 use Rattle.swim_member.specs.Checks.{rules_of}
 use Rattle.swim_member.specs.State.{State}
 use Rattle.swim_member.specs.declared.answer.Out.{Out}
-use Rattle.swim_member.specs.declared.judge.Judgement.{Judgement}
-use Rattle.swim_member.specs.declared.judge.Judgement.TheVariants as judged
+use Rattle.swim_member.specs.Judged.{Judged}
+use Rattle.swim_member.specs.Judged as judged
 use Rattle.swim_member.specs.declared.settings.Settings.{Settings}
 use Rattle.swim_member.specs.declared.state.Phase.{Phase}
 use Rattle.swim_member.specs.declared.state.Phase.TheVariants.{Running, Left, Expelled}
@@ -126,7 +126,7 @@ by_tick settings x v w =
 -- Of any call
 
 -- what the call was told, and what time did
-abbrev pub met : Settings → ℕ → View → View → Judgement → List Fact
+abbrev pub met : Settings → ℕ → View → View → Judged → List Fact
 met settings x v w (judged.Datagram p own) = by_datagram settings x v w p
 met settings x v w (judged.Tick deal) = by_tick settings x v w
 met settings x v w _ = []
@@ -149,7 +149,7 @@ itself x me v w =
     else []
 
 -- for what a call pings
-abbrev pub purpose_of : Judgement → Purpose
+abbrev pub purpose_of : Judged → Purpose
 purpose_of (judged.Datagram p own) = purpose.Relay p.sender
 purpose_of judged.Leave = purpose.Leave
 purpose_of _ = purpose.Probe
@@ -171,7 +171,7 @@ sent x why (out ∷ outs) (o ∷ outcomes) =
     sent_about x why out.datagram.kind out o ++ sent x why outs outcomes
 
 -- all that a call says of x, between these views
-abbrev pub facts : Settings → ℕ → Judgement → View → View → Entry → List Fact
+abbrev pub facts : Settings → ℕ → Judged → View → View → Entry → List Fact
 facts settings x j v w e =
     met settings x v w j ++ itself x settings.me v w
     ++ sent x (purpose_of j) e.outs.items e.outcomes.items

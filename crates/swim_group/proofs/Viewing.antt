@@ -16,8 +16,8 @@ use Rattle.swim_rules.specs.Rows.{AreInOrder, row_of, put_row, remove_row, heard
 use Rattle.swim_rules.proofs.Order.{beats-trans}
 use Rattle.swim_rules.proofs.Tables.{row_of-put, row_of-remove}
 use Rattle.swim_rules.proofs.Changes.{found_here}
-use Rattle.swim_member.specs.declared.judge.Judgement.{Judgement}
-use Rattle.swim_member.specs.declared.judge.Judgement.TheVariants as judged
+use Rattle.swim_member.specs.Judged.{Judged}
+use Rattle.swim_member.specs.Judged as judged
 use Rattle.swim_member.specs.declared.state.Probe.{Probe}
 use Rattle.swim_member.specs.declared.settings.Settings.{Settings}
 use Rattle.swim_member.specs.Checks.{rules_of}
@@ -336,7 +336,7 @@ module _ (x : ℕ) where
       (subst (λ o. Goes_by (Unit {0}) ⊥ (rules_of base.settings) o (row_of (state base (changes_by base last (Blame ∷ Probe_next deal ∷ each_from 0 8 (λ k. Ask k)) ++ last)).rows x)) j
       (goes-actions (Unit {0}) ⊥ x (λ c g. g) base last (Blame ∷ Probe_next deal ∷ each_from 0 8 (λ k. Ask k)) (late-allowed deal)))))
 
-  rises-judged : (base : State) (log : List Change) (j : Judgement) (granted : ℕ) → RisesOrGoes (rules_of base.settings) (row_of (state base log).rows x) (row_of (state base (changes_by base log (actions_of j granted) ++ log)).rows x)
+  rises-judged : (base : State) (log : List Change) (j : Judged) (granted : ℕ) → RisesOrGoes (rules_of base.settings) (row_of (state base log).rows x) (row_of (state base (changes_by base log (actions_of j granted) ++ log)).rows x)
   rises-judged base log j granted = by_judgement j
     where
       other : (ms : List Action) → AllByRecursion (IsAllowed (Unit {0}) ⊥) ms → RisesOrGoes (rules_of base.settings) (row_of (state base log).rows x) (row_of (state base (changes_by base log ms ++ log)).rows x)
@@ -346,7 +346,7 @@ module _ (x : ℕ) where
       all-told [] = tt {0}
       all-told (u ∷ us) = (tt {0}, all-told us)
 
-      by_judgement : (j : Judgement) → RisesOrGoes (rules_of base.settings) (row_of (state base log).rows x) (row_of (state base (changes_by base log (actions_of j granted) ++ log)).rows x)
+      by_judgement : (j : Judged) → RisesOrGoes (rules_of base.settings) (row_of (state base log).rows x) (row_of (state base (changes_by base log (actions_of j granted) ++ log)).rows x)
       by_judgement (judged.Note n) = other (actions_of (judged.Note n) granted) (tt {0}, tt {0})
       by_judgement (judged.Tick deal) =
           waned (rules_of base.settings) (row_of (state base log).rows x) (row_of (state base (changes_by base log (tick_actions deal) ++ log)).rows x)

@@ -18,7 +18,7 @@ use Rattle.swim_member.specs.declared.own_number.Suspicion.{Suspicion}
 use Rattle.swim_member.specs.declared.own_number.Suspicion.TheVariants as suspicion
 use Rattle.swim_member.specs.declared.state.Probe.{Probe}
 use Rattle.swim_member.specs.Checks.{rules_of}
-use Rattle.swim_member.specs.State.{State, Change, Heard, Forgot, Passed}
+use Rattle.swim_member.specs.State.{State, Change, Heard, Forgot}
 use Rattle.swim_member.specs.Readings.{state, told_to_table}
 use Rattle.swim_member.specs.Hearing.{hear_other, heard_with}
 use Rattle.swim_member.specs.OwnNumber.{hear_own, note_of, suspicion_of}

@@ -36,8 +36,8 @@ use Rattle.swim_member.specs.declared.own_number.OwnNumber.{OwnNumber}
 use Rattle.swim_member.specs.declared.own_number.OwnNumber.TheVariants.{Stays, Wanted, Confirmed}
 use Rattle.swim_member.specs.declared.own_number.Suspicion.{Suspicion}
 use Rattle.swim_member.specs.declared.own_number.Suspicion.TheVariants.{Passed, Leap, Last, Refutable}
-use Rattle.swim_member.specs.declared.judge.Judgement.{Judgement}
-use Rattle.swim_member.specs.declared.judge.Judgement.TheVariants as judged
+use Rattle.swim_member.specs.Judged.{Judged}
+use Rattle.swim_member.specs.Judged as judged
 use Rattle.swim_member.specs.Judge.{number_wanted, MayAct, judge_stopped, judge_read, judge_bytes, judge_running, judge_in, refusal_of}
 use Rattle.std.specs.Prelude.{IfSome}
 use Rattle.swim_member.specs.OwnNumber.{note_of, suspicion_of, wanted_number}
@@ -306,6 +306,10 @@ page-ticked s n k deal =
 pub page-left : (s : State) (n : ℕ) → page (changes_from s (Depart ∷ each_from 0 n (λ j. Bye j))) ≡ []
 page-left s n = no-page (changes_from s (Depart ∷ each_from 0 n (λ j. Bye j))) (news-no Shown s (Depart ∷ each_from 0 n (λ j. Bye j)) (tt, quiet-each Shown (λ j. Bye j) (λ j e. cc) n 0))
 
+-- nor does a join
+pub page-joined : (s : State) (peer : ℕ) → page (changes_from s (Join_peer peer ∷ [])) ≡ []
+page-joined s peer = no-page (changes_from s (Join_peer peer ∷ [])) (news-no Shown s (Join_peer peer ∷ []) (tt, tt))
+
 -- an answer of these parts
 pub answer-parts : (a : Answer) (s : State) (ms : List Action) → a.outs.items ≡ outs_by s ms → a.notes.items ≡ notes_by s ms → a.page.items ≡ page (changes_from s ms) → a ≡ answer_by s ms
 answer-parts a s ms p q r =
@@ -348,7 +352,7 @@ number-ticked s n k deal =
     number-quiet s (Advance ∷ replicate n Expire ++ replicate k Forget ++ Blame ∷ Probe_next deal ∷ each_from 0 8 (λ j. Ask j)) (quiet-ticked Raised (λ e. cc) ((λ e. cc), (λ e. cc)) n k deal)
 
 -- the own number after an event, as it was judged
-pub number-judged : (s : State) (j : Judgement) (granted : ℕ) → (after s (actions_of j granted)).number ≡ number_after (number_wanted j) granted s.number
+pub number-judged : (s : State) (j : Judged) (granted : ℕ) → (after s (actions_of j granted)).number ≡ number_after (number_wanted j) granted s.number
 number-judged s (judged.Note n) granted = refl
 number-judged s (judged.Tick deal) granted = number-ticked s 256 256 deal
 number-judged s (judged.Datagram p own) granted = number-received s p own granted
@@ -365,7 +369,7 @@ raised n g (Some w) h = at (nat_le w g) h.0
     at false l = omega arith
 
 -- it does not fall
-pub number-grown : (s : State) (j : Judgement) (g : ℕ) → MayAct s j → s.number ≤ number_after (number_wanted j) g s.number
+pub number-grown : (s : State) (j : Judged) (g : ℕ) → MayAct s j → s.number ≤ number_after (number_wanted j) g s.number
 number-grown s (judged.Datagram p own) g h = raised s.number g (wanted_number own) h.1
 number-grown s _ g h = omega arith
 

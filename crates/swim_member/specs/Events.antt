@@ -7,6 +7,7 @@ use Rattle.swim_member.specs.Expiry.{expire_first, forget_first}
 use Rattle.swim_member.specs.Hearing.{hear_other}
 use Rattle.swim_member.specs.Join.{page_after, join_to}
 use Rattle.swim_member.specs.Judge.{judge}
+use Rattle.swim_member.specs.Judged.{Judged}
 use Rattle.swim_member.specs.Leave.{bye}
 use Rattle.swim_member.specs.Member.{eligible}
 use Rattle.swim_member.specs.OwnNumber.{own_with, hear_own, settle_number}
@@ -19,7 +20,6 @@ use Rattle.swim_member.specs.declared.answer.Answer.{Answer}
 use Rattle.swim_member.specs.declared.answer.Out.{Out}
 use Rattle.swim_member.specs.declared.event.Event.{Event}
 use Rattle.swim_member.specs.declared.event.Event.TheVariants.{Tick}
-use Rattle.swim_member.specs.declared.judge.Judgement.{Judgement}
 use Rattle.swim_member.specs.declared.leave.TheConstants.{BYES_MAX}
 use Rattle.swim_member.specs.declared.note.Note.{Note}
 use Rattle.swim_member.specs.declared.own_number.OwnNumber.{OwnNumber}
@@ -31,7 +31,7 @@ use Rattle.swim_rules.specs.declared.table.TheConstants.{ROWS_MAX}
 use Rattle.swim_wire.specs.declared.datagram.Datagram.{Datagram}
 use Rattle.swim_wire.specs.declared.update.Update.{Update}
 use Rattle.swim_wire.specs.declared.update.UpdateKind.TheVariants.{Suspect, Confirm}
-use Rattle.swim_member.specs.declared.judge.Judgement.TheVariants as judged
+use Rattle.swim_member.specs.Judged as judged
 use Rattle.swim_member.specs.declared.note.Note.TheVariants as note
 
 -- Actions
@@ -100,7 +100,7 @@ abbrev pub leave_actions : List Action
 leave_actions = Depart ∷ each_from 0 BYES_MAX (λ k. Bye k)
 
 -- what is done at an event as it was judged, with the ceiling that was granted
-abbrev pub actions_of : Judgement → ℕ → List Action
+abbrev pub actions_of : Judged → ℕ → List Action
 actions_of (judged.Note n) granted = Take n ∷ []
 actions_of (judged.Tick deal) granted = tick_actions deal
 actions_of (judged.Datagram p own) granted = datagram_actions p own granted

@@ -13,6 +13,7 @@ pub mod Join
 pub mod Reply
 pub mod Expiry
 pub mod Leave
+pub mod Judged
 pub mod Judge
 pub mod Events
 pub mod Looks

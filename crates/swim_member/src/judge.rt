@@ -1,13 +1,15 @@
 //! Judging: what a member makes of an event before it acts. Bytes are decoded here and nowhere else, and what an event
 //! wants is found here, so that it can be saved before the member acts.
 
-ghost use Rattle.std.specs.Prelude.{◌≡◌, ◌≤◌, ◌^◌, Ok, IfSome, IfOk, IfErr};
+ghost use Rattle.std.specs.Prelude.{◌≡◌, ◌≤◌, IfSome, IfOk, IfErr};
+ghost use Rattle.swim_wire.specs.declared.datagram.Datagram.{Datagram as Datagrams};
 ghost use Rattle.swim_wire.specs.declared.update.TheConstants.{NUMBER_MAX};
-ghost use Rattle.swim_wire.specs.Spelling.{HasText};
 ghost use Rattle.swim_wire.specs.Decoding.{decoded};
+ghost use Rattle.swim_member.specs.declared.event.Event.{Event as Events};
 ghost use Rattle.swim_member.specs.Judge.{refusal_of, judge_bytes, judge_stopped, judge, number_wanted, wanted, MayAct, HasDeal};
+ghost use Rattle.swim_member.specs.Judged.{judged_as};
+ghost use Rattle.swim_member.specs.Judged as judged;
 
-use crate::deal::Deal;
 use crate::event::Event;
 use crate::member::Member;
 use crate::note::Note;
@@ -16,20 +18,16 @@ use crate::state::Phase;
 use crate::tick::LAST_TIME;
 use swim_wire::{Cursor, Datagram, Endpoint, decode_into};
 
-/// What a member makes of an event before it acts on it.
-#[derive(Drop)]
+/// What a member makes of an event before it acts on it. What is large stays where it is: the deal of a tick in the event,
+/// and a datagram in the place that was lent to read it into.
+#[derive(Clone, Copy)]
 pub enum Judgement {
     /// Nothing is done but to take this note.
     Note(Note),
     /// Time goes on.
-    Tick {
-        /// The order of the members where a new turn list is made.
-        deal: Deal,
-    },
-    /// A datagram is accepted.
+    Tick,
+    /// The datagram that was read is accepted.
     Datagram {
-        /// What was received.
-        datagram: Datagram,
         /// What its updates ask of the own number.
         own: OwnNumber,
     },
@@ -50,10 +48,12 @@ pub enum Judgement {
 impl Judgement {
     /// The number that the event wants for the member, or none: at most `NUMBER_MAX`.
     pub fn wanted(&self) -> Option<u64>
-        ensures { result ≡ number_wanted self.now }
+        // whatever event was so judged, and whatever was read
+        ensures { (event : Events) → (read : Datagrams)
+            → number_wanted (judged_as event read self.now) ≡ result }
     {
         match self {
-            Judgement::Datagram { datagram: _, own } => own.wanted(),
+            Judgement::Datagram { own } => own.wanted(),
             _ => None,
         }
     }
@@ -79,7 +79,8 @@ impl Member {
 
     /// Judges an event of a member that takes no part: it shows its members, and notes everything else.
     fn judge_stopped(event: &Event) -> Judgement
-        ensures { result ≡ judge_stopped event.now }
+        ensures { (read : Datagrams)
+            → judged_as event.now read result ≡ judge_stopped event.now }
     {
         match event {
             Event::Members { after } => Judgement::Members { after: *after },
@@ -89,17 +90,12 @@ impl Member {
 
     /// Judges received bytes, and reads the datagram that they spell into a place. Gives what it asks of the own number, or
     /// why it is not accepted.
-    pub(crate) fn read(
-        &self,
-        from: Endpoint,
-        bytes: &[u8],
-        place: &mut Datagram,
-    ) -> Result<OwnNumber, Note>
+    fn read(&self, from: Endpoint, bytes: &[u8], place: &mut Datagram) -> Result<OwnNumber, Note>
         ensures accepted { IfOk result (λ own. judge_bytes self.now from (decoded bytes.now)
-            ≡ Judgement.Datagram place.new own) }
+            ≡ judged.Datagram place.new own) }
         ensures refused { IfErr result (λ note. judge_bytes self.now from (decoded bytes.now)
-            ≡ Judgement.Note note) }
-        ensures sound { IfOk result (λ own. MayAct self.now (Judgement.Datagram place.new own)) }
+            ≡ judged.Note note) }
+        ensures sound { IfOk result (λ own. MayAct self.now (judged.Datagram place.new own)) }
     {
         if let Err(fault) = decode_into(bytes, place) {
             return Err(Note::BadDatagram(fault));
@@ -110,23 +106,12 @@ impl Member {
         Ok(self.own_number_by(&place.updates))
     }
 
-    /// Judges received bytes.
-    fn judge_bytes(&self, from: Endpoint, bytes: &[u8]) -> Judgement
-        ensures value { result ≡ judge_bytes self.now from (decoded bytes.now) }
-        ensures sound { MayAct self.now result }
-    {
-        let mut datagram = Datagram::default();
-        match self.read(from, bytes, &mut datagram) {
-            Ok(own) => Judgement::Datagram { datagram, own },
-            Err(note) => Judgement::Note(note),
-        }
-    }
-
-    /// Judges an event before the member acts on it: what it wants may be saved first.
-    pub fn judge(&self, event: &Event) -> Judgement
-        ensures value { result ≡ judge self.now event.now }
-        ensures sound { MayAct self.now result }
-        ensures bound { IfSome (number_wanted result) (λ n. n ≤ NUMBER_MAX) }
+    /// Judges an event before the member acts on it: what it wants may be saved first. A datagram is read into the place
+    /// that is lent, where the act finds it.
+    pub fn judge(&self, event: &Event, read: &mut Datagram) -> Judgement
+        ensures value { judged_as event.now read.new result ≡ judge self.now event.now }
+        ensures sound { MayAct self.now (judged_as event.now read.new result) }
+        ensures bound { IfSome (wanted self.now event.now) (λ n. n ≤ NUMBER_MAX) }
         ensures deal { HasDeal event.now }
     {
         if let Event::Tick { deal } = event {
@@ -137,9 +122,11 @@ impl Member {
         }
         match event {
             Event::Tick { deal: _ } if self.time == LAST_TIME => Judgement::Note(Note::TimeOver),
-            Event::Tick { deal } => Judgement::Tick { deal: *deal },
-            // as a value of the match it would be moved once more
-            Event::Datagram { from, bytes } => return self.judge_bytes(*from, bytes),
+            Event::Tick { deal: _ } => Judgement::Tick,
+            Event::Datagram { from, bytes } => match self.read(*from, bytes, read) {
+                Ok(own) => Judgement::Datagram { own },
+                Err(note) => Judgement::Note(note),
+            },
             Event::ReceiveFailed => Judgement::Note(Note::ReceiveFailed),
             Event::SendFailed { count } => Judgement::Note(Note::SendFailed(*count)),
             Event::Join { peer } => Judgement::Join { peer: *peer },
@@ -154,6 +141,6 @@ impl Member {
         ensures value { result ≡ wanted self.now event.now }
         ensures bound { IfSome result (λ n. n ≤ NUMBER_MAX) }
     {
-        self.judge(event).wanted()
+        self.judge(event, &mut Datagram::default()).wanted()
     }
 }

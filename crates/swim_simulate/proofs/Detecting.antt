@@ -7,7 +7,7 @@ use Rattle.swim_wire.specs.declared.update.UpdateKind.TheVariants.{Alive, Suspec
 use Rattle.swim_rules.specs.declared.table.Row.{Row}
 use Rattle.swim_rules.specs.Rows.{row_of, is_kind, is_due, confirm_of}
 use Rattle.swim_rules.proofs.Hearing.{about-row_of}
-use Rattle.swim_member.specs.declared.judge.Judgement.TheVariants as judged
+use Rattle.swim_member.specs.Judged as judged
 use Rattle.swim_member.specs.declared.own_number.OwnNumber.{OwnNumber}
 use Rattle.swim_member.specs.declared.settings.Settings.{Settings}
 use Rattle.swim_member.specs.declared.state.Probe.{Probe}
