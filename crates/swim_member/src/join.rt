@@ -117,6 +117,7 @@ impl Member {
     }
 
     /// Takes the wish to join by a member: it is asked for its first page.
+    #[inline(never)]
     pub(crate) fn start_join(&mut self, peer: Endpoint, answer: &mut Answer)
         requires { HasRoom answer.old }
         ensures state { self.new ≡ after self.old (Join_peer peer ∷ []) }

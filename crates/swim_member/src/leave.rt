@@ -57,6 +57,7 @@ impl Member {
     }
 
     /// Leaves the group.
+    #[inline(never)]
     pub(crate) fn leave(&mut self, answer: &mut Answer)
         requires { answer.old ≡ no_answer }
         ensures state { self.new ≡ after self.old leave_actions }

@@ -16,6 +16,7 @@ use swim_wire::Datagram;
 impl Member {
     /// Takes a datagram that is accepted: hears its updates, settles the own number, and does what
     /// its kind asks for.
+    #[inline(never)]
     pub(crate) fn receive(
         &mut self,
         datagram: &Datagram,

@@ -21,6 +21,7 @@ use swim_wire::{Cursor, Datagram};
 
 impl Member {
     /// Shows the members after a cursor.
+    #[inline(never)]
     fn show(&self, cursor: Cursor, answer: &mut Answer)
         requires { answer.old ≡ no_answer }
         ensures { answer.new ≡ answer_by self.now (Show cursor ∷ []) }
@@ -28,7 +29,8 @@ impl Member {
         answer.page = self.page_after(cursor);
     }
 
-    /// Does what was judged of an event, whose datagram was read into a place.
+    /// Does what was judged of an event, whose datagram was read into a place. All but a tick is called: inlined, it would
+    /// take room and registers from each of them.
     fn obey(
         &mut self,
         event: &Event,
