@@ -16,6 +16,7 @@ use arrayvec::ArrayVec;
 use swim_disk::Disk;
 use swim_member::{Answer, Event, Member, OUTS_MAX};
 use swim_state::Store;
+use swim_wire::Datagram;
 
 /// What a call did, beside what the member answered.
 #[derive(Drop)]
@@ -26,32 +27,11 @@ pub(crate) struct Done {
 }
 
 /// Judges an event, saves what it wants, and acts with the ceiling that stands.
-fn step_judged<D: Disk>(
-    member: &mut Member,
-    store: &mut Store<D>,
-    event: &Event,
-    answer: &mut Answer,
-) -> Save
-    requires low { member.old.number ≤ store.old.ceiling }
-    requires nothing { answer.old ≡ no_answer }
-    ensures saved { Saved D.keeps_model D.state member.old.settings.block
-        (known_peers member.old) (wanted member.old event.now) result store.old store.new }
-    ensures steps { Steps member.old member.new event.now store.new.ceiling answer.new }
-    ensures deal { HasDeal event.now }
-    ensures texts { All (λ out. HasText out.datagram) answer.new.outs.items }
-{
-    let judged = member.judge(event);
-    let save = save(store, member, judged.wanted());
-    member.act(&judged, store.ceiling(), answer);
-    save
-}
-
-/// Saves what an event wants, and steps with the ceiling that stands. A tick wants no number, and goes without a
-/// judgement, which has room for a datagram.
 fn step<D: Disk>(
     member: &mut Member,
     store: &mut Store<D>,
     event: &Event,
+    read: &mut Datagram,
     answer: &mut Answer,
 ) -> Save
     requires low { member.old.number ≤ store.old.ceiling }
@@ -62,21 +42,20 @@ fn step<D: Disk>(
     ensures deal { HasDeal event.now }
     ensures texts { All (λ out. HasText out.datagram) answer.new.outs.items }
 {
-    if let Event::Tick { deal: _ } = event {
-        let save = save(store, member, None);
-        member.step_into(event, store.ceiling(), answer);
-        return save;
-    }
-    step_judged(member, store, event, answer)
+    let judged = member.judge(event, read);
+    let save = save(store, member, judged.wanted());
+    member.act(event, judged, read, store.ceiling(), answer);
+    save
 }
 
-/// Judges an event, saves what it wants, acts with the ceiling that stands, and sends. The answer is what the member
-/// says, and nothing of what stood there before.
+/// Judges an event, saves what it wants, acts with the ceiling that stands, and sends. A datagram is read into the place
+/// that is lent for it. The answer is what the member says, and nothing of what stood there before.
 pub(crate) fn enter<D: Disk, L: Link>(
     member: &mut Member,
     store: &mut Store<D>,
     link: &mut L,
     event: &Event,
+    read: &mut Datagram,
     answer: &mut Answer,
 ) -> Done
     requires low { member.old.number ≤ store.old.ceiling }
@@ -91,7 +70,7 @@ pub(crate) fn enter<D: Disk, L: Link>(
         (L.failures link.new) answer.new.outs.items result.outcomes.items }
 {
     answer.clear();
-    let save = step(member, store, event, answer);
+    let save = step(member, store, event, read, answer);
     let outcomes = send_all(link, &answer.outs);
     Done {
         granted: store.ceiling(),

@@ -30,7 +30,7 @@ use std::mem;
 use swim_disk::Disk;
 use swim_member::{Answer, Event, Member};
 use swim_state::{Peers, SaveFault, Store};
-use swim_wire::NUMBER_MAX;
+use swim_wire::{Datagram, NUMBER_MAX};
 
 /// A member with its state file and its journal.
 #[derive(Drop)]
@@ -41,6 +41,8 @@ pub struct Node<D: Disk> {
     pub(crate) store: Store<D>,
     pub(crate) first: u64,
     pub(crate) most: Option<u64>,
+    /// The datagram of the next call, where it is one. It stays where it is, as it is large.
+    pub(crate) read: Datagram,
     /// What the member says at the next call. It stays where it is, as it is large.
     pub(crate) answer: Answer,
 }
@@ -224,6 +226,7 @@ impl<D: Disk> Node<D> {
             store,
             first: _,
             most: _,
+            read: _,
             answer: _,
         } = self;
         store.into_disk()
@@ -456,6 +459,7 @@ impl<D: Disk> Node<D> {
             &mut self.store,
             link,
             &event,
+            &mut self.read,
             &mut self.answer,
         );
         self.most = greatest_own(&self.answer.outs, self.member.settings().me, self.most);

@@ -22,6 +22,7 @@ use std::alloc::Global;
 use swim_disk::Disk;
 use swim_member::{Answer, Member, Settings};
 use swim_state::{Owner, recover};
+use swim_wire::Datagram;
 
 /// The most entries that an era may have.
 pub const LIMIT_MAX: u32 = 65_536;
@@ -138,6 +139,7 @@ impl<D: Disk> Node<D> {
                     store,
                     first,
                     most: None,
+                    read: Datagram::default(),
                     answer: Answer::nothing(),
                 })
             }

@@ -27,7 +27,7 @@ use arrayvec::ArrayVec;
 use std::alloc::Global;
 use std::marker::Model;
 use swim_member::{Answer, Event, Member, OUTS_MAX};
-use swim_wire::copied;
+use swim_wire::{Datagram, copied};
 
 /// Of an entry all that the member did not make.
 #[derive(Drop)]
@@ -64,6 +64,8 @@ pub struct Replay {
     member: Member,
     granted: u64,
     most: Option<u64>,
+    /// The datagram of the next call, where it is one. It stays where it is, as it is large.
+    read: Datagram,
     /// What the member says at the next call. It stays where it is, as it is large.
     answer: Answer,
 }
@@ -127,9 +129,15 @@ fn fates(told: &[Outcome], count: usize) -> ArrayVec<Outcome, OUTS_MAX>
     outcomes
 }
 
-/// Judges an event and acts with the ceiling that stood. The answer is what the member says, and nothing of what stood
-/// there before.
-fn enter_again(member: &mut Member, ceiling: u64, cause: &Cause, answer: &mut Answer) -> Done
+/// Judges an event and acts with the ceiling that stood. A datagram is read into the place that is lent for it. The answer
+/// is what the member says, and nothing of what stood there before.
+fn enter_again(
+    member: &mut Member,
+    ceiling: u64,
+    cause: &Cause,
+    read: &mut Datagram,
+    answer: &mut Answer,
+) -> Done
     requires low { member.old.number ≤ ceiling }
     ensures saves { Saves (wanted member.old cause.now.event) ceiling result.save result.granted }
     ensures grows { ceiling ≤ result.granted }
@@ -145,9 +153,9 @@ fn enter_again(member: &mut Member, ceiling: u64, cause: &Cause, answer: &mut An
         ≡ take (length answer.new.outs.items) cause.now.outcomes.items }
 {
     answer.clear();
-    let judged = member.judge(&cause.event);
+    let judged = member.judge(&cause.event, read);
     let (save, granted) = settled(judged.wanted(), ceiling, cause.granted);
-    member.act(&judged, granted, answer);
+    member.act(&cause.event, judged, read, granted, answer);
     let outcomes = fates(&cause.outcomes, answer.outs.len());
     Done {
         granted,
@@ -190,6 +198,7 @@ impl Replay {
             member,
             granted,
             most: past,
+            read: Datagram::default(),
             answer: Answer::nothing(),
         })
     }
@@ -255,7 +264,13 @@ impl Replay {
         if self.journal.reserve().is_err() {
             return Err(ApplyFault::NoMemory);
         }
-        let done = enter_again(&mut self.member, self.granted, &cause, &mut self.answer);
+        let done = enter_again(
+            &mut self.member,
+            self.granted,
+            &cause,
+            &mut self.read,
+            &mut self.answer,
+        );
         self.granted = done.granted;
         self.most = greatest_own(&self.answer.outs, self.member.settings().me, self.most);
         let status = status_now(&self.member, self.journal.entries().len() + 1);
