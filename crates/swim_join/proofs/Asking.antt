@@ -18,7 +18,9 @@ use Rattle.swim_shell.specs.Calls.{CallerView, events_of, NewCall, Refuses}
 use Rattle.swim_join.specs.Joins.{JoinerView, IsNext, IsPeer, IsEligibleIn, IsDrawnFrom, IsAsked, AreAsked, Asks, AsksInVain, pages_of, AreWhole, AreFull, AreConsecutive, AreAllPages, AreLooks, Looks, LooksAll, LooksInVain, ReadsPage, place_after}
 use Rattle.swim_join.specs.declared.intervals.Moment.{Moment}
 use Rattle.swim_join.specs.Turns.{JoinsIf, JoinsPeer, LooksRound, TellsDue, after_look, joined_drawn, joined_drawn_by}
-use Rattle.swim_shell.proofs.News.{assoc, events_of-append, no_gain, more_gains}
+use Rattle.swim_shell.proofs.News.{events_of-append, no_gain, more_gains}
+use Rattle.swim_news.proofs.Order.{from-left}
+use Rattle.std.proofs.lemmas.List.{append_assoc}
 
 -- Rows.
 
@@ -50,7 +52,7 @@ eligible_added old rows new page i row false so_far more same next x is = elim (
 
 asked_append : (j : JoinerView) (rows : List Update) (es fs : List Entry) → AreAsked j rows es → AreAsked j (rows ++ pages_of es) fs → AreAsked j rows (es ++ fs)
 asked_append j rows [] fs a b = subst (λ w. AreAsked j w fs) (append-nil rows) b
-asked_append j rows (e ∷ es) fs a b = (a.0, asked_append j (rows ++ e.reply.page.items) es fs a.1 (subst (λ w. AreAsked j w fs) (sym (assoc rows e.reply.page.items (pages_of es))) b))
+asked_append j rows (e ∷ es) fs a b = (a.0, asked_append j (rows ++ e.reply.page.items) es fs a.1 (subst (λ w. AreAsked j w fs) (sym (append_assoc rows e.reply.page.items (pages_of es))) b))
 
 looks_asked : (j : JoinerView) (rows : List Update) (es : List Entry) → AreLooks es → AreAsked j rows es
 looks_asked j rows [] l = tt
@@ -108,7 +110,7 @@ look_joins : (j : JoinerView) (p q r : CallerView) (rows : List Update) (x : ℕ
 look_joins j p q r rows x reply l known n = record {
   entries = l.entries ++ n.entry ∷ [];
   gains = more_gains p q r l.entries (n.entry ∷ []) l.gains n.gains;
-  asked = n.asked ∙ (ap (λ w. w ++ Join x ∷ []) l.asked ∙ (assoc p.asked (events_of l.entries) (Join x ∷ []) ∙ ap (λ w. p.asked ++ w) (ap (λ e. events_of l.entries ++ e ∷ []) (sym n.event_is) ∙ sym (events_of-append l.entries (n.entry ∷ [])))));
+  asked = n.asked ∙ (ap (λ w. w ++ Join x ∷ []) l.asked ∙ (append_assoc p.asked (events_of l.entries) (Join x ∷ []) ∙ ap (λ w. p.asked ++ w) (ap (λ e. events_of l.entries ++ e ∷ []) (sym n.event_is) ∙ sym (events_of-append l.entries (n.entry ∷ [])))));
   are_asked = asked_append j j.looked l.entries (n.entry ∷ []) (looks_asked j j.looked l.entries l.looks) (subst (λ w. IsAsked j (j.looked ++ pages_of l.entries) w) (sym n.event_is) (shown j p q rows x l known), tt);
 }
 
@@ -172,17 +174,13 @@ in_vain_same (Err why) limit j k p q s a = in_vain_of limit why j k p q s a
 
 -- Pages.
 
-from-left : (x : ℕ) (rows more : List Update) → AreFrom x (rows ++ more) → AreFrom x rows
-from-left x [] more all = tt
-from-left x (r ∷ rows) more all = (all.0, from-left (r.who + 1) rows more all.1)
-
 whole-left : (rows more : List Update) → AreWhole (rows ++ more) → AreWhole rows
 whole-left rows more all = (from-left 0 rows more all.0, let most = all.1 in omega (arith, simp length-append at most))
 
 -- a row of a page that is in order was added
 pub all_added : (old rows new page : List Update) (i : ℕ) (row : Update) (added : Bool) → (AreWhole (old ++ take i page) → rows ≡ old ++ take i page) → (IsTrue added → new ≡ rows ++ row ∷ []) → IsTrue added ↔ AreFrom 0 (rows ++ row ∷ []) × (length rows < MEMBERS_MAX) → take (i + 1) page ≡ take i page ++ row ∷ [] → AreWhole (old ++ take (i + 1) page) → new ≡ old ++ take (i + 1) page
 all_added old rows new page i row added so_far more fits next whole =
-    let grown : old ++ take (i + 1) page ≡ (old ++ take i page) ++ row ∷ [] = ap (λ w. old ++ w) next ∙ sym (assoc old (take i page) (row ∷ [])) in
+    let grown : old ++ take (i + 1) page ≡ (old ++ take i page) ++ row ∷ [] = ap (λ w. old ++ w) next ∙ sym (append_assoc old (take i page) (row ∷ [])) in
     let all : AreWhole ((old ++ take i page) ++ row ∷ []) = subst AreWhole grown whole in
     let same : rows ≡ old ++ take i page = so_far (whole-left (old ++ take i page) (row ∷ []) all) in
     let now : AreWhole (rows ++ row ∷ []) = subst (λ w. AreWhole (w ++ row ∷ [])) (sym same) all in
@@ -214,7 +212,7 @@ looks_append (f ∷ es) e after l is = (l.0, looks_append es e after l.1 is)
 
 turn_append : (rows : List Update) (es : List Entry) (e : Entry) → AreConsecutive rows es → e.event ≡ Members (place_after (rows ++ pages_of es)) → AreConsecutive rows (es ++ e ∷ [])
 turn_append rows [] e l is = (subst (λ w. e.event ≡ Members (place_after w)) (append-nil rows) is, tt)
-turn_append rows (f ∷ es) e l is = (l.0, turn_append (rows ++ f.reply.page.items) es e l.1 (subst (λ w. e.event ≡ Members (place_after w)) (sym (assoc rows f.reply.page.items (pages_of es))) is))
+turn_append rows (f ∷ es) e l is = (l.0, turn_append (rows ++ f.reply.page.items) es e l.1 (subst (λ w. e.event ≡ Members (place_after w)) (sym (append_assoc rows f.reply.page.items (pages_of es))) is))
 
 full_append : (es : List Entry) (e : Entry) → AreFull es → length e.reply.page.items ≡ UPDATES_MAX → AreFull (es ++ e ∷ [])
 full_append [] e l is = (is, tt)
@@ -222,10 +220,10 @@ full_append (f ∷ es) e l is = (l.0, full_append es e l.1 is)
 
 pages_append : (es : List Entry) (e : Entry) → pages_of (es ++ e ∷ []) ≡ pages_of es ++ e.reply.page.items
 pages_append [] e = append-nil e.reply.page.items
-pages_append (f ∷ es) e = ap (λ w. f.reply.page.items ++ w) (pages_append es e) ∙ sym (assoc f.reply.page.items (pages_of es) e.reply.page.items)
+pages_append (f ∷ es) e = ap (λ w. f.reply.page.items ++ w) (pages_append es e) ∙ sym (append_assoc f.reply.page.items (pages_of es) e.reply.page.items)
 
 pages_after : (seen : List Update) (es : List Entry) (e : Entry) → seen ++ pages_of (es ++ e ∷ []) ≡ (seen ++ pages_of es) ++ e.reply.page.items
-pages_after seen es e = ap (λ w. seen ++ w) (pages_append es e) ∙ sym (assoc seen (pages_of es) e.reply.page.items)
+pages_after seen es e = ap (λ w. seen ++ w) (pages_append es e) ∙ sym (append_assoc seen (pages_of es) e.reply.page.items)
 
 -- the rows of one page more, where all are in order
 all_more : (seen : List Update) (es : List Entry) (e : Entry) (rows new : List Update) → (AreWhole (seen ++ pages_of es) → (rows ≡ seen ++ pages_of es) × AreConsecutive seen es) → e.event ≡ Members (place_after rows) → (AreWhole (rows ++ e.reply.page.items) → new ≡ rows ++ e.reply.page.items) → AreWhole (seen ++ pages_of (es ++ e ∷ [])) → (new ≡ seen ++ pages_of (es ++ e ∷ [])) × AreConsecutive seen (es ++ e ∷ [])
@@ -250,7 +248,7 @@ abbrev looks_more : (seen : List Update) (p q r : CallerView) (rows more : List 
 looks_more seen p q r rows more full l n = let after = place_after rows in record {
   entries = l.entries ++ n.call.entry ∷ [];
   gains = more_gains p q r l.entries (n.call.entry ∷ []) l.gains n.call.gains;
-  asked = n.call.asked ∙ (ap (λ w. w ++ Members after ∷ []) l.asked ∙ (assoc p.asked (events_of l.entries) (Members after ∷ []) ∙ ap (λ w. p.asked ++ w) (ap (λ e. events_of l.entries ++ e ∷ []) (sym n.call.event_is) ∙ sym (events_of-append l.entries (n.call.entry ∷ [])))));
+  asked = n.call.asked ∙ (ap (λ w. w ++ Members after ∷ []) l.asked ∙ (append_assoc p.asked (events_of l.entries) (Members after ∷ []) ∙ ap (λ w. p.asked ++ w) (ap (λ e. events_of l.entries ++ e ∷ []) (sym n.call.event_is) ∙ sym (events_of-append l.entries (n.call.entry ∷ [])))));
   looks = looks_append l.entries n.call.entry after l.looks n.call.event_is;
   read = read_more seen p q r rows more full l n;
   all = all_more seen l.entries n.call.entry rows more l.all n.call.event_is (subst (λ w. AreWhole (rows ++ w.page.items) → more ≡ rows ++ w.page.items) (sym n.call.reply_is) n.all);
