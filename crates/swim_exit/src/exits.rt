@@ -150,7 +150,7 @@ const ADDRESS: &str =
 const HOST: &str =
     "the system knows no IPv4 address of this host, or did not say within 5 seconds: `getent ahostsv4 NAME` asks it the same";
 
-/// The ending where a file is refused with an error of this number, which may be the disk's.
+/// The exit where a file is refused with an error of this number, which may be the disk's.
 fn refused_by(code: Option<i32>) -> Exit
     ensures { result ≡ refused_by code }
 {
@@ -209,7 +209,7 @@ impl Exit {
         }
     }
 
-    /// The ending by an error of the system: the lack of memory, what is wrong with the file system or the disk of a file, or else the
+    /// The exit by an error of the system: the lack of memory, what is wrong with the file system or the disk of a file, or else the
     /// other one.
     pub fn of(error: &io::Error, otherwise: Exit) -> Exit
         ensures { result ≡ ending_by (error_kind error.now) (raw_os_error error.now) otherwise }
@@ -222,7 +222,7 @@ impl Exit {
         }
     }
 
-    /// The ending by an error of standard output.
+    /// The exit by an error of standard output.
     pub fn of_output(error: &io::Error) -> Exit
         ensures { result ≡ ending_of_output (error_kind error.now) }
     {
