@@ -172,13 +172,14 @@ pub use swim_node::{
 pub use swim_shared::{CallFault, Closed, ClosedSent, Name, Outbox, Parts, Pass, Shared, Watch};
 
 // The workers of a member that runs, and what they ask of their surroundings.
+pub use swim_join::{Intervals, LIST_MAX};
 pub use swim_serve::{
     Chores, DoorsAndChores, EndedMember, Fault, Joins, LifeSetup, MemberEnd, NoChores, Outside,
     run_member,
 };
 pub use swim_shell::{
-    Alarm, Alarmed, COUNTERS, Caller, ControlEnd, Counter, Counters, Doors, Inbound, Intervals,
-    LIST_MAX, Observer, ReceiveFault, Refusal, WorkerEnd,
+    Alarm, Alarmed, COUNTERS, Caller, ControlEnd, Counter, Counters, Doors, Inbound, Observer,
+    ReceiveFault, Refusal, WorkerEnd,
 };
 
 // The sockets that it usually has.

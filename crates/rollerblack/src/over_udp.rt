@@ -16,11 +16,11 @@ use std::sync::Wait;
 use std::thread::Threads;
 use std::time::{Clock, Duration};
 use swim_disk::Disk;
+use swim_join::{Intervals, LIST_MAX};
 use swim_member::{Settings, SettingsFault};
 use swim_net::{SocketAlarm, Sockets, Waits, address_of, bind_datagrams, wait_of};
 use swim_node::{Node, OpenFault};
 use swim_serve::{DoorsAndChores, EndedMember, Joins, LifeSetup, NoChores, Outside, run_member};
-use swim_shell::{Intervals, LIST_MAX};
 use swim_wire::Endpoint;
 
 /// How many entries an era has at most, if nothing else is said.

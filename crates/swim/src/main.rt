@@ -43,7 +43,7 @@ use swim_words::read_endpoint;
 /// The exit status where the words are refused.
 const REFUSED: u8 = 2;
 
-/// All of standard input, or this ending where there is no memory for it.
+/// All of standard input, or this exit where there is no memory for it.
 fn read_input(rt: &HostRuntime, lacks: Exit) -> Result<Vec<u8>, Failure> {
     match swim_input::read_input(rt) {
         Ok(input) => Ok(input),
@@ -202,9 +202,9 @@ fn ask_member<T: Threads>(
     Ok(ExitCode::SUCCESS)
 }
 
-/// The ending where a state file is not shown. Why it is not read is asked once more.
+/// The exit where a state file is not shown. Why it is not read is asked once more.
 fn unshown(rt: &HostRuntime, path: &str, fault: ShowFault) -> Failure {
-    let ending = match fault {
+    let exit = match fault {
         ShowFault::Memory => return Failure::from(Exit::Memory),
         ShowFault::NotFile => Exit::NotFile,
         ShowFault::File => Exit::File,
@@ -212,7 +212,7 @@ fn unshown(rt: &HostRuntime, path: &str, fault: ShowFault) -> Failure {
     if let Err(fault) = open_file(rt, path) {
         return Failure::of_input(rt.alloc(), "state file", path, fault);
     }
-    Failure::about(rt.alloc(), ending, format_args!("state file {path}"))
+    Failure::about(rt.alloc(), exit, format_args!("state file {path}"))
 }
 
 /// The control socket of a member that no word names.
@@ -580,18 +580,18 @@ fn answer<T: Threads + Wait + Log + Clock + Send + Sync + Copy + Drop>(
 /// Prints why the program ends, if that is said: on the first line why, on the second what that is about, if it is known, and then a
 /// hint where there is one. The status is the same where standard error cannot be written.
 fn end(rt: &HostRuntime, failure: &Failure) -> ExitCode {
-    let ending = failure.ending();
-    if ending.is_silent() {
-        return ending.status();
+    let exit = failure.exit();
+    if exit.is_silent() {
+        return exit.status();
     }
-    let _ = eprintln!(rt; "swim: {ending}");
+    let _ = eprintln!(rt; "swim: {exit}");
     if let Some(thing) = failure.thing() {
         let _ = eprintln!(rt; "  {thing}");
     }
-    if let Some(hint) = ending.hint() {
+    if let Some(hint) = exit.hint() {
         let _ = eprintln!(rt; "swim: {hint}");
     }
-    ending.status()
+    exit.status()
 }
 
 /// Prints help or the version, which how the program was built goes with, or what is wrong with the words.

@@ -16,6 +16,7 @@ use Rattle.swim_words.proofs.Digits.{lacks_decimal}
 use Rattle.swim_words.proofs.Endpoints.{endpoint_apart, same_endpoint}
 use Rattle.swim_words.proofs.Splits.{lacks_byte, lacks_split, no_split, same_split}
 use Rattle.swim_ask.specs.Answers.{AddsRows, FitsAfter, IsRow, SaysRow, SaysRows}
+use Rattle.swim_news.proofs.Order.{from-left}
 
 -- The words of a line
 
@@ -192,10 +193,6 @@ unread text left line rest old now count so_far lacks cut none whole fits =
     let found = first_row left line rest left_is.0 lacks cut left_is.2 in
     none found.row found.first
 
-front_from : (x : ℕ) (rows more : List Update) → AreFrom x (rows ++ more) → AreFrom x rows
-front_from x [] more are = tt
-front_from x (r ∷ rows) more are = (are.0, front_from (r.who + 1) rows more are.1)
-
 -- a row that does not fit after the others
 pub unfit : (text left line rest : List ℕ) (old now : List Update) (row : Update) (count : ℕ) → RowsSoFar text left old now count → Lacks 10 line → left ≡ split_by 10 line rest → SaysRow line row → (AreFrom 0 (now ++ row ∷ []) → length now < 257 → ⊥) → No (FitsAfter text old)
 unfit text left line rest old now row count so_far lacks cut says out whole fits =
@@ -205,7 +202,7 @@ unfit text left line rest old now row count so_far lacks cut says out whole fits
     let whole_is : whole ≡ so_far.page ++ row ∷ found.others = left_is.1 ∙ ap (λ w. so_far.page ++ w) found.are ∙ ap (λ r. so_far.page ++ r ∷ found.others) same in
     let all : old ++ whole ≡ (now ++ row ∷ []) ++ found.others =
     ap (λ w. old ++ w) whole_is ∙ sym (append_assoc old so_far.page (row ∷ found.others)) ∙ ap (λ w. w ++ row ∷ found.others) (sym so_far.added) ∙ sym (append_assoc now (row ∷ []) found.others) in
-    out (front_from 0 (now ++ row ∷ []) found.others (let P : List Update → Type 0 = λ w. AreFrom 0 w in subst P all fits.order))
+    out (from-left 0 (now ++ row ∷ []) found.others (let P : List Update → Type 0 = λ w. AreFrom 0 w in subst P all fits.order))
     (omega (arith, fits.room, ap length whole_is, length-append so_far.page (row ∷ found.others), ap length so_far.added, length-append old so_far.page))
 
 -- more rows than a page has

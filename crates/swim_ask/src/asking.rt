@@ -123,10 +123,10 @@ fn talk<R: Net<Stream = TcpStream> + Clock + AllocGlobal>(
     Ok(answer)
 }
 
-/// The ending where the control socket of a member does not answer.
+/// The exit where the control socket of a member does not answer.
 fn unanswered(alloc: Global, to: Endpoint, error: &io::Error) -> Failure {
-    let ending = Exit::of(error, Exit::Socket);
-    Failure::about(alloc, ending, format_args!("TCP {to} (control): {error}"))
+    let exit = Exit::of(error, Exit::Socket);
+    Failure::about(alloc, exit, format_args!("TCP {to} (control): {error}"))
 }
 
 /// Now, from which on a time limit is counted. An error says that there is no memory, or that the clock fails.
@@ -134,8 +134,8 @@ pub(crate) fn now<R: Clock + AllocGlobal>(rt: &R) -> Result<Instant, Failure> {
     match Instant::now(rt) {
         Ok(now) => Ok(now),
         Err(error) => {
-            let ending = Exit::of(&error, Exit::Socket);
-            Err(Failure::about(rt.alloc(), ending, format_args!("clock: {error}")))
+            let exit = Exit::of(&error, Exit::Socket);
+            Err(Failure::about(rt.alloc(), exit, format_args!("clock: {error}")))
         }
     }
 }

@@ -125,13 +125,13 @@ fn next_line(rows: &Rows) -> ArrayString<LINE_MAX> {
     line
 }
 
-/// The ending where an answer is no page of rows, with its first line.
-fn unread(alloc: Global, to: Endpoint, answer: &[u8], ending: Exit) -> Failure {
+/// The exit where an answer is no page of rows, with its first line.
+fn unread(alloc: Global, to: Endpoint, answer: &[u8], exit: Exit) -> Failure {
     let first = answer.split(|byte| *byte == b'\n').next().unwrap_or(b"");
     let said = str::from_utf8(first).unwrap_or("");
     Failure::about(
         alloc,
-        ending,
+        exit,
         format_args!("TCP {to} (control) answered {said:?}"),
     )
 }
@@ -150,7 +150,7 @@ pub(crate) fn read_rows<R: Net<Stream = TcpStream> + Clock + AllocGlobal>(
             Ok(Page::Full) => {}
             Ok(Page::Last) => break,
             Ok(Page::EraFull) => return Ok(None),
-            Err(ending) => return Err(unread(rt.alloc(), to, answer.as_slice(), ending)),
+            Err(exit) => return Err(unread(rt.alloc(), to, answer.as_slice(), exit)),
         }
     }
     Ok(Some(rows))

@@ -25,7 +25,7 @@ pub(crate) fn judge(alloc: Global, word: &str) -> Result<(), Failure> {
     }
 }
 
-/// The ending where a host has no address.
+/// The exit where a host has no address.
 fn unknown(alloc: Global, word: &str) -> Failure {
     Failure::about(alloc, Exit::Host, format_args!("{ADDRESS} {word:?}"))
 }
@@ -40,8 +40,8 @@ fn taken(
         Ok(Some(endpoint)) => Ok(endpoint),
         Ok(None) => Err(unknown(alloc, word)),
         Err(error) => {
-            let ending = Exit::of(&error, Exit::Host);
-            Err(Failure::about(alloc, ending, format_args!("{ADDRESS} {word:?}: {error}")))
+            let exit = Exit::of(&error, Exit::Host);
+            Err(Failure::about(alloc, exit, format_args!("{ADDRESS} {word:?}: {error}")))
         }
     }
 }

@@ -11,12 +11,12 @@ use swim_state::{InitFault, Owner, init};
 use swim_wire::NUMBER_MAX;
 use swim_words::read_endpoint;
 
-/// The ending where a new state file is not written.
+/// The exit where a new state file is not written.
 fn unwritten(alloc: Global, file: &str, fault: InitFault) -> Failure {
     Failure::about(alloc, Exit::Init(fault), format_args!("state file {file}"))
 }
 
-/// The ending where a ceiling is above all numbers.
+/// The exit where a ceiling is above all numbers.
 fn above_all(alloc: Global, ceiling: u64) -> Failure {
     Failure::about(
         alloc,

@@ -2,11 +2,11 @@
 use Rattle.std.specs.Prelude.{ℕ, ℤ, pos, Option, Some, if◌then◌else◌, ◌==◌}
 use Rattle.std.specs.declared.io.ErrorKind.{ErrorKind}
 use Rattle.std.specs.declared.io.ErrorKind.TheVariants as kinds
-use Rattle.swim_exit.specs.declared.ending.Exit.{Exit}
-use Rattle.swim_exit.specs.declared.ending.Exit.TheVariants.{Address, Device, Expelled, File}
-use Rattle.swim_exit.specs.declared.ending.Exit.TheVariants.{Memory, Output, ReadOnly}
-use Rattle.swim_exit.specs.declared.ending.Exit.TheVariants.{Script, Settings, Unread}
-use Rattle.swim_exit.specs.declared.ending.TheConstants.{UNREAD}
+use Rattle.swim_exit.specs.declared.exits.Exit.{Exit}
+use Rattle.swim_exit.specs.declared.exits.Exit.TheVariants.{Address, Device, Expelled, File}
+use Rattle.swim_exit.specs.declared.exits.Exit.TheVariants.{Memory, Output, ReadOnly}
+use Rattle.swim_exit.specs.declared.exits.Exit.TheVariants.{Script, Settings, Unread}
+use Rattle.swim_exit.specs.declared.exits.TheConstants.{UNREAD}
 
 -- the exit status: 2 where a word, the settings or a script is at fault, 3 where the member was
 -- expelled and was to end then, 141 where nobody reads standard output any more, and 1 else
@@ -18,12 +18,12 @@ ending_status Expelled = 3
 ending_status Unread = UNREAD
 ending_status _ = 1
 
--- the ending where a file is refused with an error of this number, which may be the disk's
+-- the exit where a file is refused with an error of this number, which may be the disk's
 abbrev pub refused_by : Option ℤ → Exit
 refused_by (Some (pos code)) = if code == 5 then Device else File
 refused_by _ = File
 
--- the ending by an error of this kind and number: the lack of memory, what is wrong with the file
+-- the exit by an error of this kind and number: the lack of memory, what is wrong with the file
 -- system or the disk of a file, or else the other one
 abbrev pub ending_by : ErrorKind → Option ℤ → Exit → Exit
 ending_by kinds.OutOfMemory code otherwise = Memory
@@ -31,7 +31,7 @@ ending_by kinds.ReadOnlyFilesystem code File = ReadOnly
 ending_by kind code File = refused_by code
 ending_by kind code otherwise = otherwise
 
--- the ending by an error of standard output
+-- the exit by an error of standard output
 abbrev pub ending_of_output : ErrorKind → Exit
 ending_of_output kinds.BrokenPipe = Unread
 ending_of_output _ = Output

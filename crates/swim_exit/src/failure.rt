@@ -1,6 +1,6 @@
 //! Why the program ends, and what that is about.
 
-use crate::ending::Exit;
+use crate::exits::Exit;
 use crate::mistake::mistake_in;
 use std::alloc::Global;
 use std::fmt::{self, Display, Formatter};
@@ -13,7 +13,7 @@ use swim_words::read_host;
 /// one line.
 #[derive(Debug, Drop)]
 pub struct Failure {
-    ending: Exit,
+    exit: Exit,
     about: Option<String>,
 }
 
@@ -32,19 +32,19 @@ impl Failure {
     ghost use Rattle.std.specs.Prelude.{◌≡◌, ◌≢◌, IfSome, string_bytes, option_map};
     ghost use Rattle.swim_settings.specs.declared.refusal.SettingsRefusal.TheVariants as refusals;
 
-    /// This ending, about what prints so. Without memory for that it is not told.
-    pub fn about<D: Display + Drop>(alloc: Global, ending: Exit, about: D) -> Failure
-        ensures ending { result.ending ≡ ending }
+    /// This exit, about what prints so. Without memory for that it is not told.
+    pub fn about<D: Display + Drop>(alloc: Global, exit: Exit, about: D) -> Failure
+        ensures exit { result.exit ≡ exit }
         ensures about { IfSome result.about
             (λ told. IfSome (D.output about) (λ text. string_bytes told ≡ text)) }
     {
         Failure {
-            ending,
+            exit,
             about: format!(in alloc; "{about}").ok(),
         }
     }
 
-    /// The ending where a file at this path, which is the one that it is called, is not read.
+    /// The exit where a file at this path, which is the one that it is called, is not read.
     pub fn of_input(alloc: Global, called: &str, path: &str, fault: InputFault) -> Failure {
         match fault {
             InputFault::System(error) => Failure::of_file(alloc, called, path, &error),
@@ -52,28 +52,28 @@ impl Failure {
         }
     }
 
-    /// The ending where the system refuses a file at this path, which is the one that it is called.
+    /// The exit where the system refuses a file at this path, which is the one that it is called.
     pub fn of_file(alloc: Global, called: &str, path: &str, error: &io::Error) -> Failure {
-        let ending = Exit::of(error, Exit::File);
-        Failure::about(alloc, ending, format_args!("{called} {path}: {error}"))
+        let exit = Exit::of(error, Exit::File);
+        Failure::about(alloc, exit, format_args!("{called} {path}: {error}"))
     }
 
-    /// The ending where the settings of this text are refused, which a file at this path has.
+    /// The exit where the settings of this text are refused, which a file at this path has.
     pub fn of_settings(alloc: Global, path: &str, text: &[u8], refusal: SettingsRefusal) -> Failure
-        ensures memory { refusal ≡ refusals.Memory → result.ending ≡ Exit.Memory }
-        ensures settings { refusal ≢ refusals.Memory → result.ending ≡ Exit.Settings refusal }
+        ensures memory { refusal ≡ refusals.Memory → result.exit ≡ Exit.Memory }
+        ensures settings { refusal ≢ refusals.Memory → result.exit ≡ Exit.Settings refusal }
     {
         let about = mistake_in(alloc, path, text, &refusal).ok();
         match refusal {
             SettingsRefusal::Memory => Failure::from(Exit::Memory),
             refusal => Failure {
-                ending: Exit::Settings(refusal),
+                exit: Exit::Settings(refusal),
                 about,
             },
         }
     }
 
-    /// The ending where the system does not open a state file, or another process has the lock of it.
+    /// The exit where the system does not open a state file, or another process has the lock of it.
     pub fn of_state_file(alloc: Global, path: &str, error: &io::Error) -> Failure {
         if error.kind() == ErrorKind::ResourceBusy {
             let about = format_args!("state file {path}: locked by another process");
@@ -82,9 +82,9 @@ impl Failure {
         Failure::of_file(alloc, "state file", path, error)
     }
 
-    /// The ending where a word, which is the one that it is called, is not the address that it has to be, with what is wrong with it.
+    /// The exit where a word, which is the one that it is called, is not the address that it has to be, with what is wrong with it.
     pub fn of_address(alloc: Global, called: &str, word: &str) -> Failure
-        ensures { result.ending ≡ Exit.Address }
+        ensures { result.exit ≡ Exit.Address }
     {
         let wrong = wrong_with(word);
         Failure::about(
@@ -94,17 +94,17 @@ impl Failure {
         )
     }
 
-    /// The ending by an error of standard output.
+    /// The exit by an error of standard output.
     pub fn of_output(alloc: Global, error: &io::Error) -> Failure {
-        let ending = Exit::of_output(error);
-        Failure::about(alloc, ending, format_args!("standard output: {error}"))
+        let exit = Exit::of_output(error);
+        Failure::about(alloc, exit, format_args!("standard output: {error}"))
     }
 
     /// Why the program ends.
-    pub fn ending(&self) -> &Exit
-        ensures { result.now ≡ self.now.ending }
+    pub fn exit(&self) -> &Exit
+        ensures { result.now ≡ self.now.exit }
     {
-        &self.ending
+        &self.exit
     }
 
     /// What that is about, if it is known.
@@ -118,27 +118,24 @@ impl Failure {
     }
 }
 
-/// An ending about nothing that is known.
+/// An exit about nothing that is known.
 impl From<Exit> for Failure {
     ghost use Rattle.std.specs.Prelude.{◌≡◌, None};
 
-    ghost from_gives = { λ ending failure.
-        (failure.ending ≡ ending) × (failure.about ≡ None) };
+    ghost from_gives = { λ exit failure.
+        (failure.exit ≡ exit) × (failure.about ≡ None) };
 
-    fn from(ending: Exit) -> Failure {
-        Failure {
-            ending,
-            about: None,
-        }
+    fn from(exit: Exit) -> Failure {
+        Failure { exit, about: None }
     }
 }
 
 impl Display for Failure {
     fn fmt<W: fmt::Write>(&self, f: &mut Formatter<W>) -> fmt::Result {
-        let ending = &self.ending;
+        let exit = &self.exit;
         match &self.about {
-            Some(about) => write!(f, "{ending}: {about}"),
-            None => write!(f, "{ending}"),
+            Some(about) => write!(f, "{exit}: {about}"),
+            None => write!(f, "{exit}"),
         }
     }
 }

@@ -1,11 +1,11 @@
 //! How the program ends before it is done.
 #![tactic(auto)]
 
-mod ending;
+mod exits;
 mod failure;
 mod mistake;
 mod nearest;
 mod takes;
 
-pub use ending::Exit;
+pub use exits::Exit;
 pub use failure::Failure;

@@ -41,15 +41,13 @@ use Rattle.swim_explain.specs.declared.fact.Purpose.{Purpose}
 use Rattle.swim_explain.specs.declared.view.View.{View}
 use Rattle.swim_explain.specs.Facts.{answered, became, blamed, blamed_as, by_datagram, by_tick, came, ended, itself, met, over, passed, purpose_of, row_with, sent, sent_about, told, told_itself, told_of, unanswered, view_of}
 use Rattle.swim_explain.specs.Causes.{IsCause, Says, said_of}
+use Rattle.std.proofs.lemmas.Option.{same_Some}
 
 update-is : (u : Update) (k : UpdateKind) (x n : ℕ) → u.kind ≡ k → u.who ≡ x → u.number ≡ n → u ≡ record { kind = k; who = x; number = n }
 update-is u k x n a b c =
     ap (λ i. record { kind = i; who = u.who; number = u.number }) a
     ∙ ap (λ i. record { kind = k; who = i; number = u.number }) b
     ∙ ap (λ i. record { kind = k; who = x; number = i }) c
-
-some-is : {A : Type 0} (a b : A) → Some a ≡ Some b → a ≡ b
-some-is a b h = cc
 
 -- What says nothing of a cause
 
@@ -167,7 +165,7 @@ by-expiry base before e x deal r t f h i k l = elim (row-step x t base before e 
     due : (d : List ℕ) → judge (state_of base before) e.event ≡ judged.Tick d → CameFrom (apply Ticked (state_of base before)) t.update → (a : IsExpiry base before e.event (record { kind = Confirm; who = x; number = r.update.number })) × (a.row.since ≡ r.since)
     due d g c =
         let a = expiry base before e t.update d g c in
-        let row : c.row ≡ r = some-is c.row r (sym c.held ∙ ap (row_of (state_of base before).rows) who ∙ h) in
+        let row : c.row ≡ r = same_Some c.row r (sym c.held ∙ ap (row_of (state_of base before).rows) who ∙ h) in
         let same : t.update ≡ record { kind = Confirm; who = x; number = r.update.number } = update-is t.update Confirm x r.update.number l who (sym c.number ∙ ap (λ (q : Row). q.update.number) row) in
         subst (λ u. (b : IsExpiry base before e.event u) × (b.row.since ≡ r.since)) same (a.0, ap (λ (q : Row). q.since) (a.1 ∙ row))
 
@@ -205,7 +203,7 @@ by-accusation base before e x deal p r t low f o h i k l = elim (row-step x t ba
     accused : (d : List ℕ) → judge (state_of base before) e.event ≡ judged.Tick d → (s : State) → KeepsOrLoses t.update.who (apply Ticked (state_of base before)) s → Accuses s t.update → (a : IsAccusation base before e.event (record { kind = Suspect; who = x; number = t.update.number })) × (a.seq ≡ p.seq)
     accused d g s j a =
         let b = accusation base before e t.update low d g s j a in
-        let probe : a.probe ≡ p = some-is a.probe p (sym a.opened ∙ j.probe ∙ o) in
+        let probe : a.probe ≡ p = same_Some a.probe p (sym a.opened ∙ j.probe ∙ o) in
         let same : t.update ≡ record { kind = Suspect; who = x; number = t.update.number } = update-is t.update Suspect x t.update.number l who refl in
         subst (λ u. (c : IsAccusation base before e.event u) × (c.seq ≡ p.seq)) same (b.0, b.1 ∙ ap (λ (q : Probe). q.seq) probe)
 

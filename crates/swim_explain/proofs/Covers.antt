@@ -9,15 +9,7 @@ use Rattle.swim_node.specs.declared.entry.Save.{Save}
 use Rattle.swim_node.specs.declared.entry.Save.TheVariants.{Kept, Done, Failed}
 use Rattle.swim_node.specs.History.{Base, AreNext, Saves, granted_from, granted_of, state_after}
 use Rattle.swim_explain.specs.Machinery.Covering.{AreCovered}
-
--- a save leaves a ceiling that is at least the one before
-rises : (o : Option ℕ) (g : ℕ) (save : Save) (granted : ℕ) → Saves o g save granted → g ≤ granted
-rises None g Kept granted h = omega (arith, h)
-rises None g Done granted h = absurd h
-rises None g Failed granted h = absurd h
-rises (Some w) g Kept granted h = let same = h.1 in omega arith
-rises (Some w) g Done granted h = omega (arith, h.0, h.1)
-rises (Some w) g Failed granted h = h.1
+use Rattle.swim_node.proofs.Nodes.{granted-grows}
 
 granted-snoc : (g : ℕ) (before : List Entry) (e : Entry) → granted_from g (before ++ e ∷ []) ≡ e.granted
 granted-snoc g [] e = refl
@@ -27,7 +19,7 @@ granted-snoc g (f ∷ before) e = granted-snoc f.granted before e
 pub covers_next : (base : Base) (before entries : List Entry) → AreNext base before entries → AreCovered (granted_of base before) entries
 covers_next base before [] h = tt {0}
 covers_next base before (e ∷ entries) h = (
-  rises (wanted (state_after base before) e.event) (granted_of base before) e.save e.granted h.0.fits.saved,
+  granted-grows (wanted (state_after base before) e.event) (granted_of base before) e.save e.granted h.0.fits.saved,
   subst (λ g. AreCovered g entries) (granted-snoc base.granted before e) (covers_next base (before ++ e ∷ []) entries h.1),
 )
 
@@ -35,9 +27,3 @@ covers_next base before (e ∷ entries) h = (
 pub covers-less : (n g : ℕ) (entries : List Entry) → n ≤ g → AreCovered g entries → AreCovered n entries
 covers-less n g [] le h = tt {0}
 covers-less n g (e ∷ entries) le h = let low = h.0 in (omega arith, h.1)
-
--- the number after a step is within its ceiling
-pub number_within : (o : Option ℕ) (g n : ℕ) → n ≤ g → number_after o g n ≤ g
-number_within None g n le = le
-number_within (Some w) g n le =
-    elim (cases_Bool (nat_le w g)) [ inl t ↦ rw t (leb-true w g t) | inr f ↦ rw f le ]

@@ -9,13 +9,10 @@ use Rattle.swim_shared.specs.Passes.{PassView, Called, FullFor, Unseen}
 use Rattle.swim_shell.specs.declared.caller.Refusal.TheVariants as refusal
 use Rattle.swim_shell.specs.Calls.{Gains, NewCall, Refuses}
 use Rattle.swim_handle.specs.Views.{view_of}
-
-assoc : {A : Type 0} (xs ys zs : List A) → (xs ++ ys) ++ zs ≡ xs ++ (ys ++ zs)
-assoc [] ys zs = refl
-assoc (x ∷ xs) ys zs = ap (λ w. x ∷ w) (assoc xs ys zs)
+use Rattle.std.proofs.lemmas.List.{append_assoc}
 
 called_prefix : {A : Type 0} (xs ys zs : List A) (x : A) → zs ≡ (xs ++ ys) ++ x ∷ [] → IsPrefix xs zs
-called_prefix xs ys zs x is = (ys ++ x ∷ [], sym (assoc xs ys (x ∷ [])) ∙ sym is)
+called_prefix xs ys zs x is = (ys ++ x ∷ [], sym (append_assoc xs ys (x ∷ [])) ∙ sym is)
 
 -- a call that was answered stands at the end of the history that the pass has read back
 pub called_new : (base : Base) (p q : PassView) (s t : Bool) (a b : List Event) (event : Event) (reply : Reply) → Called base p event reply q → b ≡ a ++ event ∷ [] → NewCall (view_of p s a) (view_of q t b) event reply

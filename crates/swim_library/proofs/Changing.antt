@@ -7,10 +7,7 @@ use Rattle.swim_wire.specs.declared.update.Update.{Update}
 use Rattle.swim_library.specs.Changes.{AddsAllPages, AreAllRows, FindsChanges, HasLooked, HasNothingToTell, OnlyTells}
 use Rattle.swim_library.specs.declared.changes.Told.{Told}
 use Rattle.swim_library.specs.declared.running.Running.{Running}
-
-from-left : (x : ℕ) (rows more : List Update) → AreFrom x (rows ++ more) → AreFrom x rows
-from-left x [] more all = tt
-from-left x (r ∷ rows) more all = (all.0, from-left (r.who + 1) rows more all.1)
+use Rattle.swim_news.proofs.Order.{from-left}
 
 all-left : (rows more : List Update) → AreAllRows (rows ++ more) → AreAllRows rows
 all-left rows more all = (from-left 0 rows more all.0, let most = all.1 in omega (arith, simp length-append at most))

@@ -10,12 +10,12 @@ use Rattle.swim_disk.specs.contracts.open_file.OpenFile as OpenFile
 use Rattle.swim_disk.specs.contracts.past.Call as Call
 use Rattle.swim_node.proofs.Crosses.{Node-send}
 use Rattle.swim_trace.proofs.Crosses.{Trace-send}
-use Rattle.swim_shell.specs.contracts.joiner.Joiner as Joiner
-use Rattle.swim_shell.specs.contracts.joiner.Joiner.TheInside as JoinerInside
-use Rattle.swim_shell.specs.contracts.news_log.News as News
-use Rattle.swim_shell.specs.contracts.news_log.News.TheInside as NewsInside
-use Rattle.swim_shell.specs.contracts.peers.Peers as Peers
-use Rattle.swim_shell.specs.contracts.peers.Peers.TheInside as PeersInside
+use Rattle.swim_join.specs.contracts.joiner.Joiner as Joiner
+use Rattle.swim_join.specs.contracts.joiner.Joiner.TheInside as JoinerInside
+use Rattle.swim_join.specs.contracts.news_log.News as News
+use Rattle.swim_join.specs.contracts.news_log.News.TheInside as NewsInside
+use Rattle.swim_join.specs.contracts.peers.Peers as Peers
+use Rattle.swim_join.specs.contracts.peers.Peers.TheInside as PeersInside
 use Rattle.swim_library.specs.contracts.running.Running as Running
 
 pub Call-send : IsSend Call.the_row

@@ -1,6 +1,6 @@
 -- What became of the joiner in a turn.
 use Rattle.std.proofs.Common.{◌≡◌, ◌≢◌, ℕ, Option, [], Some, None, inr, refl, ap, sym, subst}
-use Rattle.swim_shell.specs.Joins.{JoinerView}
+use Rattle.swim_join.specs.Joins.{JoinerView}
 use Rattle.swim_library.specs.Pacing.{Advances, FollowsClock, FollowsInVain}
 use Rattle.swim_library.specs.Seeking.{LacksForTask, OnlySeeks, Seeks, SeeksInVain, TakesTurn, TurnsInVain}
 use Rattle.swim_library.specs.declared.running.Running.{Running}

@@ -9,12 +9,13 @@ use Rattle.rand_chacha.specs.ChaCha.{of_seed}
 use Rattle.rand_core.specs.Pcg32Seed.{pcg32_seed}
 use Rattle.swim_member.specs.declared.event.Event.TheVariants.{Join}
 use Rattle.swim_node.specs.History.{status_of}
-use Rattle.swim_shell.specs.Joins.{IsRelisted, JoinerView}
-use Rattle.swim_shell.specs.Turns.{TellsDue, after_look, turning, due_in, idle_rest}
-use Rattle.swim_shell.specs.Turns.{is_alone, joined_drawn, joined_listed}
-use Rattle.swim_shell.specs.declared.joiner.Due.{Due}
-use Rattle.swim_shell.specs.declared.joiner.Due.TheVariants.{Drawn, Listed, Look, Nothing}
-use Rattle.swim_shell.specs.declared.intervals.Moment.{Moment}
+use Rattle.swim_join.specs.Joins.{IsRelisted, JoinerView}
+use Rattle.swim_join.specs.Turns.{TellsDue, after_look, turning, due_in, idle_rest}
+use Rattle.swim_join.specs.Turns.{joined_drawn, joined_listed}
+use Rattle.swim_shell.specs.About.{is_alone}
+use Rattle.swim_join.specs.declared.joiner.Due.{Due}
+use Rattle.swim_join.specs.declared.joiner.Due.TheVariants.{Drawn, Listed, Look, Nothing}
+use Rattle.swim_join.specs.declared.intervals.Moment.{Moment}
 use Rattle.swim_start.specs.Starting.{peers_to_join}
 use Rattle.swim_state.specs.declared.peers.TheConstants.{PEERS_MAX}
 use Rattle.swim_wire.specs.declared.update.Update.{Update}

@@ -9,8 +9,8 @@ ghost use Rattle.swim_library.specs.Seeking.{HasJoiner, IsMoment, DoesTask, HasN
 ghost use Rattle.swim_library.specs.Shapes.{number_of_endpoint};
 ghost use Rattle.swim_library.specs.declared.refusal.Refusal.TheVariants as why;
 ghost use Rattle.swim_member.specs.Checks.{AreSound};
-ghost use Rattle.swim_shell.specs.Turns.{due_in, joined_drawn, joined_listed, turning};
-ghost use Rattle.swim_shell.specs.declared.joiner.Due.TheVariants.{Drawn, Listed, Look, Nothing};
+ghost use Rattle.swim_join.specs.Turns.{due_in, joined_drawn, joined_listed, turning};
+ghost use Rattle.swim_join.specs.declared.joiner.Due.TheVariants.{Drawn, Listed, Look, Nothing};
 
 use crate::handle::{SwimMember, put, take};
 use crate::pacing::TICK_MS;
@@ -21,9 +21,10 @@ use arrayvec::ArrayVec;
 use rand_chacha::ChaCha20Rng;
 use rand_core::SeedableRng;
 use std::time::{Duration, Instant};
+use swim_join::{Due, Intervals, Joiner, LIST_MAX, Moment};
 use swim_member::{Event, Settings};
 use swim_news::Rows;
-use swim_shell::{Due, Intervals, Joiner, LIST_MAX, Moment, QuietClock, is_alone};
+use swim_shell::{QuietClock, is_alone};
 use swim_start::peers_of;
 use swim_state::PEERS_MAX;
 use swim_wire::{Endpoint, Rules};

@@ -51,3 +51,8 @@ after_by rows row last true all is less = (λ _. after_last rows row last all is
 after_by rows row last false all is less =
     let ge = ge_from_not_lt last.who row.who less in
     (λ e. absurd cc, λ more. let below : last.who < row.who = last_below rows row last more is in absurd omega (arith, below, ge))
+
+-- the first of rows in order are in order
+pub from-left : (x : ℕ) (rows more : List Update) → AreFrom x (rows ++ more) → AreFrom x rows
+from-left x [] more all = tt
+from-left x (r ∷ rows) more all = (all.0, from-left (r.who + 1) rows more all.1)

@@ -1,4 +1,5 @@
 pub mod Lists
+pub mod Fates
 pub mod Probing
 pub mod Begins
 pub mod Nodes

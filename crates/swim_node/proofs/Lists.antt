@@ -14,6 +14,7 @@ use Rattle.swim_node.specs.Link.{took_by}
 use Rattle.swim_node.specs.History.{calls_by, is_by, steps, step_of, granted_from, lost_in}
 use Rattle.swim_node.specs.Sending.{taken_by, taken_of, lost_of, Sends, SendsAll}
 use Rattle.swim_node.specs.Owns.{owns_in, AreAtMost, AreAtLeast, greatest_with, greater_of}
+use mathlib.Core.List.{IsPrefix}
 
 pub calls_by-append : (c : ℕ) (xs ys : List Entry) → calls_by c (xs ++ ys) ≡ calls_by c xs ++ calls_by c ys
 calls_by-append c xs ys = filter-append (is_by c) xs ys
@@ -85,7 +86,7 @@ sends-snoc tells t0 t1 t2 f0 f1 f2 outs os out o s took failed = record {
   failures = omega (arith, failed, s.failures, lost-append os (o ∷ []));
 }
 
-taken_of-append : (xs ys : List Entry) → taken_of (xs ++ ys) ≡ taken_of xs ++ taken_of ys
+pub taken_of-append : (xs ys : List Entry) → taken_of (xs ++ ys) ≡ taken_of xs ++ taken_of ys
 taken_of-append [] ys = refl
 taken_of-append (x ∷ xs) ys = ap (λ w. taken_by x.outs.items x.outcomes.items ++ w) (taken_of-append xs ys) ∙ sym (append_assoc (taken_by x.outs.items x.outcomes.items) (taken_of xs) (taken_of ys))
 
@@ -123,3 +124,6 @@ pub last-snoc : (xs : List Entry) (e d : Entry) → slice_index_or (xs ++ e ∷ 
 last-snoc xs e d =
     let end : length (xs ++ e ∷ []) - 1 ≡ length xs = let grown : length (xs ++ e ∷ []) ≡ length xs + 1 = length-append xs (e ∷ []) in omega arith in
     ap (λ i. slice_index_or (xs ++ e ∷ []) i d) end ∙ get_or-append_seam xs e [] d
+
+pub prefix_trans : {A : Type 0} (xs ys zs : List A) → IsPrefix xs ys → IsPrefix ys zs → IsPrefix xs zs
+prefix_trans xs ys zs p q = (p.0 ++ q.0, sym (append_assoc xs p.0 q.0) ∙ (ap (λ w. w ++ q.0) p.1 ∙ q.1))

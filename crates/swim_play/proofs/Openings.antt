@@ -76,7 +76,7 @@ module _ (p q : Playing) (owner : Owner) (disk : PlayDisk) (answer : Result (Uni
 
 -- ---- crashes
 
-ended-disk : (p : Playing) (o : Option ScriptedLife) → (ended_with o p).disk ≡ p.disk
+pub ended-disk : (p : Playing) (o : Option ScriptedLife) → (ended_with o p).disk ≡ p.disk
 ended-disk p None = refl
 ended-disk p (Some life) = refl
 

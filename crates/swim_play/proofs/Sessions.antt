@@ -15,6 +15,7 @@ use Rattle.swim_play.specs.Life.{PlayDisk, disk_state, IsOfOne, Spares, AreOnOne
 use Rattle.swim_play.specs.Machinery.Session.{Leads, IsSession}
 use Rattle.swim_play.specs.Play.{Playing, ScriptedLife, Scene, IsRun, Shows, Plays, kept_by, with_life_ended, ended_with}
 use Rattle.swim_play.proofs.Lives.{leads-held, leads-none, leads-spared, leads-crashed, leads-ended, on_one_disk}
+use Rattle.swim_play.proofs.Openings.{ended-disk}
 
 -- the lives since the last other disk or owner are of one owner on one disk
 pub session-run : (owner : Owner) (apart : Bool) (runs : List Run) (lives : List (Life PlayDisk)) (stage : Stage) → IsSession owner apart runs lives stage → AreOnOneDisk lives
@@ -79,17 +80,9 @@ pub on_ok : {T E : Type 0} (P Q : Type 0) (result : Result T E) → (P → Q) �
 on_ok P Q (Ok v) so p = so p
 on_ok P Q (Err e) so p = p
 
-pub always_ok : {T E : Type 0} (P : Type 0) (result : Result T E) → P → OnOk result P
-always_ok P (Ok v) p = p
-always_ok P (Err e) p = tt
-
 kept-some : (o : Option PlayDisk) (planned : Option ℕ) → is_some o ≡ true → kept_by o planned ≡ None
 kept-some None planned there = absurd (cc)
 kept-some (Some disk) planned there = refl
-
-ended-disk : (p : Playing) (o : Option ScriptedLife) → (ended_with o p).disk ≡ p.disk
-ended-disk p None = refl
-ended-disk p (Some life) = refl
 
 -- where there is a disk a crash leaves no plan of the link
 pub kept-none : (p q : Playing) (planned : Option ℕ) → q ≡ with_life_ended p → is_some q.disk ≡ true → kept_by p.disk planned ≡ None

@@ -1,14 +1,14 @@
 //! How a member ended, as the program ends by it.
 
 ghost use Rattle.std.specs.Prelude.{◌≡◌, ◌≢◌, ◌↔◌, IsOk, Ok, Err};
-ghost use Rattle.swim_exit.specs.declared.ending.Exit.TheVariants as endings;
+ghost use Rattle.swim_exit.specs.declared.exits.Exit.TheVariants as exits;
 ghost use Rattle.swim_serve.specs.declared.grace.MemberEnd.TheVariants as member_ends;
 
 use swim_exit::Exit;
 use swim_serve::{Fault, MemberEnd};
 
-/// The ending of a member that a fault ended.
-fn ending_of(fault: Fault) -> Exit
+/// The exit of a member that a fault ended.
+fn exit_of(fault: Fault) -> Exit
     ensures memory { fault ≡ Fault.Memory → result ≡ Exit.Memory }
     ensures threads { fault ≡ Fault.Threads → result ≡ Exit.Threads }
     ensures odd { fault ≡ Fault.Odd → result ≡ Exit.Odd }
@@ -26,11 +26,11 @@ fn ending_of(fault: Fault) -> Exit
 /// How a member ended that was told to stop, or else why it ended.
 pub(crate) fn ended_by(ended: Result<MemberEnd, Fault>) -> Result<(), Exit>
     ensures stopped { IsOk result ↔ (ended ≡ Ok member_ends.Stopped) }
-    ensures expelled { (result ≡ Err endings.Expelled) ↔ (ended ≡ Ok member_ends.Expelled) }
+    ensures expelled { (result ≡ Err exits.Expelled) ↔ (ended ≡ Ok member_ends.Expelled) }
 {
     match ended {
         Ok(MemberEnd::Stopped) => Ok(()),
         Ok(MemberEnd::Expelled) => Err(Exit::Expelled),
-        Err(fault) => Err(ending_of(fault)),
+        Err(fault) => Err(exit_of(fault)),
     }
 }

@@ -5,7 +5,7 @@ ghost use Rattle.std.specs.Prelude.{option_map};
 ghost use Rattle.std.specs.Duration.{as_nanos};
 ghost use Rattle.swim_settings.specs.Ranges.{AreInRange};
 ghost use Rattle.swim_settings.specs.Reloads.{taken_anew};
-ghost use Rattle.swim_shell.specs.Joins.{lasting};
+ghost use Rattle.swim_join.specs.Joins.{lasting};
 ghost use Rattle.swim_start.specs.Starting.{peers_to_join};
 
 use crate::reading::checked_at;
@@ -17,13 +17,14 @@ use std::fmt::{self, Display, Formatter, Write};
 use std::sync::Wait;
 use std::thread::Threads;
 use std::time::Clock;
+use swim_join::Intervals;
 use swim_log::LogLevel;
 use swim_node::Room;
 use swim_record::{Finished, Keeper};
 use swim_recorder::Scribe;
 use swim_serve::{Host, Joins};
 use swim_settings::{JOIN_MAX, Key, Level, RunSettings, restart_keys};
-use swim_shell::{AnswerText, Intervals, SETTINGS_REFUSED, answer_of};
+use swim_shell::{AnswerText, SETTINGS_REFUSED, answer_of};
 use swim_start::peers_of;
 use swim_state::Peers;
 

@@ -55,21 +55,21 @@ fn expelled_wait(told: &RunSettings) -> Option<u64>
     }
 }
 
-/// The ending where the member was not opened on its state file, with the one whose file these settings say that it is.
-fn unopened(alloc: Global, told: &RunSettings, ending: Exit) -> Failure {
+/// The exit where the member was not opened on its state file, with the one whose file these settings say that it is.
+fn unopened(alloc: Global, told: &RunSettings, exit: Exit) -> Failure {
     let RunSettings { file, settings, .. } = told;
     let (group, me) = (settings.group, settings.me);
     Failure::about(
         alloc,
-        ending,
+        exit,
         format_args!("state file {file} (group {group}, me {me})"),
     )
 }
 
-/// The ending where the system gives no random numbers.
+/// The exit where the system gives no random numbers.
 fn undrawn(alloc: Global, error: &io::Error) -> Failure {
-    let ending = Exit::of(error, Exit::File);
-    Failure::about(alloc, ending, format_args!("random numbers: {error}"))
+    let exit = Exit::of(error, Exit::File);
+    Failure::about(alloc, exit, format_args!("random numbers: {error}"))
 }
 
 /// Says that the member is up with this number, whatever the level of the log is otherwise. No worker logs yet.
@@ -131,7 +131,7 @@ fn live<'a, T: Threads + Wait + Log + Clock + Send + Sync + Copy + Drop>(
     let settings = told.settings;
     let node = match open_node(rt.alloc(), file.opened, file.watched, settings, told.limit) {
         Ok(node) => node,
-        Err(ending) => return Err(unopened(rt.alloc(), &told, ending)),
+        Err(exit) => return Err(unopened(rt.alloc(), &told, exit)),
     };
     let number = node.first();
     tell_up(logged, around.level, &told, number);

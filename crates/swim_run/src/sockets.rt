@@ -21,18 +21,18 @@ fn own_address(alloc: Global, me: Endpoint) -> Result<SocketAddr, Failure> {
     Ok(at)
 }
 
-/// The ending where the system refuses the socket of datagrams.
+/// The exit where the system refuses the socket of datagrams.
 fn without_datagrams(alloc: Global, me: Endpoint, error: &io::Error) -> Failure {
-    let ending = Exit::of(error, Exit::Socket);
-    Failure::about(alloc, ending, format_args!("UDP {me} (me): {error}"))
+    let exit = Exit::of(error, Exit::Socket);
+    Failure::about(alloc, exit, format_args!("UDP {me} (me): {error}"))
 }
 
-/// The ending where the system refuses the control socket.
+/// The exit where the system refuses the control socket.
 fn without_doors(alloc: Global, control: Endpoint, error: &io::Error) -> Failure {
-    let ending = Exit::of(error, Exit::Socket);
+    let exit = Exit::of(error, Exit::Socket);
     Failure::about(
         alloc,
-        ending,
+        exit,
         format_args!("TCP {control} (control): {error}"),
     )
 }
@@ -56,8 +56,8 @@ where
 /// The waits of the control socket's thread, and what ends them.
 pub(crate) fn waits<R: Net>(rt: &R, alloc: Global) -> Result<(Waits, SocketAlarm), Failure> {
     let unmade = |error: io::Error| {
-        let ending = Exit::of(&error, Exit::Socket);
-        Failure::about(alloc, ending, format_args!("poll: {error}"))
+        let exit = Exit::of(&error, Exit::Socket);
+        Failure::about(alloc, exit, format_args!("poll: {error}"))
     };
     Waits::new(rt, alloc).map_err(unmade)
 }

@@ -20,6 +20,7 @@ use Rattle.swim_serve.specs.Views.{LinkView, link_of}
 use Rattle.swim_serve.specs.Works.{EraEnds, LeftBy, Sent}
 use Rattle.swim_serve.specs.declared.era_counts.EraCounts.{EraCounts}
 use Rattle.swim_serve.proofs.Fitting.{Fits}
+use Rattle.swim_shared.proofs.Own.{nothing}
 
 both : (a b : Bool) → (a && b) ≡ true → b ≡ true
 both true b h = h
@@ -29,10 +30,6 @@ in_step : (p : PassView) (journal : List Entry) → is_in_step p journal ≡ tru
 in_step p journal h =
     let last = both (leb (length p.seen) (length journal)) (length (calls_by p.caller journal) == p.calls) h in
     grind (arith, nat_tests, last)
-
-nothing : (xs : List Entry) → length xs ≡ 0 → xs ≡ []
-nothing [] h = refl
-nothing (x ∷ xs) h = absurd (omega arith)
 
 only : (xs : List Entry) → length xs ≡ 1 → (x : Entry) × (xs ≡ x ∷ [])
 only [] h = absurd (omega arith)

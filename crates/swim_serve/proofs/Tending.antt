@@ -9,8 +9,8 @@ use Rattle.swim_shell.specs.declared.conversation.LineEnd.TheVariants as line_en
 use Rattle.swim_shell.specs.Calls.{CallerView}
 use Rattle.swim_shell.specs.Control.{Converses, ConversedBy, DueAfter, HadToWrite, Heard, IsPutOff, carried}
 use Rattle.swim_shell.specs.Views.{ConversationView, is_waiting}
-use Rattle.swim_shell.specs.Joins.{JoinerView}
-use Rattle.swim_shell.specs.Turns.{Turned, TurnedInVain}
+use Rattle.swim_join.specs.Joins.{JoinerView}
+use Rattle.swim_join.specs.Turns.{Turned, TurnedInVain}
 use Rattle.swim_shell.specs.Work.{Goes}
 use Rattle.swim_serve.specs.Desks.{DeskView, Step, Joining, Opening, Resuming, Pausing, Shutdown, OfConnection, OfMember, IsTurnIn, Steps, IsOpen, Tending, TendedBy, Opens}
 

@@ -4,9 +4,9 @@ use Rattle.swim_shell.specs.declared.caller.Refusal.{Refusal}
 use Rattle.swim_shell.specs.declared.conversation.ControlEnd.{ControlEnd}
 use Rattle.swim_shell.specs.declared.conversation.ControlEnd.TheVariants as ends
 use Rattle.swim_shell.specs.Calls.{CallerView}
-use Rattle.swim_shell.specs.declared.intervals.Intervals.{Intervals}
-use Rattle.swim_shell.specs.Joins.{JoinerView, IsRelisted}
-use Rattle.swim_shell.specs.Turns.{Turned, TurnedInVain}
+use Rattle.swim_join.specs.declared.intervals.Intervals.{Intervals}
+use Rattle.swim_join.specs.Joins.{JoinerView, IsRelisted}
+use Rattle.swim_join.specs.Turns.{Turned, TurnedInVain}
 use Rattle.swim_shell.specs.Views.{ConversationView}
 use Rattle.swim_shell.specs.Control.{Converses, ConversedBy, IsTold}
 use Rattle.swim_serve.specs.Works.{Worked}

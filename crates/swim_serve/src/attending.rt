@@ -42,7 +42,7 @@ pub fn attend<
     J: Work<Done: Drop> + Drop,
 >(
     rt: &'x T,
-    ending: &'x Shutdown<'x, A>,
+    shutdown: &'x Shutdown<'x, A>,
     timer: &mut TickTimer,
     workers: Workers<C, I, O, J>,
 ) -> Attended<C::Parts, I, O, J::Done>
@@ -58,7 +58,7 @@ pub fn attend<
         result.crew.sender.end }
     ensures control { J.does workers.control result.crew.control }
 {
-    let pace = ending.pace();
+    let pace = shutdown.pace();
     let Crew {
         receiver,
         ticker,
@@ -71,23 +71,23 @@ pub fn attend<
             worker: receiver.worker,
             caller: receiver.caller,
             gate: Notifying::new(pace),
-            ending,
+            shutdown,
         },
         ticker: Job {
             rt,
             worker: ticker.worker,
             caller: ticker.caller,
             gate: Pacing::new(rt, pace, timer),
-            ending,
+            shutdown,
         },
         sender: Job {
             rt,
             worker: sender.worker,
             caller: sender.caller,
             gate: Resting::new(rt, pace),
-            ending,
+            shutdown,
         },
         control,
     };
-    serve(rt, ending, crew)
+    serve(rt, shutdown, crew)
 }

@@ -3,8 +3,8 @@
 ghost use Rattle.std.specs.Prelude.{◌≡◌, ◌<◌, ◌≤◌, [], ◌∷◌, ◌++◌, None, Some, IfNone, IfSome, IfOk, IfErr};
 ghost use Rattle.std.specs.Prelude.{OnErr, OnOk, IsSome, IsTrue, true, false, not, ◌+◌, length, min, if◌then◌else◌};
 ghost use Rattle.swim_serve.specs.declared.connection_queue.TheConstants.{OPEN_MAX};
-ghost use Rattle.swim_shell.specs.Joins.{IsRelisted};
-ghost use Rattle.swim_shell.specs.Turns.{Turned, TurnedInVain};
+ghost use Rattle.swim_join.specs.Joins.{IsRelisted};
+ghost use Rattle.swim_join.specs.Turns.{Turned, TurnedInVain};
 ghost use Rattle.swim_shell.specs.declared.conversation.ControlEnd.TheVariants as ends;
 ghost use Rattle.swim_shell.specs.Calls.{CallerView};
 ghost use Rattle.swim_shell.specs.Control.{Converses};
@@ -18,10 +18,8 @@ use std::alloc::{AllocError, Global};
 use std::marker::Model;
 use std::time::Clock;
 use swim_handle::Identity;
-use swim_shell::{
-    AnswerText, ControlEnd, Conversation, Doors, Intervals, Joiner, LIST_MAX, Observer, Refusal,
-    Worker,
-};
+use swim_join::{Intervals, Joiner, LIST_MAX};
+use swim_shell::{AnswerText, ControlEnd, Conversation, Doors, Observer, Refusal, Worker};
 use swim_wire::Endpoint;
 
 /// Serves control connections, a line a turn: the one that has the turns keeps them until its answer is written, and then stands

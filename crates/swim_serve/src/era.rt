@@ -294,7 +294,7 @@ fn work<
     mut held: Held<N>,
     outside: Outside<I, M, R, O>,
     board: &'x SharedCounters,
-    ending: &'x Shutdown<'x, I::Alarm>,
+    shutdown: &'x Shutdown<'x, I::Alarm>,
 ) -> Result<Returned<N, I, M, R, O>, Refusal>
     requires passes { held.passes.items ≡ new_passes CALLERS }
     requires ring { N.link ≡ held.ring.ring }
@@ -322,7 +322,7 @@ fn work<
         mut timer,
         expelled_ends,
     } = outside;
-    let pace = ending.pace();
+    let pace = shutdown.pace();
     let Some(mut callers) = callers_of(rt, shared, pace, &mut held, logs, board) else {
         return Err(Refusal::Memory);
     };
@@ -347,10 +347,10 @@ fn work<
             worker: desk,
             caller: callers.control,
             gate: Notifying::new(pace),
-            ending,
+            shutdown,
         },
     };
-    let back = attend(rt, ending, &mut timer, workers);
+    let back = attend(rt, shutdown, &mut timer, workers);
     Ok(take_apart(back, held.passes, eras, timer, expelled_ends))
 }
 
@@ -474,7 +474,7 @@ pub fn run_era<
         }
     };
     let pace = Pace::new();
-    let ending = Shutdown::new(&pace, alarms);
+    let shutdown = Shutdown::new(&pace, alarms);
     let desk = &outside.desk;
     let board = SharedCounters::new(
         outside.eras.counts(),
@@ -482,7 +482,7 @@ pub fn run_era<
         desk.identity(),
         desk.listed(),
     );
-    let back = match work(rt, &shared, held, outside, &board, &ending) {
+    let back = match work(rt, &shared, held, outside, &board, &shutdown) {
         Ok(back) => back,
         Err(why) => return Err(cut_short(alloc, shared, why)),
     };

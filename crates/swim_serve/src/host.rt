@@ -8,11 +8,10 @@ use crate::outside::Outside;
 use arrayvec::ArrayVec;
 use log::Log;
 use std::time::Clock;
+use swim_join::{Intervals, LIST_MAX};
 use swim_node::Link;
 use swim_record::{Keeper, Unkept};
-use swim_shell::{
-    AnswerText, ControlEnd, Doors, Inbound, Intervals, LIST_MAX, SETTINGS_REFUSED, answer_of,
-};
+use swim_shell::{AnswerText, ControlEnd, Doors, Inbound, SETTINGS_REFUSED, answer_of};
 use swim_state::Peers;
 use swim_wire::Endpoint;
 

@@ -18,7 +18,7 @@ pub struct Job<'a, W: Wait, C: IntoParts + Drop, K: Worker<C> + Drop, G: Gate + 
     /// What is asked before each of its turns.
     pub gate: G,
     /// What ends all others.
-    pub ending: &'a Shutdown<'a, M>,
+    pub shutdown: &'a Shutdown<'a, M>,
 }
 
 /// A worker, and by whom it calls.
@@ -63,10 +63,10 @@ impl<
             mut worker,
             mut caller,
             mut gate,
-            ending,
+            shutdown,
         } = self;
         let end = run(rt, &mut worker, &mut caller, &mut gate);
-        ending.end();
+        shutdown.end();
         Left {
             worker,
             parts: caller.into_parts(),

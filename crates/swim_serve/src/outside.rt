@@ -19,9 +19,10 @@ use std::alloc::{AllocError, Global};
 use std::marker::Model;
 use std::time::{Clock, Duration};
 use swim_handle::{CallLog, Crew, Identity};
+use swim_join::Joiner;
 use swim_member::Settings;
 use swim_node::Link;
-use swim_shell::{Doors, Inbound, Joiner, Receiver, Ticker};
+use swim_shell::{Doors, Inbound, Receiver, Ticker};
 use swim_wire::{Endpoint, Rules};
 
 /// The stream of the generator that draws the members to join.

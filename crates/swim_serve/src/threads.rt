@@ -48,7 +48,7 @@ type Thread<K> = PromisedHandle<<K as Work>::Done, Does<K>>;
 /// before its first turn: so what it works with comes back, to stand here.
 fn start<'s, X, K: Work<Done: Send + Drop + 's> + Send + Drop + 's, M: Alarm>(
     scope: &Scope<'s, X>,
-    ending: &Shutdown<M>,
+    shutdown: &Shutdown<M>,
     spare: &mut Option<K::Done>,
     work: K,
 ) -> Option<Thread<K>>
@@ -61,7 +61,7 @@ fn start<'s, X, K: Work<Done: Send + Drop + 's> + Send + Drop + 's, M: Alarm>(
     match scope.spawn_with(promise, move || work.work()) {
         Ok(thread) => Some(thread),
         Err(refused) => {
-            ending.end();
+            shutdown.end();
             *spare = Some((refused.value)());
             None
         }
@@ -85,7 +85,7 @@ fn done_of<T: Threads, K: Work<Done: Send + Drop> + Drop>(
 }
 
 /// Runs a crew until one of its workers has ended and the others have stopped: three in threads of their own, and control in the
-/// caller's. Each ends all by this `ending`.
+/// caller's. Each ends all by this `shutdown`.
 pub fn serve<
     T: Threads + Wait + Sync,
     M: Alarm,
@@ -93,7 +93,11 @@ pub fn serve<
     B: Work<Done: Send + Drop> + Send + Drop,
     S: Work<Done: Send + Drop> + Send + Drop,
     C: Work<Done: Drop> + Drop,
->(rt: &T, ending: &Shutdown<M>, crew: Crew<A, B, S, C>) -> Back<A::Done, B::Done, S::Done, C::Done>
+>(
+    rt: &T,
+    shutdown: &Shutdown<M>,
+    crew: Crew<A, B, S, C>,
+) -> Back<A::Done, B::Done, S::Done, C::Done>
     ensures receiver { A.does crew.receiver result.crew.receiver }
     ensures ticker { B.does crew.ticker result.crew.ticker }
     ensures sender { S.does crew.sender result.crew.sender }
@@ -115,9 +119,9 @@ pub fn serve<
             ensures control { C.does control result.crew.control }
         {
             let mut spare = (None, None, None);
-            let receiver = start(scope, ending, &mut spare.0, receiver);
-            let ticker = start(scope, ending, &mut spare.1, ticker);
-            let sender = start(scope, ending, &mut spare.2, sender);
+            let receiver = start(scope, shutdown, &mut spare.0, receiver);
+            let ticker = start(scope, shutdown, &mut spare.1, ticker);
+            let sender = start(scope, shutdown, &mut spare.2, sender);
             let had_threads = receiver.is_some() && ticker.is_some() && sender.is_some();
             let control = control.work();
             let crew = Crew {

@@ -3,22 +3,7 @@ use Rattle.std.proofs.Common.{◌≡◌, ℕ, ◌+◌, Bool, true, false, List, 
 use Rattle.std.proofs.lemmas.List.{append-nil}
 use Rattle.swim_node.specs.Link.{Fate, all_of, kept_of, lost_of}
 use Rattle.swim_shared.specs.Outboxes.{Handed, HandedOne}
-
-all_of-append : (xs ys : List Fate) → all_of (xs ++ ys) ≡ all_of xs ++ all_of ys
-all_of-append [] ys = refl
-all_of-append (x ∷ xs) ys = ap (λ (w : List (ℕ × List ℕ)). x.datagram ∷ w) (all_of-append xs ys)
-
-kept_if : (b : Bool) (d : ℕ × List ℕ) (xs ys : List (ℕ × List ℕ)) → (if b then d ∷ (xs ++ ys) else (xs ++ ys)) ≡ (if b then d ∷ xs else xs) ++ ys
-kept_if true d xs ys = refl
-kept_if false d xs ys = refl
-
-kept_of-append : (xs ys : List Fate) → kept_of (xs ++ ys) ≡ kept_of xs ++ kept_of ys
-kept_of-append [] ys = refl
-kept_of-append (x ∷ xs) ys = ap (λ (w : List (ℕ × List ℕ)). if x.taken then x.datagram ∷ w else w) (kept_of-append xs ys) ∙ kept_if x.taken x.datagram (kept_of xs) (kept_of ys)
-
-lost_of-append : (xs ys : List Fate) → lost_of (xs ++ ys) ≡ lost_of xs + lost_of ys
-lost_of-append [] ys = omega arith
-lost_of-append (x ∷ xs) ys = omega (arith, lost_of-append xs ys)
+use Rattle.swim_node.proofs.Fates.{all_of-append, kept_of-append, lost_of-append}
 
 took_if : (b : Bool) (d : ℕ × List ℕ) (t t1 t2 : List (ℕ × List ℕ)) (fs : List Fate) → t1 ≡ t ++ kept_of fs → t2 ≡ (if b then t1 ++ d ∷ [] else t1) → t2 ≡ t ++ kept_of (fs ++ record { datagram = d; taken = b } ∷ [])
 took_if true d t t1 t2 fs h k = k ∙ ap (λ (w : List (ℕ × List ℕ)). w ++ d ∷ []) h ∙ append_assoc t (kept_of fs) (d ∷ []) ∙ ap (λ (w : List (ℕ × List ℕ)). t ++ w) (sym (kept_of-append fs (record { datagram = d; taken = true } ∷ [])))

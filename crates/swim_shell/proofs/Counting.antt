@@ -7,7 +7,7 @@ use Rattle.swim_member.specs.Texts.{note_name, note_number}
 use Rattle.swim_shell.specs.declared.counters.Counter.{Counter}
 use Rattle.swim_shell.specs.declared.counters.TheConstants.{NOTES_FROM}
 use Rattle.swim_shell.specs.Counters.{counter_at, counter_name, lines_from}
-use Rattle.swim_shell.proofs.News.{assoc}
+use Rattle.std.proofs.lemmas.List.{append_assoc}
 
 -- one line more
 pub lines_from-more : (line : Counter → ℕ → List ℕ) (place : ℕ) (counts : List ℕ) (count : ℕ) → lines_from line place (counts ++ count ∷ []) ≡ lines_from line place counts ++ line (counter_at (place + length counts)) count
@@ -18,7 +18,7 @@ lines_from-more line place (n ∷ ns) count =
     let next : place + 1 + length ns ≡ place + length (n ∷ ns) = omega arith in
     ap (λ w. line (counter_at place) n ++ w) (lines_from-more line (place + 1) ns count)
     ∙ ap (λ k. line (counter_at place) n ++ (lines_from line (place + 1) ns ++ line (counter_at k) count)) next
-    ∙ sym (assoc (line (counter_at place) n) (lines_from line (place + 1) ns) (line (counter_at (place + length (n ∷ ns))) count))
+    ∙ sym (append_assoc (line (counter_at place) n) (lines_from line (place + 1) ns) (line (counter_at (place + length (n ∷ ns))) count))
 
 -- the line at a place of its own
 pub lines_from-taken : (line : Counter → ℕ → List ℕ) (place i : ℕ) (counts : List ℕ) (count : ℕ) → i < length counts → lines_from line place (take i counts ++ count ∷ []) ≡ lines_from line place (take i counts) ++ line (counter_at (place + i)) count
@@ -34,7 +34,7 @@ line_written line old text new place i at counts is less so_far then =
     then
     ∙ ap (λ w. w ++ line (counter_at at) count) so_far
     ∙ ap (λ k. old ++ lines_from line place (take i counts) ++ line (counter_at k) count) is
-    ∙ assoc old (lines_from line place (take i counts)) (line (counter_at (place + i)) count)
+    ∙ append_assoc old (lines_from line place (take i counts)) (line (counter_at (place + i)) count)
     ∙ ap (λ w. old ++ w) (sym (lines_from-taken line place i counts count less))
     ∙ ap (λ w. old ++ lines_from line place w) (sym (take_more counts i 0 less))
 

@@ -11,7 +11,6 @@ pub mod Receiving
 pub mod Ticking
 pub mod Losing
 pub mod Dealing
-pub mod Asking
 pub mod Crosses
 mod Examples
 pub mod Printing

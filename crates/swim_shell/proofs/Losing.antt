@@ -7,7 +7,9 @@ use Rattle.swim_node.specs.Link.{Fate, all_of, kept_of, lost_of}
 use Rattle.swim_shell.specs.declared.caller.Refusal.{Refusal}
 use Rattle.swim_shell.specs.Calls.{CallerView, NewCall, NewCalls, Refuses}
 use Rattle.swim_shell.specs.Losses.{OutgoingView, Handed, HandsOn, with_owed, losses_of, told_in, AreLow, Sending, owed_after, TellsInVain}
-use Rattle.swim_shell.proofs.News.{assoc, no_calls, more_calls, one_call}
+use Rattle.swim_shell.proofs.News.{no_calls, more_calls, one_call}
+use Rattle.swim_node.proofs.Fates.{all_of-append, kept_of-append, lost_of-append}
+use Rattle.std.proofs.lemmas.List.{append_assoc}
 
 losses_of-append : (xs ys : List ℕ) → losses_of (xs ++ ys) ≡ losses_of xs ++ losses_of ys
 losses_of-append [] ys = refl
@@ -21,29 +23,13 @@ low_parts : (xs ys : List ℕ) → AreLow (xs ++ ys) → AreLow xs × AreLow ys
 low_parts [] ys h = (tt, h)
 low_parts (x ∷ xs) ys h = let p = low_parts xs ys h.1 in ((h.0, p.0), p.1)
 
-all_of-append : (xs ys : List Fate) → all_of (xs ++ ys) ≡ all_of xs ++ all_of ys
-all_of-append [] ys = refl
-all_of-append (x ∷ xs) ys = ap (λ w. x.datagram ∷ w) (all_of-append xs ys)
-
-kept_one : (taken : Bool) (d : ℕ × List ℕ) (xs ys zs : List (ℕ × List ℕ)) → zs ≡ xs ++ ys → (if taken then d ∷ zs else zs) ≡ (if taken then d ∷ xs else xs) ++ ys
-kept_one true d xs ys zs e = ap (λ w. d ∷ w) e
-kept_one false d xs ys zs e = e
-
-kept_of-append : (xs ys : List Fate) → kept_of (xs ++ ys) ≡ kept_of xs ++ kept_of ys
-kept_of-append [] ys = refl
-kept_of-append (x ∷ xs) ys = kept_one x.taken x.datagram (kept_of xs) (kept_of ys) (kept_of (xs ++ ys)) (kept_of-append xs ys)
-
-lost_of-append : (xs ys : List Fate) → lost_of (xs ++ ys) ≡ lost_of xs + lost_of ys
-lost_of-append [] ys = omega arith
-lost_of-append (x ∷ xs) ys = omega (arith, lost_of-append xs ys)
-
 handed_none : (tells : Type 0) (a : OutgoingView) → Handed tells a a []
 handed_none tells a = record { out = sym (append-nil a.out); took = λ _. sym (append-nil a.took); lost = omega arith }
 
 handed_more : (tells : Type 0) (a m b : OutgoingView) (xs ys : List Fate) → Handed tells a m xs → Handed tells m b ys → Handed tells a b (xs ++ ys)
 handed_more tells a m b xs ys h k = record {
-  out = k.out ∙ (ap (λ w. w ++ all_of ys) h.out ∙ (assoc a.out (all_of xs) (all_of ys) ∙ ap (λ w. a.out ++ w) (sym (all_of-append xs ys))));
-  took = λ i. k.took i ∙ (ap (λ w. w ++ kept_of ys) (h.took i) ∙ (assoc a.took (kept_of xs) (kept_of ys) ∙ ap (λ w. a.took ++ w) (sym (kept_of-append xs ys))));
+  out = k.out ∙ (ap (λ w. w ++ all_of ys) h.out ∙ (append_assoc a.out (all_of xs) (all_of ys) ∙ ap (λ w. a.out ++ w) (sym (all_of-append xs ys))));
+  took = λ i. k.took i ∙ (ap (λ w. w ++ kept_of ys) (h.took i) ∙ (append_assoc a.took (kept_of xs) (kept_of ys) ∙ ap (λ w. a.took ++ w) (sym (kept_of-append xs ys))));
   lost = omega (arith, h.lost, k.lost, lost_of-append xs ys);
 }
 

@@ -8,17 +8,12 @@ use Rattle.swim_node.specs.declared.entry.Reply.{Reply}
 use Rattle.swim_node.specs.History.{calls_by}
 use Rattle.swim_shell.specs.declared.caller.Refusal.{Refusal}
 use Rattle.swim_shell.specs.Calls.{CallerView, events_of, Gains, NewCalls, NewCall, Refuses, RefusesAfter}
-
-pub assoc : {A : Type 0} (xs ys zs : List A) → (xs ++ ys) ++ zs ≡ xs ++ (ys ++ zs)
-assoc [] ys zs = refl
-assoc (x ∷ xs) ys zs = ap (λ w. x ∷ w) (assoc xs ys zs)
+use Rattle.swim_node.proofs.Lists.{prefix_trans}
+use Rattle.std.proofs.lemmas.List.{append_assoc}
 
 pub events_of-append : (xs ys : List Entry) → events_of (xs ++ ys) ≡ events_of xs ++ events_of ys
 events_of-append [] ys = refl
 events_of-append (x ∷ xs) ys = ap (λ w. x.event ∷ w) (events_of-append xs ys)
-
-pub prefix_trans : {A : Type 0} (xs ys zs : List A) → IsPrefix xs ys → IsPrefix ys zs → IsPrefix xs zs
-prefix_trans xs ys zs p q = (p.0 ++ q.0, sym (assoc xs p.0 q.0) ∙ ap (λ w. w ++ q.0) p.1 ∙ q.1)
 
 -- nothing more seen
 pub same_seen : (p q : CallerView) → q.seen ≡ p.seen → q.caller ≡ p.caller → Gains p q []
@@ -29,7 +24,7 @@ no_gain p = same_seen p p refl refl
 
 pub more_gains : (p q r : CallerView) (xs ys : List Entry) → Gains p q xs → Gains q r ys → Gains p r (xs ++ ys)
 more_gains p q r xs ys a b = record {
-  own = sym (ap (λ c. calls_by c r.seen) a.caller) ∙ (b.own ∙ (ap (λ w. w ++ ys) (ap (λ c. calls_by c q.seen) a.caller ∙ a.own) ∙ assoc (calls_by p.caller p.seen) xs ys));
+  own = sym (ap (λ c. calls_by c r.seen) a.caller) ∙ (b.own ∙ (ap (λ w. w ++ ys) (ap (λ c. calls_by c q.seen) a.caller ∙ a.own) ∙ append_assoc (calls_by p.caller p.seen) xs ys));
   caller = b.caller ∙ a.caller;
   seen = prefix_trans p.seen q.seen r.seen a.seen b.seen;
 }
@@ -53,7 +48,7 @@ more_calls p q r es fs a b = record {
   entries = a.entries ++ b.entries;
   events_are = events_of-append a.entries b.entries ∙ (ap (λ w. w ++ events_of b.entries) a.events_are ∙ ap (λ w. es ++ w) b.events_are);
   gains = more_gains p q r a.entries b.entries a.gains b.gains;
-  asked = b.asked ∙ (ap (λ w. w ++ fs) a.asked ∙ assoc p.asked es fs);
+  asked = b.asked ∙ (ap (λ w. w ++ fs) a.asked ∙ append_assoc p.asked es fs);
 }
 
 pub one_call : (p q : CallerView) (event : Event) (reply : Reply) → NewCall p q event reply → NewCalls p q (event ∷ [])

@@ -12,13 +12,13 @@ use Rattle.swim_shell.specs.declared.lines.LineText.{LineText}
 use Rattle.swim_shell.specs.declared.lines.NoLine.{NoLine}
 use Rattle.swim_shell.specs.declared.lines.NoLine.TheVariants.{NotYet, Ended}
 use Rattle.swim_shell.specs.Lines.{Takes, ReadsByte, IsLine, TakesLine, TakesNoLine, fault_at, ReadsOn, EndsFor}
-use Rattle.swim_shell.proofs.News.{assoc}
+use Rattle.std.proofs.lemmas.List.{append_assoc}
 
 consumes_more : (a b c : Option (List ℕ)) (xs ys : List ℕ) → Consumes a b xs → Consumes b c ys → Consumes a c (xs ++ ys)
 consumes_more None b c xs ys h k = tt
 consumes_more (Some x) None c xs ys h k = absurd h
 consumes_more (Some x) (Some y) None xs ys h k = absurd k
-consumes_more (Some x) (Some y) (Some z) xs ys h k = h ∙ (ap (λ w. xs ++ w) k ∙ sym (assoc xs ys z))
+consumes_more (Some x) (Some y) (Some z) xs ys h k = h ∙ (ap (λ w. xs ++ w) k ∙ sym (append_assoc xs ys z))
 
 consumes_none : (a : Option (List ℕ)) → Consumes a a []
 consumes_none None = tt
@@ -42,7 +42,7 @@ pub takes_more : (a b c : Option (List ℕ)) (k l m xs ys : List ℕ) → Takes 
 takes_more a b c k l m xs ys s t = record {
   came = s.came ++ t.came;
   took = consumes_more a b c s.came t.came s.took t.took;
-  whole = sym (assoc k s.came t.came) ∙ (ap (λ w. w ++ t.came) s.whole ∙ (assoc xs l t.came ∙ (ap (λ w. xs ++ w) t.whole ∙ sym (assoc xs ys m))));
+  whole = sym (append_assoc k s.came t.came) ∙ (ap (λ w. w ++ t.came) s.whole ∙ (append_assoc xs l t.came ∙ (ap (λ w. xs ++ w) t.whole ∙ sym (append_assoc xs ys m))));
 }
 
 -- ---- lines
@@ -52,7 +52,7 @@ pub part_more : (a b c : Option (List ℕ)) (x q next k l : List ℕ) (read : Op
 part_more a b c x q next k l read byte s r one is = let t : Takes b c k l (byte ∷ []) = subst (λ y. ReadsByte {E = Error} b c k l (Ok y)) one r in takes_more a b c x (q ++ k) (next ++ l) [] [] s (record {
   came = t.came;
   took = t.took;
-  whole = assoc q k t.came ∙ (ap (λ w. q ++ w) t.whole ∙ (sym (assoc q (byte ∷ []) l) ∙ ap (λ w. w ++ l) (sym is)));
+  whole = append_assoc q k t.came ∙ (ap (λ w. q ++ w) t.whole ∙ (sym (append_assoc q (byte ∷ []) l) ∙ ap (λ w. w ++ l) (sym is)));
 })
 
 -- a part stays as it is
@@ -60,7 +60,7 @@ pub part_same : (a b c : Option (List ℕ)) (x q k l : List ℕ) → Takes a b x
 part_same a b c x q k l s t = takes_more a b c x (q ++ k) (q ++ l) [] [] s (record {
   came = t.came;
   took = t.took;
-  whole = assoc q k t.came ∙ ap (λ w. q ++ w) t.whole;
+  whole = append_assoc q k t.came ∙ ap (λ w. q ++ w) t.whole;
 })
 
 -- a part and its end are a line
@@ -70,7 +70,7 @@ part_whole a b c x q next k l read byte line s r one ends lacks is empty = let t
   took = takes_more a b c x (q ++ k) (next ++ l) [] (q ++ 10 ∷ []) s (record {
     came = t.came;
     took = t.took;
-    whole = assoc q k t.came ∙ (ap (λ w. q ++ w) t.whole ∙ (sym (assoc q (10 ∷ []) l) ∙ ap (λ w. (q ++ 10 ∷ []) ++ (w ++ l)) (sym empty)));
+    whole = append_assoc q k t.came ∙ (ap (λ w. q ++ w) t.whole ∙ (sym (append_assoc q (10 ∷ []) l) ∙ ap (λ w. (q ++ 10 ∷ []) ++ (w ++ l)) (sym empty)));
   });
   lacks = lacks;
   is = is;

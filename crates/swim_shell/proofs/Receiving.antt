@@ -10,13 +10,14 @@ use Rattle.swim_member.specs.declared.event.Event.{Event}
 use Rattle.swim_node.specs.declared.entry.Reply.{Reply}
 use Rattle.swim_shell.specs.Calls.{CallerView, NewCall, NewCalls, Refuses}
 use Rattle.swim_shell.specs.Inbounds.{Came, Received, Nothing, Failed, events_at, events_for, failures_in, row_after, failures_in_a_row, is_calm, Took, event_of, waiting, ReceiverView, receiver_of, Takes, Receiving, kept_after, ReceivesLast}
-use Rattle.swim_shell.proofs.News.{assoc, no_calls, more_calls, one_call}
+use Rattle.swim_shell.proofs.News.{no_calls, more_calls, one_call}
+use Rattle.std.proofs.lemmas.List.{append_assoc}
 
 events_for-append : (xs ys : List Came) → events_for (xs ++ ys) ≡ events_for xs ++ events_for ys
 events_for-append [] ys = refl
-events_for-append (x ∷ xs) ys = ap (λ w. events_at x ++ w) (events_for-append xs ys) ∙ sym (assoc (events_at x) (events_for xs) (events_for ys))
+events_for-append (x ∷ xs) ys = ap (λ w. events_at x ++ w) (events_for-append xs ys) ∙ sym (append_assoc (events_at x) (events_for xs) (events_for ys))
 
-failures_in-append : (xs ys : List Came) → failures_in (xs ++ ys) ≡ failures_in xs + failures_in ys
+pub failures_in-append : (xs ys : List Came) → failures_in (xs ++ ys) ≡ failures_in xs + failures_in ys
 failures_in-append [] ys = omega arith
 failures_in-append (x ∷ xs) ys = omega (arith, failures_in-append xs ys)
 
@@ -40,7 +41,7 @@ is_calm-snoc n (x ∷ xs) c h k = let p = and_step _ _ h in and_join _ _ p.0 (is
 
 took_more : (tells : Type 0) (a b c : List Came) (f g h : ℕ) (xs ys : List Came) → Took tells a b f g xs → Took tells b c g h ys → Took tells a c f h (xs ++ ys)
 took_more tells a b c f g h xs ys s t = record {
-  told = λ i. t.told i ∙ (ap (λ w. w ++ ys) (s.told i) ∙ assoc a xs ys);
+  told = λ i. t.told i ∙ (ap (λ w. w ++ ys) (s.told i) ∙ append_assoc a xs ys);
   failed = omega (arith, s.failed, t.failed, failures_in-append xs ys);
 }
 
@@ -98,7 +99,7 @@ receiving_turn tells a m b p q r n taken w t none calls less =
       entered = w.entered ++ waiting taken;
       took = took_more tells a.came m.came b.came a.failures m.failures b.failures w.came t.came w.took t.took;
       calls = more_calls p q r w.entered (waiting taken) w.calls calls;
-      all_entered = ap (λ l. waiting a.kept ++ l) (events_for-append w.came t.came) ∙ (sym (assoc (waiting a.kept) (events_for w.came) (events_for t.came)) ∙ (ap (λ l. l ++ events_for t.came) w.all_entered ∙ (assoc w.entered (waiting m.kept) (events_for t.came) ∙ (ap (λ l. w.entered ++ l) t.events_are ∙ (sym (append-nil (w.entered ++ waiting taken)) ∙ ap (λ k. (w.entered ++ waiting taken) ++ waiting k) (sym none))))));
+      all_entered = ap (λ l. waiting a.kept ++ l) (events_for-append w.came t.came) ∙ (sym (append_assoc (waiting a.kept) (events_for w.came) (events_for t.came)) ∙ (ap (λ l. l ++ events_for t.came) w.all_entered ∙ (append_assoc w.entered (waiting m.kept) (events_for t.came) ∙ (ap (λ l. w.entered ++ l) t.events_are ∙ (sym (append-nil (w.entered ++ waiting taken)) ∙ ap (λ k. (w.entered ++ waiting taken) ++ waiting k) (sym none))))));
       row_is = row ∙ sym (row_on a.row w.came t.came);
       calm = calm_on a.row w.came t.came (length (waiting m.kept)) t.one w.calm (subst (λ k. k < 16) row less);
       each = omega (arith, w.each, t.one, length-append w.came t.came, ap (λ k. length (waiting k)) none);

@@ -18,9 +18,9 @@ use Rattle.swim_shell.specs.Requests.{Names}
 use Rattle.swim_shell.specs.Answers.{Answers, Gives, end_of}
 use Rattle.swim_shell.specs.Views.{ConversationView, is_waiting, waits}
 use Rattle.swim_shell.specs.Control.{Heard, Hears, bytes_of, answers_of, DueAfter, Talks, carried, HadToWrite, Converses, IsSettled, ConversedBy, HearsLine, HearsNone, due_before, EndsIf, Sends}
-use Rattle.swim_shell.proofs.News.{assoc}
 use Rattle.swim_shell.proofs.Reading.{takes_nothing, takes_more}
 use Rattle.swim_shell.proofs.Writing.{appends_nothing, gives_nothing, gives_more}
+use Rattle.std.proofs.lemmas.List.{append_assoc}
 
 -- ---- lines
 
@@ -34,11 +34,11 @@ due_more d e f (x ∷ xs) ys h k = (h.0, due_more (end_of x.refused x.asked) e f
 
 bytes_of-append : (xs ys : List Heard) → bytes_of (xs ++ ys) ≡ bytes_of xs ++ bytes_of ys
 bytes_of-append [] ys = refl
-bytes_of-append (x ∷ xs) ys = ap (λ w. (x.text ++ 10 ∷ []) ++ w) (bytes_of-append xs ys) ∙ sym (assoc (x.text ++ 10 ∷ []) (bytes_of xs) (bytes_of ys))
+bytes_of-append (x ∷ xs) ys = ap (λ w. (x.text ++ 10 ∷ []) ++ w) (bytes_of-append xs ys) ∙ sym (append_assoc (x.text ++ 10 ∷ []) (bytes_of xs) (bytes_of ys))
 
 answers_of-append : (xs ys : List Heard) → answers_of (xs ++ ys) ≡ answers_of xs ++ answers_of ys
 answers_of-append [] ys = refl
-answers_of-append (x ∷ xs) ys = ap (λ w. x.answer ++ w) (answers_of-append xs ys) ∙ sym (assoc x.answer (answers_of xs) (answers_of ys))
+answers_of-append (x ∷ xs) ys = ap (λ w. x.answer ++ w) (answers_of-append xs ys) ∙ sym (append_assoc x.answer (answers_of xs) (answers_of ys))
 
 talks_more : (limit : ℕ) (a b c : ConversationView) (p q r : CallerView) (d e f : Option LineEnd) (xs ys : List Heard) → Talks limit a p b q d e xs → Talks limit b q c r e f ys → Talks limit a p c r d f (xs ++ ys)
 talks_more limit a b c p q r d e f xs ys s t = record {

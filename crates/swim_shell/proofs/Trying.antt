@@ -4,7 +4,7 @@ use Rattle.std.specs.Prelude.{All}
 use Rattle.std.proofs.lemmas.List.{append-nil}
 use Rattle.std.proofs.lemmas.List.Elements.{All-nil, All-push}
 use Rattle.swim_shell.specs.Tries.{Tried}
-use Rattle.swim_shell.proofs.News.{assoc}
+use Rattle.std.proofs.lemmas.List.{append_assoc}
 
 -- so many tries so far, none of which was an end
 pub record Trying {A : Type 0} (GoesOn : A → Type 0) (old new : List A) (count : ℕ) : Type 0 where
@@ -17,7 +17,7 @@ pub trying_none : {A : Type 0} (GoesOn : A → Type 0) (old : List A) → Trying
 trying_none GoesOn old = record { answers = []; are = sym (append-nil old); went_on = All-nil GoesOn; count_is = refl }
 
 more : {A : Type 0} (old mid new answers : List A) (last : A) → mid ≡ old ++ answers → new ≡ mid ++ last ∷ [] → new ≡ old ++ (answers ++ last ∷ [])
-more old mid new answers last h k = k ∙ (ap (λ w. w ++ last ∷ []) h ∙ assoc old answers (last ∷ []))
+more old mid new answers last h k = k ∙ (ap (λ w. w ++ last ∷ []) h ∙ append_assoc old answers (last ∷ []))
 
 pub trying_more : {A : Type 0} (GoesOn : A → Type 0) (old mid new : List A) (count : ℕ) (last : A) → Trying GoesOn old mid count → new ≡ mid ++ last ∷ [] → GoesOn last → Trying GoesOn old new (count + 1)
 trying_more GoesOn old mid new count last t is on = record {

@@ -10,7 +10,7 @@ use Rattle.swim_wire.specs.declared.update.Update.{Update}
 use Rattle.swim_shell.specs.Answers.{Gives, row_text, rows_text}
 use Rattle.swim_shell.specs.declared.answer_writer.Sent.{Sent}
 use Rattle.swim_shell.specs.Writes.{sent_by, WritesOn}
-use Rattle.swim_shell.proofs.News.{assoc}
+use Rattle.std.proofs.lemmas.List.{append_assoc}
 
 appends_none : (u v : Option (List ℕ)) → Keeps u v → Appends u v []
 appends_none None v k = tt
@@ -21,7 +21,7 @@ appends_more : (u v w : Option (List ℕ)) (xs ys : List ℕ) → Appends u v xs
 appends_more None v w xs ys h k = tt
 appends_more (Some x) None w xs ys h k = absurd h
 appends_more (Some x) (Some y) None xs ys h k = absurd k
-appends_more (Some x) (Some y) (Some z) xs ys h k = k ∙ (ap (λ t. t ++ ys) h ∙ assoc x xs ys)
+appends_more (Some x) (Some y) (Some z) xs ys h k = k ∙ (ap (λ t. t ++ ys) h ∙ append_assoc x xs ys)
 
 pub gives_none : (u v : Option (List ℕ)) (left : List ℕ) → Keeps u v → Gives u v left left []
 gives_none u v left k = record { went = []; wrote = appends_none u v k; whole = append-nil left }
@@ -47,7 +47,7 @@ pub gives_more : (u v w : Option (List ℕ)) (k l m xs ys : List ℕ) → Gives 
 gives_more u v w k l m xs ys s t = record {
   went = s.went ++ t.went;
   wrote = appends_more u v w s.went t.went s.wrote t.wrote;
-  whole = sym (assoc k xs ys) ∙ (ap (λ r. r ++ ys) s.whole ∙ (assoc s.went l ys ∙ (ap (λ r. s.went ++ r) t.whole ∙ sym (assoc s.went t.went m))));
+  whole = sym (append_assoc k xs ys) ∙ (ap (λ r. r ++ ys) s.whole ∙ (append_assoc s.went l ys ∙ (ap (λ r. s.went ++ r) t.whole ∙ sym (append_assoc s.went t.went m))));
 }
 
 pub gives_on : (u v w : Option (List ℕ)) (k l m : List ℕ) → Gives u v k l [] → Gives v w l m [] → Gives u w k m []
@@ -55,11 +55,11 @@ gives_on u v w k l m s t = gives_more u v w k l m [] [] s t
 
 rows_text-append : (rows : List Update) (row : Update) → rows_text (rows ++ row ∷ []) ≡ rows_text rows ++ row_text row
 rows_text-append [] row = append-nil (row_text row)
-rows_text-append (r ∷ rows) row = ap (λ w. row_text r ++ w) (rows_text-append rows row) ∙ sym (assoc (row_text r) (rows_text rows) (row_text row))
+rows_text-append (r ∷ rows) row = ap (λ w. row_text r ++ w) (rows_text-append rows row) ∙ sym (append_assoc (row_text r) (rows_text rows) (row_text row))
 
 -- the line of one row more
 pub row_written : (old text new : List ℕ) (rows more : List Update) (row : Update) → text ≡ old ++ rows_text rows → new ≡ text ++ row_text row → more ≡ rows ++ row ∷ [] → new ≡ old ++ rows_text more
-row_written old text new rows more row so_far is next = is ∙ (ap (λ w. w ++ row_text row) so_far ∙ (assoc old (rows_text rows) (row_text row) ∙ (ap (λ w. old ++ w) (sym (rows_text-append rows row)) ∙ ap (λ w. old ++ rows_text w) (sym next))))
+row_written old text new rows more row so_far is next = is ∙ (ap (λ w. w ++ row_text row) so_far ∙ (append_assoc old (rows_text rows) (row_text row) ∙ (ap (λ w. old ++ w) (sym (rows_text-append rows row)) ∙ ap (λ w. old ++ rows_text w) (sym next))))
 
 -- steps after which there are more
 

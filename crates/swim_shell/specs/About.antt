@@ -1,12 +1,25 @@
 -- Who a member is, and the text by which that is told.
-use Rattle.std.specs.Prelude.{ℕ, ◌==◌, Bool, true, false, if◌then◌else◌, List, ◌++◌, codes, Some}
+use Rattle.std.specs.Prelude.{ℕ, ◌==◌, Bool, true, false, if◌then◌else◌, List, ◌++◌, codes}
+use Rattle.std.specs.Prelude.{Option, None, Some}
 use Rattle.std.specs.Fmt.{decimal}
+use Rattle.swim_member.specs.declared.state.Phase.{Phase}
+use Rattle.swim_member.specs.declared.state.Phase.TheVariants.{Running}
 use Rattle.swim_node.specs.declared.entry.Status.{Status}
 use Rattle.swim_wire.specs.Codes.{rules_code}
 use Rattle.swim_wire.specs.Text.{endpoint_text}
 use Rattle.swim_shell.specs.declared.about.Who.{Who}
 use Rattle.swim_shell.specs.declared.about.About.{About}
-use Rattle.swim_shell.specs.Turns.{is_alone}
+
+-- the member takes part
+abbrev pub is_running : Phase → Bool
+is_running Running = true
+is_running _ = false
+
+-- the status shows that the member takes part, and holds nobody for alive or suspected
+abbrev pub is_alone : Option Status → Bool
+is_alone None = false
+is_alone (Some s) =
+    if is_running s.phase then (if s.alive == 0 then s.suspect == 0 else false) else false
 
 -- what a member tells by a status: it is alone if it takes part, has others to join, and has no row
 -- of another member that is alive or suspected

@@ -14,8 +14,3 @@ pub mod Control
 pub mod Inbounds
 pub mod Ticks
 pub mod Losses
-pub mod Moments
-pub mod Silences
-pub mod Joins
-pub mod Introductions
-pub mod Turns

@@ -1,12 +1,12 @@
 //! Who a member is, as it tells whoever looks at it.
 
 ghost use Rattle.std.specs.Prelude.{◌≡◌, ◌+◌, ◌≤◌, ◌++◌, [], length};
-ghost use Rattle.swim_shell.specs.About.{about_alone, about_head, about_of, about_run, about_text, yes_or_no};
+ghost use Rattle.swim_shell.specs.About.{about_alone, about_head, about_of, about_run, about_text, is_alone, yes_or_no};
 
-use crate::joiner::is_alone;
 use crate::printer::{ANSWER_MAX, AnswerText, add_counted, add_endpoint, add_text};
 use arrayvec::ArrayString;
 use std::fmt;
+use swim_member::Phase;
 use swim_node::Status;
 use swim_wire::{Endpoint, Rules};
 
@@ -48,6 +48,18 @@ pub struct About {
     pub who: Who,
     /// Whether it takes part, has others to join, and has no row of another member that is alive or suspected.
     pub is_alone: bool,
+}
+
+/// Whether the member takes part, and holds nobody for alive or suspected. One whose status is not shown does not say so.
+pub fn is_alone(status: Option<Status>) -> bool
+    ensures { result ≡ is_alone status }
+{
+    match status {
+        Some(status) => {
+            status.phase == Phase::Running && status.alive == 0 && status.suspect == 0
+        }
+        None => false,
+    }
 }
 
 impl Who {

@@ -6,7 +6,7 @@ use Rattle.swim_node.specs.declared.entry.Entry.{Entry}
 use Rattle.swim_node.specs.History.{calls_by}
 use Rattle.swim_node.proofs.Lists.{calls_by-append}
 use Rattle.swim_shell.specs.Calls.{CallerView, NewCall, calls_of, events_of}
-use Rattle.swim_shell.specs.Joins.{AsksInVain, JoinerView}
+use Rattle.swim_join.specs.Joins.{AsksInVain, JoinerView}
 use Rattle.swim_shell.specs.declared.caller.Refusal.{Refusal}
 use Rattle.swim_simulate.specs.Joining.{joined_after, last_joined}
 

@@ -30,15 +30,12 @@ use Rattle.swim_detect.proofs.Found.{log-append}
 use Rattle.swim_detect.proofs.Silent.{silent-found}
 use Rattle.swim_simulate.specs.declared.detection.Deadline.{Deadline}
 use Rattle.swim_simulate.specs.Detection.{IsHeldBriefly, made_of, cause_at_tick, CausesAreNamed, TicksHaveCauses}
+use Rattle.swim_detect.proofs.Found.{first-now}
 
 -- Deadlines
 
-stays-first : (x : ℕ) (base : State) (log : List Change) (steps : List Step) → StaysEligible x base log steps → is_eligible_name (state base log) x ≡ true
-stays-first x base log [] h = h
-stays-first x base log (e ∷ steps) h = h.0
-
 stays-at : (x : ℕ) (base : State) (log : List Change) (done rest : List Step) → StaysEligible x base log (done ++ rest) → is_eligible_name (state base (log_after base log done)) x ≡ true
-stays-at x base log [] rest h = stays-first x base log rest h
+stays-at x base log [] rest h = first-now x base log rest h
 stays-at x base log (e ∷ done) rest h = stays-at x base (changes_of base log e.event e.granted ++ log) done rest h.1
 
 pub held-briefly : (most : ℕ) (row : Row) (deadline : Deadline) (base : State) (before stretch : List Step) → IsHeldBriefly most row deadline base before stretch

@@ -3,8 +3,8 @@ use Rattle.std.specs.Prelude.{◌≡◌, ℕ, List, [], fold, Option, Some, None
 use Rattle.swim_member.specs.declared.event.Event.{Event}
 use Rattle.swim_member.specs.declared.event.Event.TheVariants.{Join}
 use Rattle.swim_shell.specs.Calls.{CallerView}
-use Rattle.swim_shell.specs.Joins.{JoinerView}
-use Rattle.swim_shell.specs.Turns.{Turned}
+use Rattle.swim_join.specs.Joins.{JoinerView}
+use Rattle.swim_join.specs.Turns.{Turned}
 
 -- whom the member is to join once it is asked this, too
 abbrev pub joined_after : Option ℕ → Event → Option ℕ

@@ -9,12 +9,11 @@ use crate::place::endpoint_of;
 use crate::views::Views;
 use arrayvec::{ArrayString, ArrayVec};
 use rand_chacha::ChaCha20Rng;
+use swim_join::{Intervals, Joiner, LIST_MAX};
 use swim_member::{Event, Settings};
 use swim_node::{Entry, Reply, Save, Status, Tag};
 use swim_plan::{Plan, PlanKey};
-use swim_shell::{
-    COUNTERS, Caller, Counters, Intervals, Joiner, LIST_MAX, Observer, QuietClock, Refusal, Who,
-};
+use swim_shell::{COUNTERS, Caller, Counters, Observer, QuietClock, Refusal, Who};
 use swim_trace::Trace;
 use swim_wire::{Endpoint, Rules, UPDATES_MAX, Update};
 

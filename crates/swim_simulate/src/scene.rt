@@ -17,10 +17,11 @@ use std::alloc::Global;
 use swim_charts::Tally;
 use swim_disk::Choice;
 use swim_group::Seat;
+use swim_join::Joiner;
 use swim_member::{Deal, Out};
 use swim_node::{Save, Status};
 use swim_plan::{Plan, PlanKey};
-use swim_shell::{Joiner, QuietClock};
+use swim_shell::QuietClock;
 use swim_wire::{Endpoint, MEMBERS_MAX, Update};
 
 /// A member that does what the node does that sits there, in a group of so many.

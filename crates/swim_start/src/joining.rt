@@ -4,7 +4,7 @@ ghost use Rattle.std.specs.Prelude.{◌≡◌, ◌+◌, ◌≤◌, ◌++◌, ◌
 ghost use Rattle.swim_start.specs.Starting.{once, others, peers_to_join};
 
 use arrayvec::ArrayVec;
-use swim_shell::LIST_MAX;
+use swim_join::LIST_MAX;
 use swim_wire::Endpoint;
 
 /// Adds a peer that is not the member itself and not there yet.

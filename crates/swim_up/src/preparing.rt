@@ -91,7 +91,7 @@ fn judge_joins(alloc: Global, words: &UpWords<'_>) -> Result<(), Failure> {
     Ok(())
 }
 
-/// The ending where a word is refused that is no address: too many to join, or no preset.
+/// The exit where a word is refused that is no address: too many to join, or no preset.
 fn refused(alloc: Global, refusal: SettingsRefusal, words: &UpWords<'_>) -> Failure {
     let preset = words.preset.unwrap_or("");
     if refusal == SettingsRefusal::Key(Key::Join) {
@@ -121,7 +121,7 @@ fn given_by(words: &UpWords<'_>) -> Given {
     }
 }
 
-/// The ending where the file says something else than the words, at this key.
+/// The exit where the file says something else than the words, at this key.
 fn clashes(
     alloc: Global,
     paths: &Paths,
@@ -140,7 +140,7 @@ fn clashes(
     )
 }
 
-/// The ending where a member has settings, and its state file is gone.
+/// The exit where a member has settings, and its state file is gone.
 fn lost(alloc: Global, paths: &Paths, told: &RunSettings) -> Failure {
     let (settings, file) = (paths.settings.as_str(), told.file.as_str());
     Failure::about(

@@ -24,12 +24,12 @@ pub struct Web<'a> {
     pub listen: &'a str,
 }
 
-/// The ending where no socket listens there.
+/// The exit where no socket listens there.
 fn refused(alloc: Global, listen: Endpoint, error: &Error) -> Failure {
-    let ending = Exit::of(error, Exit::Socket);
+    let exit = Exit::of(error, Exit::Socket);
     Failure::about(
         alloc,
-        ending,
+        exit,
         format_args!("TCP {listen} (--listen): {error}"),
     )
 }

@@ -22,7 +22,7 @@ const TICK_SECS: u64 = 5;
 fn ended_by_control<'x, T: Threads + Wait + Clock + Sync>(
     rt: &'x T,
     pace: &'x Pace,
-    ending: &'x Shutdown<'x, Socket>,
+    shutdown: &'x Shutdown<'x, Socket>,
     socket: &'x Socket,
     pause: Duration,
 ) -> Option<Instant> {
@@ -32,28 +32,28 @@ fn ended_by_control<'x, T: Threads + Wait + Clock + Sync>(
         worker: Waiting { rt, socket },
         caller: Nobody::new(),
         gate: Notifying::new(pace),
-        ending,
+        shutdown,
     };
     let ticker = Job {
         rt,
         worker: Idle,
         caller: Nobody::new(),
         gate: Pacing::new(rt, pace, &mut timer),
-        ending,
+        shutdown,
     };
     let sender = Job {
         rt,
         worker: Idle,
         caller: Nobody::new(),
         gate: Resting::new(rt, pace),
-        ending,
+        shutdown,
     };
     let control = Job {
         rt,
         worker: ends_third(rt, pause),
         caller: Nobody::new(),
         gate: Notifying::new(pace),
-        ending,
+        shutdown,
     };
     let crew = Crew {
         receiver,
@@ -61,15 +61,15 @@ fn ended_by_control<'x, T: Threads + Wait + Clock + Sync>(
         sender,
         control,
     };
-    serve(rt, ending, crew).crew.control.worker.at
+    serve(rt, shutdown, crew).crew.control.worker.at
 }
 
 /// When control ended in an era of its own.
 fn ended_at<T: Threads + Wait + Clock + Sync>(rt: &T, pause: Duration) -> Option<Instant> {
     let pace = Pace::new();
     let sockets = [Socket::new()];
-    let ending = Shutdown::new(&pace, &sockets);
-    ended_by_control(rt, &pace, &ending, &sockets[0], pause)
+    let shutdown = Shutdown::new(&pace, &sockets);
+    ended_by_control(rt, &pace, &shutdown, &sockets[0], pause)
 }
 
 /// Each round's end takes less than the limit.

@@ -1,5 +1,5 @@
 use Rattle.std.proofs.Common.{◌∙◌, ap, refl}
-use Rattle.swim_shell.specs.Turns.{joined_drawn}
+use Rattle.swim_join.specs.Turns.{joined_drawn}
 use Rattle.swim_library.specs.declared.seeking.Seeking.{Seeking}
 use Rattle.swim_library.proofs.Turning.{lacks_all}
 use Rattle.swim_library.proofs.running.Running.join_drawn.Goals as goal

@@ -1,6 +1,6 @@
 use Rattle.std.proofs.Common.{ap, rules, subst}
-use Rattle.swim_shell.specs.Turns.{turning}
-use Rattle.swim_shell.specs.declared.joiner.Due.{Due}
+use Rattle.swim_join.specs.Turns.{turning}
+use Rattle.swim_join.specs.declared.joiner.Due.{Due}
 use Rattle.swim_library.specs.Seeking.{DoesTask}
 use Rattle.swim_library.specs.declared.seeking.Seeking.{Seeking}
 use Rattle.swim_library.proofs.running.Running.take_turn.Goals as goal

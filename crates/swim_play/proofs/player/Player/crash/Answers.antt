@@ -1,9 +1,10 @@
 use Rattle.std.proofs.Common.{◌≡◌, sym, ◌∙◌}
 use Rattle.swim_play.specs.Play.{with_life_ended}
 use Rattle.swim_play.proofs.Openings.{crash-does, ended-none}
-use Rattle.swim_play.proofs.Sessions.{always_ok, kept-none}
+use Rattle.swim_play.proofs.Sessions.{kept-none}
 use Rattle.swim_play.proofs.player.Player.crash.Goals.{then-is_open+in_ok-end, else-is_open}
 use Rattle.swim_play.proofs.player.Player.crash.Goals as goal
+use Rattle.swim_state.proofs.Steps.{always_ok}
 
 pub returns : goal.returns
 returns c =

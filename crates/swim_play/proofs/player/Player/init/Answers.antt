@@ -1,7 +1,7 @@
 use Rattle.std.proofs.Common.{refl, sym, ◌∙◌}
 use Rattle.swim_play.proofs.Openings.{init-does}
-use Rattle.swim_play.proofs.Sessions.{always_ok}
 use Rattle.swim_play.proofs.player.Player.init.Goals as goal
+use Rattle.swim_state.proofs.Steps.{always_ok}
 
 pub returns-in-Ok : goal.returns-in-Ok
 returns-in-Ok c =

@@ -3,8 +3,8 @@ use Rattle.std.specs.Prelude.{is_some}
 use Rattle.swim_play.specs.Machinery.Session.{events_in}
 use Rattle.swim_play.specs.Play.{Playing}
 use Rattle.swim_play.proofs.Openings.{era-open, era-empty, keep-does}
-use Rattle.swim_play.proofs.Sessions.{always_ok}
 use Rattle.swim_play.proofs.player.Player.keep_peers.Goals as goal
+use Rattle.swim_state.proofs.Steps.{always_ok}
 
 pub keep_peers-requires : goal.keep_peers-requires
 keep_peers-requires c =

@@ -1,7 +1,7 @@
 use Rattle.std.proofs.Common.{refl, sym, ◌∙◌}
 use Rattle.swim_play.proofs.Openings.{start-unmade, start-opens}
-use Rattle.swim_play.proofs.Sessions.{always_ok}
 use Rattle.swim_play.proofs.player.Player.start.Goals as goal
+use Rattle.swim_state.proofs.Steps.{always_ok}
 
 pub returns-in-Err : goal.returns-in-Err
 returns-in-Err c =

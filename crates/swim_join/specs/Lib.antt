@@ -1,0 +1,5 @@
+pub mod Moments
+pub mod Silences
+pub mod Joins
+pub mod Introductions
+pub mod Turns
