@@ -11,7 +11,7 @@ use Rattle.swim_wire.specs.Reading.{updates_of}
 use Rattle.swim_member.specs.declared.settings.Settings.{Settings}
 use Rattle.swim_member.specs.declared.event.Event.{Event}
 use Rattle.swim_member.specs.declared.event.Event.TheVariants as event
-use Rattle.swim_member.specs.Deals.{deal_from}
+use Rattle.swim_rules.specs.Deals.{deal_from}
 use Rattle.swim_member.specs.Events.{Step, state_of}
 use Rattle.swim_member.specs.Member.{new_state, is_eligible_name}
 use Rattle.swim_member.specs.State.{State, Change, Heard, Probed}

@@ -8,7 +8,7 @@ use Rattle.swim_rules.specs.declared.table.Row.{Row}
 use Rattle.swim_rules.specs.Rows.{row_of, is_kind}
 use Rattle.swim_member.specs.Judged as judged
 use Rattle.swim_member.specs.Checks.{AreSound}
-use Rattle.swim_member.specs.Deals.{IsDeal}
+use Rattle.swim_rules.specs.Deals.{IsDeal}
 use Rattle.swim_member.specs.Judge.{HasDeal}
 use Rattle.swim_member.specs.Member.{is_eligible_name}
 use Rattle.swim_member.specs.State.{State, Change}

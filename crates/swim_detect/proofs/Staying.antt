@@ -12,7 +12,7 @@ use Rattle.swim_rules.specs.Rules.{overrides}
 use Rattle.swim_rules.specs.Rows.{AreInOrder, row_of, is_kind}
 use Rattle.swim_rules.proofs.Tables.{row_of-remove}
 use Rattle.swim_member.specs.Checks.{rules_of}
-use Rattle.swim_member.specs.Deals.{IsDeal}
+use Rattle.swim_rules.specs.Deals.{IsDeal}
 use Rattle.swim_member.specs.Judge.{HasDeal}
 use Rattle.swim_member.specs.Member.{is_eligible_name}
 use Rattle.swim_member.specs.State.{State, Change, Heard, Forgot, Looked, Listed}

@@ -18,7 +18,7 @@ use Rattle.swim_rules.proofs.Tables.{order-put}
 use Rattle.swim_member.specs.declared.settings.Settings.{Settings}
 use Rattle.swim_member.specs.declared.state.Probe.{Probe}
 use Rattle.swim_member.specs.Checks.{rules_of}
-use Rattle.swim_member.specs.Deals.{IsDeal}
+use Rattle.swim_rules.specs.Deals.{IsDeal}
 use Rattle.swim_member.specs.State.{State, Change, Ticked}
 use Rattle.swim_member.specs.Readings.{state}
 use Rattle.swim_member.specs.Events.{Action, Advance, Expire, Forget, Blame, Probe_next, Ask, perform, each_from}

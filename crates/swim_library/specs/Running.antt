@@ -1,7 +1,7 @@
 -- What a call does to a member that runs.
 use Rattle.std.specs.Prelude.{◌≡◌, ◌⊎◌, List, [], ◌∷◌, ◌++◌, false, map, ℕ}
 use Rattle.swim_disk.specs.File.{FileView, file_state}
-use Rattle.swim_member.specs.Deals.{deal_from}
+use Rattle.swim_rules.specs.Deals.{deal_from}
 use Rattle.swim_member.specs.Events.{DealIsOfNoMatter}
 use Rattle.swim_member.specs.Probe.{ends_period}
 use Rattle.swim_member.specs.declared.event.Event.{Event}

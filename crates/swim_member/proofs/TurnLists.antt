@@ -6,7 +6,7 @@ use Rattle.std.proofs.lemmas.List.Elements.{recursion_from_All}
 use Rattle.std.proofs.lemmas.Map.Steps.{length-le_from_distinct_below}
 use Rattle.swim_rules.specs.declared.table.Row.{Row}
 use Rattle.swim_rules.specs.Rows.{is_eligible}
-use Rattle.swim_member.specs.Deals.{IsDeal}
+use Rattle.swim_rules.specs.Deals.{IsDeal}
 use Rattle.swim_member.specs.Member.{row_name}
 use Rattle.swim_member.specs.Turn.{dealt}
 use Rattle.swim_member.specs.Looks.{is_among}

@@ -13,7 +13,7 @@ use Rattle.swim_member.specs.declared.note.Note.TheVariants as note
 use Rattle.swim_member.specs.declared.state.Phase.{Phase}
 use Rattle.swim_member.specs.declared.state.Phase.TheVariants.{Running, Left, Expelled}
 use Rattle.swim_member.specs.declared.tick.TheConstants.{LAST_TIME}
-use Rattle.swim_member.specs.Deals.{IsDeal}
+use Rattle.swim_rules.specs.Deals.{IsDeal}
 use Rattle.swim_member.specs.State.{State, Change, Sent, Looked, Listed, Passed}
 use Rattle.swim_member.specs.Readings.{state}
 use Rattle.swim_member.specs.Member.{eligible, is_eligible_name}

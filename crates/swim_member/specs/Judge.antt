@@ -2,7 +2,7 @@
 use Rattle.std.specs.Prelude.{ℕ, ◌==◌, not, if◌then◌else◌, Option, Some, None, Result, Ok, Err}
 use Rattle.std.specs.Prelude.{IfSome, ◌<◌, ◌≤◌}
 use Rattle.swim_member.specs.Checks.{rules_of}
-use Rattle.swim_member.specs.Deals.{IsDeal}
+use Rattle.swim_rules.specs.Deals.{IsDeal}
 use Rattle.swim_member.specs.Judged.{Judged}
 use Rattle.swim_member.specs.OwnNumber.{own_number_by, wanted_number}
 use Rattle.swim_member.specs.State.{State}

@@ -1,5 +1,4 @@
 pub mod Checks
-pub mod Deals
 pub mod State
 pub mod Readings
 pub mod Member

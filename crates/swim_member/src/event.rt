@@ -2,8 +2,8 @@
 
 ghost use Rattle.std.specs.Prelude.{◌≡◌};
 
-use crate::deal::Deal;
 use arrayvec::ArrayVec;
+use swim_rules::Deal;
 use swim_wire::{Cursor, DATAGRAM_MAX, Endpoint};
 
 /// The most bytes of a received datagram that are kept: one more than a datagram may have.

@@ -3,7 +3,6 @@
 #![tactic(auto)]
 
 mod answer;
-mod deal;
 mod event;
 mod expiry;
 mod hearing;
@@ -26,7 +25,6 @@ mod tick;
 mod turn;
 
 pub use answer::{Answer, NOTES_MAX, OUTS_MAX, Out};
-pub use deal::Deal;
 pub use event::{Event, RECEIVED_MAX};
 pub use judge::Judgement;
 pub use member::{Member, RELAYS_MAX};
@@ -35,3 +33,4 @@ pub use own_number::OwnNumber;
 pub use resume::{MemberState, ResumeFault};
 pub use settings::{BLOCK_MAX, HELPERS_MAX, Settings, SettingsFault};
 pub use state::{Counts, Joining, Phase, Probe, Relay};
+pub use swim_rules::Deal;

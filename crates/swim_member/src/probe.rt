@@ -12,12 +12,11 @@ ghost use Rattle.swim_member.specs.Machinery.Steps.{apply_all, after, outs_by, i
 ghost use Rattle.swim_member.specs.Machinery.Adding.{Adds, HasRoom};
 
 use crate::answer::Answer;
-use crate::deal::Deal;
 use crate::member::Member;
 use crate::settings::HELPERS_MAX;
 use crate::state::Probe;
 use arrayvec::ArrayVec;
-use swim_rules::Row;
+use swim_rules::{Deal, Row};
 use swim_wire::{Endpoint, Kind, Update, UpdateKind};
 
 /// The Suspect about the member of an Alive row.

@@ -7,9 +7,9 @@ ghost use Rattle.swim_member.specs.Machinery.Steps.{apply_all, after, notes_by, 
 ghost use Rattle.swim_member.specs.Machinery.Adding.{Adds};
 
 use crate::answer::Answer;
-use crate::deal::Deal;
 use crate::member::Member;
 use crate::relay::keep_live;
+use swim_rules::Deal;
 
 /// The last tick that counts, 2^62.
 pub(crate) const LAST_TIME: u64 = 1 << 62;

@@ -5,15 +5,14 @@ ghost use Rattle.std.specs.Prelude.{◌≡◌, ◌==◌, ◌+◌, ◌≤◌, [],
 ghost use Rattle.std.specs.List.{filter, find, position_or_len};
 ghost use Rattle.swim_rules.specs.Rows.{is_eligible};
 ghost use Rattle.swim_member.specs.Member.{row_name, is_eligible_in};
-ghost use Rattle.swim_member.specs.Deals.{IsDeal};
+ghost use Rattle.swim_rules.specs.Deals.{IsDeal};
 ghost use Rattle.swim_member.specs.Turn.{dealt};
 ghost use Rattle.swim_member.specs.Machinery.Turns.{IsTurn, target, turned};
 
-use crate::deal::Deal;
 use crate::member::{Member, has_eligible};
 use arrayvec::ArrayVec;
 use std::marker::Model;
-use swim_rules::{ROWS_MAX, Row, Table};
+use swim_rules::{Deal, ROWS_MAX, Row, Table};
 use swim_wire::{Endpoint, copied};
 
 /// The turn list, and how far the probing is in it.

@@ -14,7 +14,7 @@ use Rattle.swim_member.specs.declared.event.Event.{Event}
 use Rattle.swim_member.specs.declared.event.Event.TheVariants as event
 use Rattle.swim_member.specs.State.{State}
 use Rattle.swim_member.specs.Member.{new_state}
-use Rattle.swim_member.specs.Deals.{deal_from}
+use Rattle.swim_rules.specs.Deals.{deal_from}
 use Rattle.swim_member.specs.Turn.{still_listed}
 use Rattle.swim_member.specs.Events.{Step, answer, state_of}
 use Rattle.swim_node.specs.declared.entry.Entry.{Entry}

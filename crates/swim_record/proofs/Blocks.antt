@@ -10,7 +10,7 @@ use Rattle.swim_words.specs.Words.{Lacks, No, endpoint_text, split_by}
 use Rattle.swim_words.proofs.Digits.{lacks_decimal}
 use Rattle.swim_words.proofs.Endpoints.{endpoint_apart}
 use Rattle.swim_words.proofs.Splits.{differs, lacks_byte, no_split, same_split}
-use Rattle.swim_member.specs.Deals.{IsDeal}
+use Rattle.swim_rules.specs.Deals.{IsDeal}
 use Rattle.swim_member.specs.declared.event.Event.{Event}
 use Rattle.swim_member.specs.declared.event.Event.TheVariants as event
 use Rattle.swim_record.specs.declared.argument.Argument.{Argument}

@@ -10,7 +10,7 @@ use Rattle.hex.proofs.HexLemmas.{decode_of-encode_lower, length-encode_with}
 use Rattle.swim_wire.specs.Numbers.{IsEndpoint}
 use Rattle.swim_words.specs.Words.{Lacks, No, SaysEndpoint, SaysNumber, endpoint_text}
 use Rattle.swim_words.proofs.Splits.{lacks_byte}
-use Rattle.swim_member.specs.Deals.{IsDeal}
+use Rattle.swim_rules.specs.Deals.{IsDeal}
 use Rattle.swim_member.specs.declared.event.Event.{Event}
 use Rattle.swim_member.specs.declared.event.Event.TheVariants as event
 use Rattle.swim_member.specs.declared.event.TheConstants.{RECEIVED_MAX}

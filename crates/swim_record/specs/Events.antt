@@ -5,7 +5,7 @@ use Rattle.std.specs.Fmt.{decimal}
 use Rattle.hex.specs.Hex.{IsBytes, encode_lower}
 use Rattle.swim_wire.specs.Numbers.{IsEndpoint}
 use Rattle.swim_words.specs.Words.{endpoint_text}
-use Rattle.swim_member.specs.Deals.{IsDeal}
+use Rattle.swim_rules.specs.Deals.{IsDeal}
 use Rattle.swim_member.specs.declared.event.Event.{Event}
 use Rattle.swim_member.specs.declared.event.Event.TheVariants as event
 use Rattle.swim_member.specs.declared.event.TheConstants.{RECEIVED_MAX}

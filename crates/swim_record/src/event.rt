@@ -5,7 +5,7 @@ ghost use Rattle.hex.specs.Hex.{IsBytes, decode_of, encode_lower};
 ghost use Rattle.std.specs.Fmt.{decimal};
 ghost use Rattle.swim_wire.specs.Numbers.{IsEndpoint};
 ghost use Rattle.swim_words.specs.Words.{No, endpoint_text};
-ghost use Rattle.swim_member.specs.Deals.{IsDeal};
+ghost use Rattle.swim_rules.specs.Deals.{IsDeal};
 ghost use Rattle.swim_member.specs.declared.event.Event.{Event as Events};
 ghost use Rattle.swim_member.specs.declared.event.TheConstants.{RECEIVED_MAX};
 ghost use Rattle.swim_record.specs.Events.{IsEvent, IsRead, IsReadAnd, event_word, word_of, words_after};

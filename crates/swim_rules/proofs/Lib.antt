@@ -8,3 +8,4 @@ pub mod Changes
 pub mod Hearing
 pub mod Calling
 pub mod Counting
+pub mod Dealing

@@ -10,11 +10,13 @@
 //! | any i | Confirm j | never | i > j |
 #![tactic(auto)]
 
+mod deal;
 mod laws;
 mod overriding;
 mod table;
 mod tally;
 
+pub use deal::Deal;
 pub use laws::{order_is_of_no_matter, rows_are_tops};
 pub use overriding::overrides;
 pub use table::{Heard, ROWS_MAX, Row, Table};

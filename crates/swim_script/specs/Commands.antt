@@ -6,7 +6,7 @@ use Rattle.std.specs.List.{filter, slice_split, list_all}
 use Rattle.std.specs.Borrow.{Bor}
 use Rattle.std.specs.Fmt.{decimal}
 use Rattle.swim_wire.specs.Numbers.{IsEndpoint}
-use Rattle.swim_member.specs.Deals.{deal_from}
+use Rattle.swim_rules.specs.Deals.{deal_from}
 use Rattle.swim_member.specs.declared.event.Event.{Event}
 use Rattle.swim_member.specs.declared.event.Event.TheVariants as event
 use Rattle.swim_disk.specs.declared.mem.Choice.{Choice}

@@ -4,7 +4,7 @@ use Rattle.rand_core.specs.Stream.{Stream}
 use Rattle.rand_core.specs.Steps.{stream_of, steps_u32}
 use Rattle.rand_chacha.specs.ChaCha.{ChaCha, next_word}
 use Rattle.rand.specs.Shuffle.{shuffled}
-use Rattle.swim_member.specs.Deals.{deal_from}
+use Rattle.swim_rules.specs.Deals.{deal_from}
 use Rattle.swim_member.specs.declared.event.Event.{Event}
 use Rattle.swim_member.specs.declared.event.Event.TheVariants.{Tick}
 use Rattle.swim_shell.specs.declared.caller.Refusal.{Refusal}

@@ -1,6 +1,6 @@
 use Rattle.std.proofs.Common.{ap, sym, subst, ◌∙◌}
 use Rattle.rand.specs.Shuffle.{shuffled}
-use Rattle.swim_member.specs.Deals.{IsDeal}
+use Rattle.swim_rules.specs.Deals.{IsDeal}
 use Rattle.swim_shell.specs.Ticks.{answers}
 use Rattle.swim_shell.proofs.Dealing.{shuffled-deal}
 use Rattle.swim_shell.proofs.ticker.draw_deal.Goals as goal

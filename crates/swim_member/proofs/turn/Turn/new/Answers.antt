@@ -1,5 +1,5 @@
 use Rattle.std.proofs.Common.{arith}
-use Rattle.swim_member.proofs.Dealing.{none-twice}
+use Rattle.swim_rules.proofs.Dealing.{none-twice}
 use Rattle.swim_member.proofs.turn.Turn.new.Goals as goal
 
 pub invariant_of-result : goal.invariant_of-result

@@ -3,10 +3,10 @@
 ghost use Rattle.std.specs.Prelude.{◌≡◌, ◌==◌, ◌<◌, IsTrue, ◌↔◌, All};
 ghost use Rattle.std.specs.List.{IsDistinct};
 ghost use Rattle.std.specs.Option.{SomeIff};
-ghost use Rattle.swim_member.specs.Deals.{IsDeal, deal_from};
+ghost use Rattle.swim_rules.specs.Deals.{IsDeal, deal_from};
 
+use crate::table::ROWS_MAX;
 use std::marker::Model;
-use swim_rules::ROWS_MAX;
 
 /// The numbers 0 to 255 in some order, each once. A random one puts the members of a new turn list
 /// in a random order.
@@ -17,7 +17,7 @@ pub struct Deal {
 
 impl Model for Deal {
     ghost use Rattle.std.specs.Prelude.{ℕ, List};
-    ghost use Rattle.swim_member.specs.Deals.{IsDeal};
+    ghost use Rattle.swim_rules.specs.Deals.{IsDeal};
 
     ghost Value = { List ℕ };
 
@@ -75,7 +75,7 @@ impl Deal {
     }
 
     /// That each number is dealt once. It does nothing: its contract is what counts.
-    pub(crate) fn numbers_are_dealt(&self)
+    pub fn numbers_are_dealt(&self)
         ensures { IsDeal self.now }
     {
         self.numbers();

@@ -1,6 +1,6 @@
 use Rattle.std.proofs.Common.{rules, refl}
-use Rattle.swim_member.specs.Deals.{IsDeal}
-use Rattle.swim_member.proofs.deal.Deal.new.Goals as goal
+use Rattle.swim_rules.specs.Deals.{IsDeal}
+use Rattle.swim_rules.proofs.deal.Deal.new.Goals as goal
 
 is-deal : (c : goal.Else-not-are_distinct) → IsDeal c.args.numbers
 is-deal c = record { all = search rules; below = c.are_distinct.ensures.below; once = c.if-not-are_distinct.ensures.distinct.0 refl }

@@ -1,6 +1,6 @@
 use Rattle.std.proofs.Common.{◌≡◌, ℕ, ◌<◌, ◌==◌, false, take, get_or, length}
 use Rattle.std.specs.List.{IsDistinct, list_any}
-use Rattle.swim_member.proofs.deal.are_distinct.Given as goal
+use Rattle.swim_rules.proofs.deal.are_distinct.Given as goal
 
 -- the numbers so far differ, and they are those that were seen
 abbrev pub invariant-loop-number : goal.invariant-loop-number

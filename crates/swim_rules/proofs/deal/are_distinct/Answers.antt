@@ -3,8 +3,8 @@ use Rattle.std.proofs.lemmas.List.{get_or-replicate, take_more, length-set}
 use Rattle.std.proofs.lemmas.Map.Keys.{IsDistinct-push}
 use Rattle.std.proofs.lemmas.Cmp.{nat_eq_equiv}
 use Rattle.std.proofs.lemmas.List.Elements.{All-from_get_or}
-use Rattle.swim_member.proofs.Dealing.{none-twice, met-again, seen-next}
-use Rattle.swim_member.proofs.deal.are_distinct.Goals as goal
+use Rattle.swim_rules.proofs.Dealing.{none-twice, met-again, seen-next}
+use Rattle.swim_rules.proofs.deal.are_distinct.Goals as goal
 
 pub loop-number-init : goal.loop-number-init
 loop-number-init c = record { once = none-twice; all = refl; seen = λ n h. get_or-replicate 256 n false false h }

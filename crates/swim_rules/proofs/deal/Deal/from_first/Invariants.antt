@@ -1,5 +1,5 @@
 use Rattle.std.proofs.Common.{◌≡◌, ℕ, ◌+◌, ◌%◌, ◌<◌, get_or, length}
-use Rattle.swim_member.proofs.deal.Deal.from_first.Given as goal
+use Rattle.swim_rules.proofs.deal.Deal.from_first.Given as goal
 
 -- those so far go up from the first
 abbrev pub invariant-loop-place : goal.invariant-loop-place

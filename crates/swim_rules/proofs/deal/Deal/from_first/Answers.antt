@@ -1,8 +1,8 @@
 use Rattle.std.proofs.Common.{◌≡◌, ◌+◌, ◌%◌, ◌≤◌, arith}
 use Rattle.std.proofs.lemmas.List.FromFn.{fill_by_all}
-use Rattle.swim_member.specs.Deals.{deal_from}
-use Rattle.swim_member.proofs.Dealing.{cyclic-deal}
-use Rattle.swim_member.proofs.deal.Deal.from_first.Goals as goal
+use Rattle.swim_rules.specs.Deals.{deal_from}
+use Rattle.swim_rules.proofs.Dealing.{cyclic-deal}
+use Rattle.swim_rules.proofs.deal.Deal.from_first.Goals as goal
 
 all-written : (c : goal.After-loop-place) → c.loop-place.numbers ≡ deal_from c.args.first
 all-written c =
