@@ -5,6 +5,8 @@ pub mod Begins
 pub mod Nodes
 pub mod Lives
 pub mod Living
+mod KeptPeers
+mod Unopened
 pub mod Crosses
 pub mod Replaying
 mod Examples

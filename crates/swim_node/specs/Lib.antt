@@ -2,11 +2,13 @@ pub mod Fault
 pub mod History
 pub mod Probing
 pub mod Link
+pub mod Keeping
 pub mod Saving
 pub mod Sending
 pub mod Owns
 pub mod Peers
 pub mod Node
 pub mod Lives
+pub mod Opening
 pub mod Replaying
 pub mod Machinery

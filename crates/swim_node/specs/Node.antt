@@ -2,6 +2,7 @@
 use Rattle.std.specs.Prelude.{◌≡◌, ℕ, ◌+◌, ◌<◌, ◌≤◌, List, [], ◌∷◌, ◌++◌, length, All, Bool, Result}
 use Rattle.std.specs.Prelude.{Ok, Err, Option, None}
 use Rattle.swim_disk.specs.Disk.{DiskState as DiskState}
+use Rattle.swim_state.specs.Store.{StoreView}
 use Rattle.swim_state.specs.declared.owner.Owner.{Owner}
 use Rattle.swim_member.specs.State.{State}
 use Rattle.swim_member.specs.declared.answer.Answer.{Answer}
@@ -38,6 +39,16 @@ pub record NodeView (D : Type 0) : Type 0 where
   pub first : ℕ  -- the number with which this life began
   pub peers : List ℕ  -- those that were saved with the ceiling
   pub broken : Bool  -- whether the last save that was tried failed
+
+-- the state file of a node whose era has no entry yet, as a store
+abbrev pub store_of : {D : Type 0} → NodeView D → StoreView D
+store_of node = record {
+  disk = node.disk;
+  owner = node.owner;
+  ceiling = node.base.granted;
+  peers = node.peers;
+  broken = node.broken;
+}
 
 -- a base, as the definitions take it
 abbrev pub base_of : Start → Base

@@ -1,15 +1,14 @@
 //! The node.
 
-ghost use Rattle.std.specs.Prelude.{◌≡◌, ◌≢◌, ◌⊎◌, ◌↔◌, ◌+◌, ◌<◌, ◌≤◌, ◌++◌, ◌∷◌, [], List, length, IfErr, IfOk, IsErrOf, IsTrue, OnOk, OnErr, All, None, false, true};
-ghost use Rattle.swim_disk.specs.Disk.{Rests};
+ghost use Rattle.std.specs.Prelude.{◌≡◌, ◌≢◌, ◌↔◌, ◌+◌, ◌<◌, ◌≤◌, ◌++◌, ◌∷◌, [], List, length, IfErr, IfOk, IsTrue, OnOk, OnErr, All, None, false};
 ghost use Rattle.swim_state.specs.Alone.{IsBeside, LeavesAlone, target_in};
-ghost use Rattle.swim_state.specs.File.{floor, floor_peers};
 ghost use Rattle.swim_state.specs.Held.{Held, HeldSince, HasPeers, Through, Covers};
 ghost use Rattle.swim_node.specs.declared.opening.TheConstants.{LIMIT_MAX};
 ghost use Rattle.swim_node.specs.History.{calls_by, state_after, status_at, steps, status_of, IsLegal, granted_of};
 ghost use Rattle.swim_node.specs.Owns.{owns, AreAtMost, AreAtLeast};
+ghost use Rattle.swim_node.specs.Keeping.{KeepsGiven};
 ghost use Rattle.swim_node.specs.Lives.{EndsEra, GoesOn, MayEnd};
-ghost use Rattle.swim_node.specs.Node.{Added, IsTurn, Refused, base_of, granted_base, next_base};
+ghost use Rattle.swim_node.specs.Node.{Added, IsTurn, Refused, base_of, granted_base, next_base, store_of};
 ghost use Rattle.swim_node.specs.Peers.{known_peers};
 ghost use Rattle.swim_node.specs.Probing.{GoesInTurns};
 ghost use Rattle.swim_node.specs.Sending.{Sends, HasTexts};
@@ -266,63 +265,17 @@ impl<D: Disk> Node<D> {
     pub fn keep_peers(&mut self) -> Result<(), SaveFault>
         requires empty { self.old.entries ≡ [] }
         ensures entries { self.new.entries ≡ [] }
-        ensures owner { self.new.owner ≡ self.old.owner }
         ensures first { self.new.first ≡ self.old.first }
-        ensures name { (D.state self.new.disk).name ≡ (D.state self.old.disk).name }
 
-        // The peers of the present state, and a greater ceiling. All else of the base stays.
+        // All of the base but its ceiling stays, and where that is the greatest number, all of the node.
         ensures base { self.new.base ≡ granted_base self.old.base self.new.base.granted }
-        ensures grows { self.old.base.granted ≤ self.new.base.granted }
-        ensures ok { OnOk result (self.old.base.granted < self.new.base.granted
-            × self.new.peers ≡ known_peers (state_after self.old.base self.old.entries)
-            × self.new.broken ≡ false) }
-        ensures exact { OnOk result (self.old.broken ≡ false
-            → self.new.base.granted ≡ self.old.base.granted + 1) }
+        ensures untouched { self.old.base.granted ≡ NUMBER_MAX → self.new ≡ self.old }
 
-        // One call of the disk failed if the answer is Device, and none if it is any other.
-        ensures device { IsErrOf result SaveFault.Device
-            → (D.state self.new.disk).failures ≡ (D.state self.old.disk).failures + 1 }
-        ensures calm { (IsErrOf result SaveFault.Device → ⊥)
-            → (D.state self.new.disk).failures ≡ (D.state self.old.disk).failures }
-        ensures reread { IsErrOf result SaveFault.Changed → self.old.broken ≡ true }
-        ensures full { IsErrOf result SaveFault.Exhausted
-            → self.new.base.granted ≡ NUMBER_MAX }
-        ensures exhausted { self.old.base.granted ≡ NUMBER_MAX
-            → IsErrOf result SaveFault.Exhausted }
-
-        // What stands after a fault. Exhausted comes in two cases only: of the greatest number, and then
-        // nothing changes, or of a broken store that is whole again, with other peers than are known now.
-        ensures cases { IsErrOf result SaveFault.Exhausted
-            → (self.old.base.granted ≡ NUMBER_MAX × self.new ≡ self.old)
-            ⊎ (self.old.broken ≡ true × self.new.broken ≡ false
-            × self.new.peers ≢ known_peers (state_after self.old.base self.old.entries)) }
-        ensures ready { OnErr result
-            (IsErrOf result SaveFault.Exhausted ⊎ (self.new.broken ≡ true)) }
-        ensures steady { OnErr result (self.old.broken ≡ false
-            → self.new.base.granted ≡ self.old.base.granted × self.new.peers ≡ self.old.peers) }
-        ensures stood { D.keeps_model → OnErr result
-            ((self.new.base.granted ≡ self.old.base.granted × self.new.peers ≡ self.old.peers)
-            ⊎ (self.old.broken ≡ true
-            × self.new.base.granted ≡ floor (D.state self.old.disk).content
-            × self.new.peers ≡ floor_peers (D.state self.old.disk).content)) }
-
-        // After Ok a crash leaves just these peers. No moment of the call leaves less than the ceiling before it, and
-        // the life goes on.
-        ensures named { D.keeps_model
-            → OnOk result (HasPeers (D.state self.new.disk) self.new.peers) }
-        ensures changed { D.keeps_model → IsErrOf result SaveFault.Changed → ⊥ }
-        ensures unwritten { D.keeps_model → IsErrOf result SaveFault.Exhausted
-            → Rests (D.state self.old.disk) (D.state self.new.disk) }
-        ensures beside { D.keeps_model
-            → LeavesAlone (IsBeside (target_in (D.state self.old.disk).content))
-            (D.state self.old.disk) (D.state self.new.disk) }
+        // The peers of the present state are saved, with a greater ceiling, and the life goes on.
+        ensures keeps { KeepsGiven D.keeps_model D.state
+            (known_peers (state_after self.old.base self.old.entries)) result
+            (store_of self.old) (store_of self.new) }
         ensures living { GoesOn D.state self.old self.new }
-        ensures moments { D.keeps_model → Through (Covers self.old.owner self.old.base.granted)
-            (D.state self.old.disk) (D.state self.new.disk) }
-        ensures since { D.keeps_model → HeldSince self.old.owner (D.state self.new.disk)
-            (D.state self.old.disk).clock self.old.base.granted }
-        ensures covered { D.keeps_model
-            → Held self.new.owner (D.state self.new.disk) self.new.base.granted }
     {
         let peers = known_peers(&self.member);
         let kept = keep(&mut self.store, &peers);

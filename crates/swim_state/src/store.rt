@@ -1,12 +1,12 @@
 //! An open state file, whose ceiling is raised by a save that also keeps the peers.
 
-ghost use Rattle.std.specs.Prelude.{◌≡◌, ◌+◌, ◌<◌, ◌≤◌, ◌^◌, ◌⊎◌, true, false, IfOk, OnOk, OnErr, IsErrOf, ℕ};
-ghost use Rattle.swim_disk.specs.Disk.{Counts, IsSettled, Rests, DiskState};
-ghost use Rattle.swim_state.specs.Alone.{IsBeside, LeavesAlone, target_in};
-ghost use Rattle.swim_state.specs.File.{floor, floor_of, floor_peers, peers_in, version_in, AreOf, AreUsable};
-ghost use Rattle.swim_state.specs.Held.{Covers, Through, Held, HeldSince, HasPeers};
+ghost use Rattle.std.specs.Prelude.{◌≡◌, ◌<◌, ◌≤◌, true, false, IfOk, OnOk, IsErrOf};
+ghost use Rattle.swim_disk.specs.Disk.{Counts, IsSettled, Rests};
+ghost use Rattle.swim_state.specs.File.{floor_of, peers_in, version_in, AreOf, AreUsable};
+ghost use Rattle.swim_state.specs.Held.{Held, HasPeers};
+ghost use Rattle.swim_state.specs.Raising.{CountsFaults, Raises};
 ghost use Rattle.swim_state.specs.Second.{version_2, ArePeers};
-ghost use Rattle.swim_state.specs.Store.{IsStore, reserved};
+ghost use Rattle.swim_state.specs.Store.{IsStore};
 ghost use Rattle.swim_state.specs.declared.layout.Version.TheVariants.{Two};
 ghost use Rattle.swim_state.specs.declared.owner.Owner.{Owner};
 ghost use Rattle.swim_state.specs.declared.store.TheConstants.{SPARE_MAX};
@@ -127,61 +127,7 @@ impl<D: Disk> Store<D> {
         requires bounded { to ≤ NUMBER_MAX }
         requires few { spare ≤ SPARE_MAX }
         requires peers { ArePeers peers.now }
-
-        // On any disk.
-        ensures owner { self.new.owner ≡ self.old.owner }
-        ensures name { (D.state self.new.disk).name ≡ (D.state self.old.disk).name }
-        ensures reread { IsErrOf result SaveFault.Changed → self.old.broken ≡ true }
-        ensures room { IsErrOf result SaveFault.Exhausted → ⊥ }
-
-        // One call of the disk failed if the answer is Device, and none if it is any other.
-        ensures device { IsErrOf result SaveFault.Device
-            → (D.state self.new.disk).failures ≡ (D.state self.old.disk).failures + 1 }
-        ensures calm { (IsErrOf result SaveFault.Device → ⊥)
-            → (D.state self.new.disk).failures ≡ (D.state self.old.disk).failures }
-
-        // The ceiling. A store that isn't broken raises it by what is reserved, with these peers, or
-        // both stay.
-        ensures ok { OnOk result
-            (to ≤ self.new.ceiling × self.new.ceiling ≤ NUMBER_MAX × self.new.broken ≡ false) }
-        ensures err { OnErr result
-            (self.old.ceiling ≤ self.new.ceiling × self.new.ceiling < to × self.new.broken ≡ true) }
-
-        ensures exact { OnOk result (self.old.broken ≡ false
-            → self.new.ceiling ≡ reserved to spare × self.new.peers ≡ peers.now) }
-        ensures steady { OnErr result (self.old.broken ≡ false
-            → self.new.ceiling ≡ self.old.ceiling × self.new.peers ≡ self.old.peers) }
-
-        // Where the disk keeps the model: no moment of the call leaves less than the old ceiling, and
-        // its end no less than the new one.
-        ensures changed { D.keeps_model → IsErrOf result SaveFault.Changed → ⊥ }
-        ensures moments { D.keeps_model → Through (Covers self.old.owner self.old.ceiling)
-            (D.state self.old.disk) (D.state self.new.disk) }
-        ensures since { D.keeps_model → HeldSince self.old.owner (D.state self.new.disk)
-            (D.state self.old.disk).clock self.old.ceiling }
-        ensures covered { D.keeps_model
-            → Held self.new.owner (D.state self.new.disk) self.new.ceiling }
-
-        // After Ok a crash leaves just the store's peers.
-        ensures named { D.keeps_model
-            → OnOk result (HasPeers (D.state self.new.disk) self.new.peers) }
-
-        // The ceiling is then the reserved one, with the peers that were given, or the floor that a
-        // broken store read, with the peers that stand with it.
-        ensures raised { D.keeps_model → OnOk result
-            ((self.new.ceiling ≡ reserved to spare × self.new.peers ≡ peers.now)
-            ⊎ (self.old.broken ≡ true × self.new.ceiling ≡ floor (D.state self.old.disk).content
-            × self.new.peers ≡ floor_peers (D.state self.old.disk).content
-            × Rests (D.state self.old.disk) (D.state self.new.disk))) }
-        ensures stood { D.keeps_model → OnErr result
-            ((self.new.ceiling ≡ self.old.ceiling × self.new.peers ≡ self.old.peers)
-            ⊎ (self.old.broken ≡ true × self.new.ceiling ≡ floor (D.state self.old.disk).content
-            × self.new.peers ≡ floor_peers (D.state self.old.disk).content)) }
-
-        // One slot is written, and all beside it stays: the head, the slots of version 1, the other slot.
-        ensures beside { D.keeps_model
-            → LeavesAlone (IsBeside (target_in (D.state self.old.disk).content))
-            (D.state self.old.disk) (D.state self.new.disk) }
+        ensures raises { Raises D.keeps_model D.state to spare peers.now result self.old self.new }
     {
         if self.broken {
             self.raise_broken(to, spare, peers)
@@ -196,23 +142,7 @@ impl<D: Disk> Store<D> {
         requires bounded { to ≤ NUMBER_MAX }
         requires few { spare ≤ SPARE_MAX }
         requires peers { ArePeers peers.now }
-        ensures owner { self.new.owner ≡ self.old.owner }
-        ensures counts { Counts result (D.state self.old.disk) (D.state self.new.disk) }
-        ensures device { OnErr result (IsErrOf result SaveFault.Device) }
-        ensures moments { D.keeps_model
-            → Through (Covers self.old.owner self.old.ceiling) (D.state self.old.disk)
-            (D.state self.new.disk) }
-        ensures covered { D.keeps_model
-            → Held self.new.owner (D.state self.new.disk) self.new.ceiling }
-        ensures named { D.keeps_model
-            → OnOk result (HasPeers (D.state self.new.disk) self.new.peers) }
-        ensures ok { OnOk result (self.new.ceiling ≡ reserved to spare
-            × self.new.peers ≡ peers.now × self.new.broken ≡ false) }
-        ensures err { OnErr result (self.new.ceiling ≡ self.old.ceiling
-            × self.new.peers ≡ self.old.peers × self.new.broken ≡ true) }
-        ensures beside { D.keeps_model
-            → LeavesAlone (IsBeside (target_in (D.state self.old.disk).content))
-            (D.state self.old.disk) (D.state self.new.disk) }
+        ensures raises { Raises D.keeps_model D.state to spare peers.now result self.old self.new }
     {
         let ceiling = (to + spare).min(NUMBER_MAX);
         let peers = Peers::of(peers);
@@ -229,37 +159,7 @@ impl<D: Disk> Store<D> {
         requires bounded { to ≤ NUMBER_MAX }
         requires few { spare ≤ SPARE_MAX }
         requires peers { ArePeers peers.now }
-        ensures owner { self.new.owner ≡ self.old.owner }
-        ensures name { (D.state self.new.disk).name ≡ (D.state self.old.disk).name }
-        ensures device { IsErrOf result SaveFault.Device
-            → (D.state self.new.disk).failures ≡ (D.state self.old.disk).failures + 1 }
-        ensures calm { (IsErrOf result SaveFault.Device → ⊥)
-            → (D.state self.new.disk).failures ≡ (D.state self.old.disk).failures }
-        ensures room { IsErrOf result SaveFault.Exhausted → ⊥ }
-        ensures changed { D.keeps_model → IsErrOf result SaveFault.Changed → ⊥ }
-        ensures moments { D.keeps_model
-            → Through (Covers self.old.owner self.old.ceiling) (D.state self.old.disk)
-            (D.state self.new.disk) }
-        ensures covered { D.keeps_model
-            → Held self.new.owner (D.state self.new.disk) self.new.ceiling }
-        ensures named { D.keeps_model
-            → OnOk result (HasPeers (D.state self.new.disk) self.new.peers) }
-        ensures ok { OnOk result
-            (to ≤ self.new.ceiling × self.new.ceiling ≤ NUMBER_MAX × self.new.broken ≡ false) }
-        ensures err { OnErr result
-            (self.old.ceiling ≤ self.new.ceiling × self.new.ceiling < to × self.new.broken ≡ true) }
-        ensures raised { D.keeps_model → OnOk result
-            ((self.new.ceiling ≡ reserved to spare × self.new.peers ≡ peers.now)
-            ⊎ (self.new.ceiling ≡ floor (D.state self.old.disk).content
-            × self.new.peers ≡ floor_peers (D.state self.old.disk).content
-            × Rests (D.state self.old.disk) (D.state self.new.disk))) }
-        ensures stood { D.keeps_model → OnErr result
-            ((self.new.ceiling ≡ self.old.ceiling × self.new.peers ≡ self.old.peers)
-            ⊎ (self.new.ceiling ≡ floor (D.state self.old.disk).content
-            × self.new.peers ≡ floor_peers (D.state self.old.disk).content)) }
-        ensures beside { D.keeps_model
-            → LeavesAlone (IsBeside (target_in (D.state self.old.disk).content))
-            (D.state self.old.disk) (D.state self.new.disk) }
+        ensures raises { Raises D.keeps_model D.state to spare peers.now result self.old self.new }
     {
         self.slots = reread(&mut self.disk, self.ceiling)?;
         self.ceiling = self.slots.floor();
@@ -285,11 +185,7 @@ pub(crate) fn settle<D: Disk>(disk: &mut D) -> Result<Slots, DiskFault>
 
 /// The slots of a file whose floor is to be this or more, after a save that failed.
 pub(crate) fn reread<D: Disk>(disk: &mut D, ceiling: u64) -> Result<Slots, SaveFault>
-    ensures name { (D.state disk.new).name ≡ (D.state disk.old).name }
-    ensures device { IsErrOf result SaveFault.Device
-        → (D.state disk.new).failures ≡ (D.state disk.old).failures + 1 }
-    ensures calm { (IsErrOf result SaveFault.Device → ⊥)
-        → (D.state disk.new).failures ≡ (D.state disk.old).failures }
+    ensures counts { CountsFaults result (D.state disk.old) (D.state disk.new) }
     ensures room { IsErrOf result SaveFault.Exhausted → ⊥ }
     ensures changed { D.keeps_model → (owner : Owner) → Held owner (D.state disk.old) ceiling
         → version_in (D.state disk.old).content ≡ Two → IsErrOf result SaveFault.Changed → ⊥ }
