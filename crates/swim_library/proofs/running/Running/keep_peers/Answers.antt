@@ -32,7 +32,7 @@ pub returns-clause-kept : goal.returns-clause-kept
 returns-clause-kept c =
     let begun = c.end_era_of.new.node in
     let now = c.keep_peers-kept.new.self in
-    saved c.keep_peers-kept.result c.map_err.result _ begun now _ _ c.map_err.ensures.cases c.keep_peers-kept.ensures.ok (c.keep_peers-kept.ensures.named tt)
+    saved c.keep_peers-kept.result c.map_err.result _ begun now _ _ c.map_err.ensures.cases c.keep_peers-kept.ensures.keeps.ok (c.keep_peers-kept.ensures.keeps.tries.guards tt).named
     (ap (λ (h : List Entry). known_peers (state_after begun.base h)) (c.end_era_of.ensures.empty refl)
     ∙ sym (ap (λ (h : List Entry). known_peers (state_after now.base h)) c.keep_peers-kept.ensures.entries
     ∙ ap (λ (b : Base). known_peers (state_after b [])) c.keep_peers-kept.ensures.base))
@@ -44,10 +44,10 @@ returns-clause-goes_on c = record {
   told = refl;
   due = refl;
   seeking = refl;
-  owner = c.keep_peers-kept.ensures.owner ∙ c.end_era_of.ensures.owner;
+  owner = c.keep_peers-kept.ensures.keeps.tries.owner ∙ c.end_era_of.ensures.owner;
   first = c.keep_peers-kept.ensures.first ∙ c.end_era_of.ensures.first;
   lives = λ settings limit opened eras lives.
       let before = c.end_era_of.ensures.lives settings limit opened eras lives in
       (before.0, c.keep_peers-kept.ensures.living settings limit opened (eras ++ before.0) before.1);
-  held = holds c.args.self.now.node c.end_era_of.new.node c.keep_peers-kept.new.self (c.end_era_of.ensures.empty refl) c.end_era_of.ensures.owner c.end_era_of.ensures.disk c.end_era_of.ensures.granted (c.keep_peers-kept.ensures.moments tt) (c.life_may_end.ensures tt);
+  held = holds c.args.self.now.node c.end_era_of.new.node c.keep_peers-kept.new.self (c.end_era_of.ensures.empty refl) c.end_era_of.ensures.owner c.end_era_of.ensures.disk c.end_era_of.ensures.granted (c.keep_peers-kept.ensures.keeps.tries.guards tt).moments (c.life_may_end.ensures tt);
 }
