@@ -1,5 +1,4 @@
 use Rattle.std.proofs.Common.{◌≡◌, ◌∙◌, ap, sym, subst, List, ◌++◌, [], refl}
-use Rattle.std.specs.Prelude.{Result, Ok, Err, OnOk, IsErrAnd, MatchResult}
 use Rattle.swim_disk.specs.File.{FileView, file_state}
 use Rattle.swim_state.specs.Held.{Covers, HasPeers, Through}
 use Rattle.swim_state.specs.declared.owner.Owner.{Owner}
@@ -22,32 +21,28 @@ holds old begun now none owner disk granted through ends =
       ends = ends;
     }
 
--- what a save did holds of its result, whatever becomes of its fault
-saved : {E F : Type 0} (kept : Result Unit E) (result : Result Unit F) (Q : E → F → Type 0) (begun now : NodeView FileView) (A B : Type 0) → MatchResult kept (λ x. result ≡ Ok x) (λ e. IsErrAnd result (Q e)) → OnOk kept (A × (now.peers ≡ known_peers (state_after begun.base begun.entries)) × B) → OnOk kept (HasPeers (file_state now.disk) now.peers) → known_peers (state_after begun.base begun.entries) ≡ known_peers (state_after now.base now.entries) → OnOk result (SavesPeers now)
-saved (Ok x) (Ok y) Q begun now A B same ok named known = record { peers = ok.1 ∙ known; named = named }
-saved (Err e) (Ok y) Q begun now A B other ok named known = absurd other
-saved _ (Err f) Q begun now A B same ok named known = tt
+-- whom a member knows at the begin of an era, it knows after a save
+known : (begun now : NodeView FileView) → begun.entries ≡ [] → now.entries ≡ [] → known_peers (state_after now.base []) ≡ known_peers (state_after begun.base []) → known_peers (state_after begun.base begun.entries) ≡ known_peers (state_after now.base now.entries)
+known begun now none still base =
+    ap (λ (h : List Entry). known_peers (state_after begun.base h)) none
+    ∙ (sym base ∙ sym (ap (λ (h : List Entry). known_peers (state_after now.base h)) still))
 
-pub returns-clause-kept : goal.returns-clause-kept
-returns-clause-kept c =
+pub returns-in-Ok-clause-kept : goal.returns-in-Ok-clause-kept
+returns-in-Ok-clause-kept c =
     let begun = c.end_era_of.new.node in
     let now = c.keep_peers-kept.new.self in
-    saved c.keep_peers-kept.result c.map_err.result _ begun now _ _ c.map_err.ensures.cases c.keep_peers-kept.ensures.ok (c.keep_peers-kept.ensures.named tt)
-    (ap (λ (h : List Entry). known_peers (state_after begun.base h)) (c.end_era_of.ensures.empty refl)
-    ∙ sym (ap (λ (h : List Entry). known_peers (state_after now.base h)) c.keep_peers-kept.ensures.entries
-    ∙ ap (λ (b : Base). known_peers (state_after b [])) c.keep_peers-kept.ensures.base))
+    record {
+      peers = c.in-Ok.ensures.ok.1
+          ∙ known begun now (c.end_era_of.ensures.empty refl) c.keep_peers-kept.ensures.entries
+          (ap (λ (b : Base). known_peers (state_after b [])) c.keep_peers-kept.ensures.base);
+      named = c.in-Ok.ensures.named tt;
+    }
 
-pub returns-clause-goes_on : goal.returns-clause-goes_on
-returns-clause-goes_on c = record {
-  outbox = refl;
-  notes = refl;
-  told = refl;
-  due = refl;
-  seeking = refl;
-  owner = c.keep_peers-kept.ensures.owner ∙ c.end_era_of.ensures.owner;
-  first = c.keep_peers-kept.ensures.first ∙ c.end_era_of.ensures.first;
-  lives = λ settings limit opened eras lives.
-      let before = c.end_era_of.ensures.lives settings limit opened eras lives in
-      (before.0, c.keep_peers-kept.ensures.living settings limit opened (eras ++ before.0) before.1);
-  held = holds c.args.self.now.node c.end_era_of.new.node c.keep_peers-kept.new.self (c.end_era_of.ensures.empty refl) c.end_era_of.ensures.owner c.end_era_of.ensures.disk c.end_era_of.ensures.granted (c.keep_peers-kept.ensures.moments tt) (c.life_may_end.ensures tt);
-}
+pub returns-in-Ok-clause-goes_on : goal.returns-in-Ok-clause-goes_on
+returns-in-Ok-clause-goes_on c = ?
+
+pub returns-in-Err-clause-goes_on : goal.returns-in-Err-clause-goes_on
+returns-in-Err-clause-goes_on c = ?
+
+pub returns-in-Err-clause-refused : goal.returns-in-Err-clause-refused
+returns-in-Err-clause-refused c = ?
