@@ -1,3 +1,4 @@
+mod Adding
 mod Changing
 mod Crosses
 mod Dealing

@@ -1,6 +1,5 @@
 -- What waits to be sent.
 use Rattle.std.specs.Prelude.{ℕ, List, [], ◌∷◌}
-use Rattle.swim_library.specs.declared.outbox.Outbox.{Outbox}
 use Rattle.swim_library.specs.declared.outbox.Waiting.{Waiting}
 
 -- destination and bytes of a datagram that waits
@@ -12,6 +11,12 @@ abbrev pub all_as : List Waiting → List (ℕ × List ℕ)
 all_as [] = []
 all_as (w ∷ ws) = sent_as w ∷ all_as ws
 
+-- what an outbox holds
+pub record OutboxState : Type 0 where
+  pub waiting : List (ℕ × List ℕ)  -- destination and bytes of each datagram, in order
+  pub room : ℕ  -- for so many more there are places
+  pub failures : ℕ  -- so many were not taken
+
 -- what waits, in order
-abbrev pub waiting_in : Outbox → List (ℕ × List ℕ)
-waiting_in outbox = all_as outbox.datagrams.items
+abbrev pub waiting_in : OutboxState → List (ℕ × List ℕ)
+waiting_in outbox = outbox.waiting

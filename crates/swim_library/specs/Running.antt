@@ -1,5 +1,5 @@
 -- What a call does to a member that runs.
-use Rattle.std.specs.Prelude.{◌≡◌, ◌⊎◌, List, [], ◌∷◌, ◌++◌, false, map, ℕ}
+use Rattle.std.specs.Prelude.{◌≡◌, ◌⊎◌, ◌+◌, List, [], ◌∷◌, ◌++◌, false, map, ℕ}
 use Rattle.swim_disk.specs.File.{FileView, file_state}
 use Rattle.swim_rules.specs.Deals.{deal_from}
 use Rattle.swim_member.specs.Events.{DealIsOfNoMatter}
@@ -9,13 +9,17 @@ use Rattle.swim_member.specs.declared.event.Event.TheVariants.{Tick}
 use Rattle.swim_node.specs.declared.entry.Entry.{Entry}
 use Rattle.swim_node.specs.declared.entry.Reply.{Reply}
 use Rattle.swim_node.specs.History.{IsLegal, granted_of, state_after, steps}
-use Rattle.swim_node.specs.Lives.{Era, IsLiving, MayEnd, life_of}
+use Rattle.swim_node.specs.Lives.{Era, GoesOn, IsLiving, MayEnd, life_of}
 use Rattle.swim_node.specs.Node.{NodeView, next_base}
 use Rattle.swim_node.specs.Peers.{known_peers}
 use Rattle.swim_node.specs.Sending.{taken_by}
 use Rattle.swim_state.specs.Held.{Covers, HasPeers, Through}
+use Rattle.swim_state.specs.declared.fault.SaveFault.TheVariants.{Device, Exhausted}
+use Rattle.swim_wire.specs.declared.update.TheConstants.{NUMBER_MAX}
 use Rattle.swim_library.specs.Outbox.{waiting_in}
 use Rattle.swim_library.specs.Shapes.{endpoint_as, row_as}
+use Rattle.swim_library.specs.declared.refusal.Refusal.{Refusal}
+use Rattle.swim_library.specs.declared.refusal.Refusal.TheVariants as why
 use Rattle.swim_library.specs.declared.running.Running.{Running}
 use Rattle.swim_library.specs.declared.shapes.SwimEndpoint.{SwimEndpoint}
 use Rattle.swim_library.specs.declared.shapes.SwimRow.{SwimRow}
@@ -33,6 +37,21 @@ pub record KeepsHeld (old new : NodeView FileView) : Type 0 where
   pub moments : Through (Covers old.owner (granted_of old.base old.entries))
       (file_state old.disk) (file_state new.disk)
   pub ends : MayEnd file_state new
+
+-- the node made one call, with this event: this is its entry, and what was sent of it, and no more,
+-- waits too
+pub record CallsNode (old new : NodeView FileView) (waited waits : List (ℕ × List ℕ))
+    (event : Event) : Type 0 where
+  pub entry : Entry
+  pub event_is : entry.event ≡ event
+  pub base : new.base ≡ old.base
+  pub entries : new.entries ≡ old.entries ++ entry ∷ []
+  pub waits_are : waits ≡ waited ++ taken_by entry.outs.items entry.outcomes.items
+  pub owner : new.owner ≡ old.owner
+  pub first : new.first ≡ old.first
+  pub lives : GoesOn file_state old new
+  pub moments : Through (Covers old.owner (granted_of old.base old.entries))
+      (file_state old.disk) (file_state new.disk)
 
 -- the entry is the last of the era, or it filled it, and the next era began
 abbrev pub GoesInto : NodeView FileView → NodeView FileView → Entry → Type 0
@@ -105,3 +124,13 @@ pub record GoesOnOpen (old new : Running) : Type 0 where
 pub record SavesPeers (new : NodeView FileView) : Type 0 where
   pub peers : new.peers ≡ known_peers (state_after new.base new.entries)
   pub named : HasPeers (file_state new.disk) new.peers
+
+-- they were not saved, and this is told: that a call on the file failed, or that there is no number
+-- left, and none did; never anything else
+abbrev pub RefusesPeers : NodeView FileView → NodeView FileView → Refusal → Type 0
+RefusesPeers old new (why.Keeping Device) =
+    (file_state new.disk).failures ≡ (file_state old.disk).failures + 1
+RefusesPeers old new (why.Keeping Exhausted) =
+    ((file_state new.disk).failures ≡ (file_state old.disk).failures)
+    × (new.base.granted ≡ NUMBER_MAX)
+RefusesPeers old new _ = ⊥

@@ -2,26 +2,30 @@
 
 ghost use Rattle.std.specs.Prelude.{◌≡◌, ◌≢◌, ◌⊎◌, ◌↔◌, ◌<◌, ◌≤◌, ◌∷◌, [], ℕ, List, length, map, take, Err, IfErr, IfOk, IsErrOf, IsOk, OnErr, OnOk};
 ghost use Rattle.swim_library.specs.Outbox.{waiting_in};
-ghost use Rattle.swim_library.specs.Running.{AddsTo, EntersEvent, EntersTick, GoesOnOpen, Hands, SavesPeers, LivesOn, ShowsRows};
+ghost use Rattle.swim_disk.specs.File.{file_state};
+ghost use Rattle.swim_library.specs.Running.{AddsTo, CallsNode, EntersEvent, EntersTick, GoesOnOpen, Hands, RefusesPeers, SavesPeers, LivesOn, ShowsRows};
 ghost use Rattle.swim_library.specs.Shapes.{endpoint_as, note_as, row_as, status_as};
 ghost use Rattle.swim_library.specs.declared.refusal.Refusal.TheVariants as why;
 ghost use Rattle.swim_member.specs.declared.answer.TheConstants.{NOTES_MAX};
 ghost use Rattle.swim_member.specs.declared.event.Event.TheVariants.{Members};
-ghost use Rattle.swim_node.specs.History.{granted_of, status_of};
+ghost use Rattle.swim_node.specs.History.{IsLegal, granted_of, status_of};
+ghost use Rattle.swim_node.specs.Lives.{MayEnd};
 ghost use Rattle.swim_node.specs.Node.{next_base};
+ghost use Rattle.swim_node.specs.declared.entry.Reply.{Reply};
 ghost use Rattle.swim_state.specs.declared.peers.TheConstants.{PEERS_MAX};
 ghost use Rattle.swim_wire.specs.declared.datagram.TheConstants.{UPDATES_MAX};
 
 use crate::deal::deal_of;
-use crate::outbox::Waiting;
+use crate::outbox::{Outbox, Waiting};
 use crate::refusal::Refusal;
 use crate::running::Running;
 use crate::shapes::{SwimEndpoint, SwimRow, SwimStatus};
+use arrayvec::ArrayVec;
 use swim_disk::FileDisk;
 use swim_member::{Deal, Event, NOTES_MAX, Note};
-use swim_node::{ApplyFault, Node, Reply};
+use swim_node::{ApplyFault, Node};
 use swim_state::PEERS_MAX;
-use swim_wire::{Cursor, Endpoint, UPDATES_MAX, Update};
+use swim_wire::{Cursor, Endpoint, UPDATES_MAX, Update, copied};
 
 /// Writes a datagram with its length and its destination, where there is room.
 fn hand_out(
@@ -49,6 +53,22 @@ fn hand_out(
     Ok(())
 }
 
+/// Makes one call of the node. What it tells stands in its last entry: a reply is large, and each function that hands one on moves it.
+fn call(node: &mut Node<FileDisk>, outbox: &mut Outbox, event: Event) -> Result<(), Refusal>
+    requires { length node.old.entries < node.old.base.limit }
+    ensures called { OnOk result
+        (CallsNode node.old node.new (waiting_in outbox.old) (waiting_in outbox.new) event) }
+    ensures refused { IfErr result (λ refusal. refusal ≡ why.NoMemory) }
+    ensures same { OnErr result ((node.new ≡ node.old) × (outbox.new ≡ outbox.old)) }
+{
+    let tag = node.next_tag(0);
+    match node.apply(outbox, tag, event) {
+        Ok(_) => Ok(()),
+        Err(ApplyFault::NoMemory) => Err(Refusal::NoMemory),
+        Err(_) => unreachable!(),
+    }
+}
+
 /// Ends the era if it has so many entries, and begins the next one.
 fn end_era_of(node: &mut Node<FileDisk>, limit: u32)
     ensures era { ((node.new.base ≡ node.old.base) × (node.new.entries ≡ node.old.entries))
@@ -63,10 +83,22 @@ fn end_era_of(node: &mut Node<FileDisk>, limit: u32)
     ensures granted { granted_of node.new.base node.new.entries
         ≡ granted_of node.old.base node.old.entries }
     ensures lives { LivesOn node.old node.new }
+    ensures legal { IsLegal node.old.base node.old.entries }
+    ensures ends { MayEnd file_state node.new }
 {
+    node.journal_is_legal();
     if node.len() >= limit as usize {
         node.rebase();
     }
+    node.life_may_end();
+}
+
+/// Takes over the notes of a reply, in place.
+fn take_notes(from: &ArrayVec<Note, NOTES_MAX>, notes: &mut ArrayVec<Note, NOTES_MAX>)
+    ensures { notes.new ≡ from.now }
+{
+    notes.clear();
+    let _ = notes.try_extend_from_slice(from);
 }
 
 /// Writes the rows of a page.
@@ -103,27 +135,6 @@ fn write_endpoints(endpoints: &[Endpoint], out: &mut [SwimEndpoint])
 }
 
 impl Running {
-    /// Makes one call of the node. Where it fills the era, the next one begins.
-    pub(crate) fn apply(&mut self, event: Event) -> Result<Reply, Refusal>
-        ensures added { IfOk result (λ reply. AddsTo self.old self.new event reply) }
-        ensures notes { self.new.notes ≡ self.old.notes }
-        ensures told { (self.new.told ≡ self.old.told) × (self.new.due ≡ self.old.due) }
-        ensures seeking { self.new.seeking ≡ self.old.seeking }
-        ensures refused { IfErr result (λ refusal. refusal ≡ why.NoMemory) }
-        ensures same { OnErr result (self.new ≡ self.old) }
-    {
-        let tag = self.node.next_tag(0);
-        let reply = match self.node.apply(&mut self.outbox, tag, event) {
-            Ok(reply) => reply,
-            Err(ApplyFault::NoMemory) => return Err(Refusal::NoMemory),
-            Err(_) => unreachable!(),
-        };
-        self.node.journal_is_legal();
-        end_era_of(&mut self.node, self.limit);
-        self.node.life_may_end();
-        Ok(reply)
-    }
-
     /// Enters an event. While datagrams of an earlier one wait, nothing happens.
     pub(crate) fn enter(&mut self, event: Event) -> Result<(), Refusal>
         ensures entered { OnOk result (EntersEvent self.old self.new event) }
@@ -135,9 +146,27 @@ impl Running {
         if !self.outbox.is_empty() {
             return Err(Refusal::Waiting);
         }
-        let reply = self.apply(event)?;
-        self.notes = reply.notes;
+        call(&mut self.node, &mut self.outbox, event)?;
+        take_notes(&self.node.last().reply.notes, &mut self.notes);
+        end_era_of(&mut self.node, self.limit);
         Ok(())
+    }
+
+    /// The page of rows after a cursor, by one call of the node.
+    pub(crate) fn page_after(
+        &mut self,
+        after: Cursor,
+    ) -> Result<ArrayVec<Update, UPDATES_MAX>, Refusal>
+        ensures added { IfOk result (λ page. (reply : Reply)
+            × AddsTo self.old self.new (Members after) reply × (page ≡ reply.page)) }
+        ensures notes { self.new.notes ≡ self.old.notes }
+        ensures refused { IfErr result (λ refusal. refusal ≡ why.NoMemory) }
+        ensures same { OnErr result (self.new ≡ self.old) }
+    {
+        call(&mut self.node, &mut self.outbox, Event::Members { after })?;
+        let page = copied(&self.node.last().reply.page);
+        end_era_of(&mut self.node, self.limit);
+        Ok(page)
     }
 
     /// Time goes on by one tick. Where it ends a period, it may begin a turn list, and draws the order of one. At any other
@@ -176,8 +205,8 @@ impl Running {
         if self.outbox.is_empty() {
             return Err(Refusal::Nothing);
         }
-        hand_out(&self.outbox.datagrams[0], to, bytes, count)?;
-        self.outbox.datagrams.remove(0);
+        hand_out(self.outbox.first(), to, bytes, count)?;
+        self.outbox.remove_first();
         Ok(())
     }
 
@@ -200,9 +229,9 @@ impl Running {
         if rows.len() < UPDATES_MAX {
             return Err(Refusal::Short);
         }
-        let reply = self.apply(Event::Members { after })?;
-        write_rows(&reply.page, rows);
-        *count = reply.page.len();
+        let page = self.page_after(after)?;
+        write_rows(&page, rows);
+        *count = page.len();
         Ok(())
     }
 
@@ -254,10 +283,15 @@ impl Running {
     pub(crate) fn keep_peers(&mut self) -> Result<(), Refusal>
         ensures kept { OnOk result (SavesPeers self.new.node) }
         ensures goes_on { GoesOnOpen self.old self.new }
+        ensures refused { IfErr result
+            (λ refusal. RefusesPeers self.old.node self.new.node refusal) }
     {
         end_era_of(&mut self.node, 1);
         let kept = self.node.keep_peers();
         self.node.life_may_end();
-        kept.map_err(|fault| Refusal::Keeping(fault))
+        match kept {
+            Ok(()) => Ok(()),
+            Err(fault) => Err(Refusal::Keeping(fault)),
+        }
     }
 }

@@ -7,7 +7,6 @@ ghost use Rattle.swim_library.specs.declared.refusal.Refusal.TheVariants as why;
 use crate::refusal::Refusal;
 use crate::running::Running;
 use crate::shapes::SwimRow;
-use swim_member::Event;
 use swim_news::{Change, Changes, PAGES_MAX, Rows, compare};
 use swim_wire::{Cursor, Endpoint, Update};
 
@@ -99,10 +98,10 @@ impl Running {
             Some(last) => Cursor::at(last),
             None => Cursor::zero(),
         };
-        match self.apply(Event::Members { after }) {
-            Ok(reply) => {
-                add_page(rows, &reply.page);
-                Ok(reply.page.is_full())
+        match self.page_after(after) {
+            Ok(page) => {
+                add_page(rows, &page);
+                Ok(page.is_full())
             }
             Err(refusal) => Err(refusal),
         }

@@ -2,10 +2,11 @@
 
 ghost use Rattle.std.specs.Prelude.{◌≡◌, ◌≢◌, ◌≤◌, ◌⊎◌, length, map, take as first, Some, None};
 ghost use Rattle.swim_library.specs.Changes.{HasNothingToTell, ReadsInVain, TellsChange};
-ghost use Rattle.swim_library.specs.Codes.{CLOSED, IsDoneOrLacks, NOTHING, NO_MEMORY, OK};
+ghost use Rattle.swim_library.specs.Codes.{CLOSED, IsDoneOrLacks, NOTHING, NO_MEMORY, OK, code_of};
 ghost use Rattle.swim_library.specs.Holding.{HandleBecomes, held};
-ghost use Rattle.swim_library.specs.Running.{GoesOnOpen, SavesPeers, ShowsRows};
+ghost use Rattle.swim_library.specs.Running.{GoesOnOpen, RefusesPeers, SavesPeers, ShowsRows};
 ghost use Rattle.swim_library.specs.Shapes.{cursor_of, endpoint_as, note_as, status_as};
+ghost use Rattle.swim_library.specs.declared.refusal.Refusal.{Refusal as Refusals};
 ghost use Rattle.swim_library.specs.declared.running.Running.{Running};
 ghost use Rattle.swim_member.specs.declared.answer.TheConstants.{NOTES_MAX};
 ghost use Rattle.swim_member.specs.declared.event.Event.TheVariants.{Members};
@@ -145,6 +146,9 @@ pub extern "C" fn swim_library_keep_peers(member: &mut SwimMember) -> u32
     // also if they were not saved
     ensures goes_on { held member.old ≢ None
         → HandleBecomes member.old member.new GoesOnOpen }
+    ensures refused { held member.old ≢ None → result ≢ OK
+        → HandleBecomes member.old member.new (λ before after. (refusal : Refusals)
+        × (result ≡ code_of refusal) × RefusesPeers before.node after.node refusal) }
     ensures closed { held member.old ≡ None → result ≡ CLOSED }
 {
     match take(member) {

@@ -1,12 +1,12 @@
 //! What a member is to send, until it is taken out.
 
-ghost use Rattle.std.specs.Prelude.{◌≡◌, ◌≢◌, ◌+◌, ◌<◌, ◌≤◌, ◌∷◌, [], length, IsOk, true, false};
-ghost use Rattle.arrayvec.specs.ArrayVec.{array_vec_len};
+ghost use Rattle.std.specs.Prelude.{◌≡◌, ◌≢◌, ◌+◌, ◌<◌, ◌≤◌, ◌∷◌, [], ℕ, List, length, IsOk, OnOk, true, false};
 ghost use Rattle.swim_member.specs.declared.answer.TheConstants.{OUTS_MAX};
 ghost use Rattle.swim_wire.specs.declared.datagram.TheConstants.{DATAGRAM_MAX};
-ghost use Rattle.swim_library.specs.Outbox.{waiting_in};
+ghost use Rattle.swim_library.specs.Outbox.{sent_as, waiting_in};
 
 use arrayvec::ArrayVec;
+use std::marker::Model;
 use swim_member::OUTS_MAX;
 use swim_node::{Link, LinkFault};
 use swim_trace::Trace;
@@ -29,11 +29,45 @@ impl Default for Waiting {
     }
 }
 
-/// The datagrams that wait, in order: as many as one event may send.
+/// Fills a place with the datagram that waits there now.
+fn write(place: &mut Waiting, to: Endpoint, bytes: &[u8])
+    requires { length bytes.now ≤ DATAGRAM_MAX }
+    ensures { sent_as place.new ≡ (to, bytes.now) }
+{
+    place.to = to;
+    place.bytes.clear();
+    match place.bytes.try_extend_from_slice(bytes) {
+        Ok(()) => {}
+        Err(_) => unreachable!(),
+    }
+}
+
+/// The datagrams that wait, in order: as many as one event may send. They stay in their places, since they are large: a place is
+/// written anew once all that waited were taken out.
 #[derive(Drop)]
 pub(crate) struct Outbox {
-    pub(crate) datagrams: ArrayVec<Waiting, OUTS_MAX>,
+    places: [Waiting; OUTS_MAX],
+    /// The place of the first that waits, and the one after the last.
+    begin: usize,
+    end: usize,
     failures: Trace<()>,
+}
+
+impl Model for Outbox {
+    ghost use Rattle.std.specs.Prelude.{◌≡◌, ◌-◌, ◌≤◌, drop, length, take};
+    ghost use Rattle.swim_member.specs.declared.answer.TheConstants.{OUTS_MAX};
+    ghost use Rattle.swim_library.specs.Outbox.{OutboxState, all_as};
+
+    ghost Value = { OutboxState };
+
+    ghost view = { λ o. record {
+      waiting = all_as (drop o.begin (take o.end o.places));
+      room = OUTS_MAX - o.end;
+      failures = length o.failures;
+    } };
+
+    ghost invariant = { λ o. (o.begin ≤ o.end) × (o.end ≤ length o.places)
+        × (length o.places ≡ OUTS_MAX) × (o.begin ≡ o.end → o.end ≡ 0) };
 }
 
 impl Outbox {
@@ -42,7 +76,9 @@ impl Outbox {
         ensures { waiting_in result ≡ [] }
     {
         Outbox {
-            datagrams: ArrayVec::new(),
+            places: Default::default(),
+            begin: 0,
+            end: 0,
             failures: Trace::new(),
         }
     }
@@ -52,13 +88,35 @@ impl Outbox {
         ensures none { result ≡ true → waiting_in self.now ≡ [] }
         ensures some { result ≡ false → waiting_in self.now ≢ [] }
     {
-        self.datagrams.is_empty()
+        self.begin == self.end
+    }
+
+    /// The first datagram that waits.
+    pub(crate) fn first(&self) -> &Waiting
+        requires { waiting_in self.now ≢ [] }
+        ensures { (rest : List (ℕ × List ℕ))
+            × (waiting_in self.now ≡ sent_as result.now ∷ rest) }
+    {
+        &self.places[self.begin]
+    }
+
+    /// The first datagram that waits waits no more.
+    pub(crate) fn remove_first(&mut self)
+        requires { waiting_in self.old ≢ [] }
+        ensures { (first : ℕ × List ℕ)
+            × (waiting_in self.old ≡ first ∷ waiting_in self.new) }
+    {
+        self.begin += 1;
+        if self.begin == self.end {
+            self.begin = 0;
+            self.end = 0;
+        }
     }
 
     /// Counts a failure.
     fn failed(&mut self) -> LinkFault
-        ensures failures { length self.new.failures ≡ length self.old.failures + 1 }
-        ensures rest { self.new.datagrams ≡ self.old.datagrams }
+        ensures failures { self.new.failures ≡ self.old.failures + 1 }
+        ensures rest { (self.new.waiting ≡ self.old.waiting) × (self.new.room ≡ self.old.room) }
     {
         self.failures = self.failures.and(&());
         LinkFault
@@ -76,30 +134,25 @@ impl Link for Outbox {
 
     ghost took = { λ o. waiting_in o };
 
-    ghost failures = { λ o. length o.failures };
+    ghost failures = { λ o. o.failures };
 
     fn send(&mut self, to: Endpoint, bytes: &[u8]) -> Result<(), LinkFault>
         ensures failures { MatchResult result
-            (λ _. length self.new.failures ≡ length self.old.failures)
-            (λ _. length self.new.failures ≡ length self.old.failures + 1) }
+            (λ _. self.new.failures ≡ self.old.failures)
+            (λ _. self.new.failures ≡ self.old.failures + 1) }
         ensures took { MatchResult result
             (λ _. waiting_in self.new ≡ waiting_in self.old ++ (to, bytes.now) ∷ [])
             (λ _. waiting_in self.new ≡ waiting_in self.old) }
 
-        // A datagram that is no longer than the rules allow is taken while there is room.
-        ensures room { array_vec_len self.old.datagrams < OUTS_MAX
-            → length bytes.now ≤ DATAGRAM_MAX → IsOk result }
+        // A datagram that is no longer than the rules allow is taken while there is room, and takes one place.
+        ensures room { 0 < self.old.room → length bytes.now ≤ DATAGRAM_MAX → IsOk result }
+        ensures one { OnOk result (self.new.room + 1 ≡ self.old.room) }
     {
-        if self.datagrams.is_full() {
+        if self.end == OUTS_MAX || bytes.len() > DATAGRAM_MAX {
             return Err(self.failed());
         }
-        let mut kept = ArrayVec::new();
-        match kept.try_extend_from_slice(bytes) {
-            Err(_) => Err(self.failed()),
-            Ok(()) => {
-                self.datagrams.push(Waiting { to, bytes: kept });
-                Ok(())
-            }
-        }
+        write(&mut self.places[self.end], to, bytes);
+        self.end += 1;
+        Ok(())
     }
 }

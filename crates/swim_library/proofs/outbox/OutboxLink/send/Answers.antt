@@ -1,8 +1,13 @@
-use Rattle.std.proofs.Common.{◌≡◌, ◌∙◌, refl}
-use Rattle.swim_library.proofs.Waiting.{all_as-append}
+use Rattle.std.proofs.Common.{◌≡◌, ◌∙◌, ◌<◌, ◌∷◌, ◌++◌, [], ap, arith, drop, length, take}
+use Rattle.std.proofs.Math.Arith.{lt_of_le-ne}
+use Rattle.swim_library.specs.Outbox.{OutboxState, all_as}
+use Rattle.swim_library.proofs.Waiting.{waits_more}
 use Rattle.swim_library.proofs.outbox.OutboxLink.send.Goals as goal
 
-pub returns-in-Ok-clause-took : goal.returns-in-Ok-clause-took
-returns-in-Ok-clause-took c =
-    let kept : c.try_extend_from_slice.new.self.items ≡ c.args.bytes.now = c.in-Ok.ensures.ok ∙ rw c.new-kept.ensures refl in
-    rw (c.push.ensures.items, all_as-append c.args.self.now.datagrams.items _, kept) refl
+pub returns-clause-took : goal.returns-clause-took
+returns-clause-took c =
+    let o = c.self-2.inside in
+    let room : o.end < length o.places = lt_of_le-ne c.self-2.invariant.1 (λ full. c.if-self-eq-OUTS_MAX.false (full ∙ c.self-2.invariant.2)) in
+    waits_more o.places o.begin o.end _ c.self-2.invariant.0 room
+    ∙ (ap (λ w. all_as (drop o.begin (take o.end o.places)) ++ w ∷ []) c.write.ensures
+    ∙ ap (λ (s : OutboxState). s.waiting ++ (c.args.to, c.args.bytes.now) ∷ []) c.self-2.view_is)

@@ -1,5 +1,4 @@
-use Rattle.std.proofs.Common.{◌≡◌, ◌∙◌, ap, sym, subst, List, ◌++◌, [], refl}
-use Rattle.std.specs.Prelude.{Result, Ok, Err, OnOk, IsErrAnd, MatchResult}
+use Rattle.std.proofs.Common.{◌≡◌, ◌∙◌, ◌+◌, ℕ, ap, sym, subst, List, ◌++◌, [], refl, Err}
 use Rattle.swim_disk.specs.File.{FileView, file_state}
 use Rattle.swim_state.specs.Held.{Covers, HasPeers, Through}
 use Rattle.swim_state.specs.declared.owner.Owner.{Owner}
@@ -8,7 +7,14 @@ use Rattle.swim_node.specs.Lives.{MayEnd}
 use Rattle.swim_node.specs.Node.{NodeView}
 use Rattle.swim_node.specs.Peers.{known_peers}
 use Rattle.swim_node.specs.declared.entry.Entry.{Entry}
-use Rattle.swim_library.specs.Running.{KeepsHeld, SavesPeers}
+use Rattle.swim_node.specs.Keeping.{KeepsGiven}
+use Rattle.swim_node.specs.Lives.{GoesOn}
+use Rattle.swim_node.specs.Node.{store_of}
+use Rattle.swim_state.specs.declared.fault.SaveFault.{SaveFault}
+use Rattle.swim_state.specs.declared.fault.SaveFault.TheVariants.{Changed, Device, Exhausted}
+use Rattle.swim_library.specs.Running.{GoesOnOpen, KeepsHeld, LivesOn, RefusesPeers, SavesPeers}
+use Rattle.swim_library.specs.declared.refusal.Refusal.TheVariants as why
+use Rattle.swim_library.specs.declared.running.Running.{Running}
 use Rattle.swim_library.proofs.running.Running.keep_peers.Goals as goal
 
 -- the save of an era that just began, said of the one before
@@ -22,32 +28,63 @@ holds old begun now none owner disk granted through ends =
       ends = ends;
     }
 
--- what a save did holds of its result, whatever becomes of its fault
-saved : {E F : Type 0} (kept : Result Unit E) (result : Result Unit F) (Q : E → F → Type 0) (begun now : NodeView FileView) (A B : Type 0) → MatchResult kept (λ x. result ≡ Ok x) (λ e. IsErrAnd result (Q e)) → OnOk kept (A × (now.peers ≡ known_peers (state_after begun.base begun.entries)) × B) → OnOk kept (HasPeers (file_state now.disk) now.peers) → known_peers (state_after begun.base begun.entries) ≡ known_peers (state_after now.base now.entries) → OnOk result (SavesPeers now)
-saved (Ok x) (Ok y) Q begun now A B same ok named known = record { peers = ok.1 ∙ known; named = named }
-saved (Err e) (Ok y) Q begun now A B other ok named known = absurd other
-saved _ (Err f) Q begun now A B same ok named known = tt
+-- whom a member knows at the begin of an era, it knows after a save
+known : (begun now : NodeView FileView) → begun.entries ≡ [] → now.entries ≡ [] → known_peers (state_after now.base []) ≡ known_peers (state_after begun.base []) → known_peers (state_after begun.base begun.entries) ≡ known_peers (state_after now.base now.entries)
+known begun now none still base =
+    ap (λ (h : List Entry). known_peers (state_after begun.base h)) none
+    ∙ (sym base ∙ sym (ap (λ (h : List Entry). known_peers (state_after now.base h)) still))
 
-pub returns-clause-kept : goal.returns-clause-kept
-returns-clause-kept c =
+-- why they were not saved, said of the one before
+refuses : (old begun now : NodeView FileView) (peers : List ℕ) (fault : SaveFault) → begun.disk ≡ old.disk → KeepsGiven ⊤ file_state peers (Err fault) (store_of begun) (store_of now) → RefusesPeers old now (why.Keeping fault)
+refuses old begun now peers Device disk keeps =
+    subst (λ (d : FileView). (file_state now.disk).failures ≡ (file_state d).failures + 1) disk (keeps.tries.counts.device refl)
+refuses old begun now peers Exhausted disk keeps = (
+  subst (λ (d : FileView). (file_state now.disk).failures ≡ (file_state d).failures) disk (keeps.tries.counts.calm (λ is. absurd cc)),
+  keeps.full refl,
+)
+refuses old begun now peers Changed disk keeps = (keeps.tries.guards tt).changed refl
+
+-- the member goes on, whether its peers were saved or not
+goes_on : (old new : Running) (begun : NodeView FileView) → new.outbox ≡ old.outbox → new.notes ≡ old.notes → new.told ≡ old.told → new.due ≡ old.due → new.seeking ≡ old.seeking → new.node.owner ≡ begun.owner → begun.owner ≡ old.node.owner → new.node.first ≡ begun.first → begun.first ≡ old.node.first → LivesOn old.node begun → GoesOn file_state begun new.node → KeepsHeld old.node new.node → GoesOnOpen old new
+goes_on old new begun outbox notes told due seeking owner begun_owner first begun_first ended living held = record {
+  outbox = outbox;
+  notes = notes;
+  told = told;
+  due = due;
+  seeking = seeking;
+  owner = owner ∙ begun_owner;
+  first = first ∙ begun_first;
+  lives = λ settings limit opened eras lives.
+      let before = ended settings limit opened eras lives in
+      (before.0, living settings limit opened (eras ++ before.0) before.1);
+  held = held;
+}
+
+pub returns-in-Ok-clause-kept : goal.returns-in-Ok-clause-kept
+returns-in-Ok-clause-kept c =
     let begun = c.end_era_of.new.node in
     let now = c.keep_peers-kept.new.self in
-    saved c.keep_peers-kept.result c.map_err.result _ begun now _ _ c.map_err.ensures.cases c.keep_peers-kept.ensures.keeps.ok (c.keep_peers-kept.ensures.keeps.tries.guards tt).named
-    (ap (λ (h : List Entry). known_peers (state_after begun.base h)) (c.end_era_of.ensures.empty refl)
-    ∙ sym (ap (λ (h : List Entry). known_peers (state_after now.base h)) c.keep_peers-kept.ensures.entries
-    ∙ ap (λ (b : Base). known_peers (state_after b [])) c.keep_peers-kept.ensures.base))
+    record {
+      peers = c.in-Ok.ensures.keeps.ok.1
+          ∙ known begun now (c.end_era_of.ensures.empty refl) c.keep_peers-kept.ensures.entries
+          (ap (λ (b : Base). known_peers (state_after b [])) c.keep_peers-kept.ensures.base);
+      named = (c.in-Ok.ensures.keeps.tries.guards tt).named;
+    }
 
-pub returns-clause-goes_on : goal.returns-clause-goes_on
-returns-clause-goes_on c = record {
-  outbox = refl;
-  notes = refl;
-  told = refl;
-  due = refl;
-  seeking = refl;
-  owner = c.keep_peers-kept.ensures.keeps.tries.owner ∙ c.end_era_of.ensures.owner;
-  first = c.keep_peers-kept.ensures.first ∙ c.end_era_of.ensures.first;
-  lives = λ settings limit opened eras lives.
-      let before = c.end_era_of.ensures.lives settings limit opened eras lives in
-      (before.0, c.keep_peers-kept.ensures.living settings limit opened (eras ++ before.0) before.1);
-  held = holds c.args.self.now.node c.end_era_of.new.node c.keep_peers-kept.new.self (c.end_era_of.ensures.empty refl) c.end_era_of.ensures.owner c.end_era_of.ensures.disk c.end_era_of.ensures.granted (c.keep_peers-kept.ensures.keeps.tries.guards tt).moments (c.life_may_end.ensures tt);
-}
+pub returns-in-Ok-clause-goes_on : goal.returns-in-Ok-clause-goes_on
+returns-in-Ok-clause-goes_on c =
+    let keeps = c.keep_peers-kept.ensures.keeps in
+    let ended = c.end_era_of.ensures in
+    goes_on _ _ c.end_era_of.new.node refl refl refl refl refl keeps.tries.owner ended.owner c.keep_peers-kept.ensures.first ended.first ended.lives c.keep_peers-kept.ensures.living
+    (holds c.args.self.now.node c.end_era_of.new.node c.keep_peers-kept.new.self (ended.empty refl) ended.owner ended.disk ended.granted (keeps.tries.guards tt).moments (c.life_may_end.ensures tt))
+
+pub returns-in-Err-clause-goes_on : goal.returns-in-Err-clause-goes_on
+returns-in-Err-clause-goes_on c =
+    let keeps = c.keep_peers-kept.ensures.keeps in
+    let ended = c.end_era_of.ensures in
+    goes_on _ _ c.end_era_of.new.node refl refl refl refl refl keeps.tries.owner ended.owner c.keep_peers-kept.ensures.first ended.first ended.lives c.keep_peers-kept.ensures.living
+    (holds c.args.self.now.node c.end_era_of.new.node c.keep_peers-kept.new.self (ended.empty refl) ended.owner ended.disk ended.granted (keeps.tries.guards tt).moments (c.life_may_end.ensures tt))
+
+pub returns-in-Err-clause-refused : goal.returns-in-Err-clause-refused
+returns-in-Err-clause-refused c =
+    refuses c.args.self.now.node c.end_era_of.new.node c.keep_peers-kept.new.self _ c.in-Err.fault c.end_era_of.ensures.disk c.in-Err.ensures.keeps
