@@ -25,6 +25,11 @@ pub done : {P : Type 0} (result : Result (Unit {0}) Refusal) (code : ℕ) → co
 done (Ok all) code is ok p = p
 done (Err refusal) code is ok p = absurd (refused refusal (rw (sym is) ok))
 
+-- A call that answers anything else was refused, and says why.
+pub why_not : {P : Refusal → Type 0} (result : Result (Unit {0}) Refusal) (code : ℕ) → code ≡ code_of_result result → code ≢ OK → IfErr result P → (refusal : Refusal) × (code ≡ code_of refusal) × P refusal
+why_not (Ok all) code is other p = absurd (other is)
+why_not (Err refusal) code is other p = (refusal, is, p)
+
 -- A call that is refused just where this says so answers with the code of it.
 pub said_fault : {T : Type 0} (result : Result T Refusal) (code : ℕ) (fault : Option Refusal) → code ≡ code_of_result result → OnOk result (fault ≡ None) → IfErr result (λ refusal. fault ≡ Some refusal) → code ≡ code_of_fault fault
 said_fault (Ok all) code fault is sound refused = is ∙ sym (ap code_of_fault sound)
