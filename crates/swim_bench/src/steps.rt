@@ -9,6 +9,7 @@ ghost use Rattle.swim_member.specs.declared.answer.TheConstants.{OUTS_MAX};
 use crate::codec::write;
 use crate::scene::{deal, make_newer, member_after, received};
 use swim_member::{Answer, Event, Member, Out};
+use swim_wire::Datagram;
 
 /// Writes the datagrams over the first bytes, one after the other, and answers how many there are.
 pub(crate) fn write_all(outs: &[Out], out: &mut [u8]) -> usize
@@ -24,9 +25,15 @@ pub(crate) fn write_all(outs: &[Out], out: &mut [u8]) -> usize
     outs.len()
 }
 
-/// One step, in which no number is granted above the own one, and what it sends. The answer is lent, as a node lends it.
+/// One step, in which no number is granted above the own one, and what it sends. Its places are lent, as a node lends them.
 #[inline(always)]
-fn turn_of(member: &mut Member, event: &Event, answer: &mut Answer, out: &mut [u8]) -> usize
+fn turn_of(
+    member: &mut Member,
+    event: &Event,
+    read: &mut Datagram,
+    answer: &mut Answer,
+    out: &mut [u8],
+) -> usize
     requires { DATAGRAM_MAX ≤ length out.old }
     ensures few { result ≤ OUTS_MAX }
     ensures text { 0 < result → BeginsWithText out.new }
@@ -34,7 +41,8 @@ fn turn_of(member: &mut Member, event: &Event, answer: &mut Answer, out: &mut [u
 {
     answer.clear();
     let granted = member.number();
-    member.step_into(event, granted, answer);
+    let judged = member.judge(event, read);
+    member.act(event, judged, read, granted, answer);
     write_all(&answer.outs, out)
 }
 
@@ -49,10 +57,11 @@ pub extern "C" fn swim_bench_pings(before: &[u8], text: &[u8], turns: u32, out: 
         return 0;
     };
     let event = received(text);
+    let mut read = Datagram::default();
     let mut answer = Answer::nothing();
     let mut sent = 0;
     for _ in 0..turns {
-        sent += turn_of(&mut member, &event, &mut answer, out) as u64;
+        sent += turn_of(&mut member, &event, &mut read, &mut answer, out) as u64;
     }
     sent
 }
@@ -72,11 +81,12 @@ pub extern "C" fn swim_bench_newer_pings(
     let Some(mut member) = member_after(before, 1000) else {
         return 0;
     };
+    let mut read = Datagram::default();
     let mut answer = Answer::nothing();
     let mut sent = 0;
     for turn in 0..turns {
         make_newer(text, turn);
-        sent += turn_of(&mut member, &received(text), &mut answer, out) as u64;
+        sent += turn_of(&mut member, &received(text), &mut read, &mut answer, out) as u64;
     }
     sent
 }
@@ -91,10 +101,11 @@ pub extern "C" fn swim_bench_ticks(before: &[u8], period: u64, turns: u32, out: 
         return 0;
     };
     let event = Event::Tick { deal: deal() };
+    let mut read = Datagram::default();
     let mut answer = Answer::nothing();
     let mut sent = 0;
     for _ in 0..turns {
-        sent += turn_of(&mut member, &event, &mut answer, out) as u64;
+        sent += turn_of(&mut member, &event, &mut read, &mut answer, out) as u64;
     }
     sent
 }

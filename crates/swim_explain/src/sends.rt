@@ -2,20 +2,22 @@
 
 ghost use Rattle.std.specs.Prelude.{◌≡◌, ◌++◌, OnOk};
 ghost use Rattle.std.specs.Option.{option_to_list};
+ghost use Rattle.swim_member.specs.Judged.{judged_as};
+ghost use Rattle.swim_member.specs.declared.event.Event.{Event as Events};
 ghost use Rattle.swim_explain.specs.Facts.{purpose_of, sent, sent_about};
 
 use crate::fact::{Fact, Purpose, add};
 use std::alloc::AllocError;
 use swim_member::{Judgement, Out};
 use swim_node::Outcome;
-use swim_wire::{Endpoint, Kind};
+use swim_wire::{Datagram, Endpoint, Kind};
 
-/// For what a call pings.
-pub(crate) fn purpose_of(judged: &Judgement) -> Purpose
-    ensures { result ≡ purpose_of judged.now }
+/// For what a call pings that was so judged, and whose datagram was read.
+pub(crate) fn purpose_of(judged: &Judgement, read: &Datagram) -> Purpose
+    ensures { (event : Events) → result ≡ purpose_of (judged_as event read.now judged.now) }
 {
     match judged {
-        Judgement::Datagram { datagram, .. } => Purpose::Relay(datagram.sender),
+        Judgement::Datagram { own: _ } => Purpose::Relay(read.sender),
         Judgement::Leave => Purpose::Leave,
         _ => Purpose::Probe,
     }

@@ -4,7 +4,9 @@ ghost use Rattle.std.specs.Prelude.{◌≡◌, ◌≢◌, ◌≤◌, ◌++◌, �
 ghost use Rattle.std.specs.Option.{option_to_list};
 ghost use Rattle.swim_member.specs.Checks.{AreSound};
 ghost use Rattle.swim_member.specs.Events.{Step, state_of};
+ghost use Rattle.swim_member.specs.Judged.{judged_as};
 ghost use Rattle.swim_member.specs.State.{State};
+ghost use Rattle.swim_member.specs.declared.event.Event.{Event as Events};
 ghost use Rattle.swim_node.specs.declared.beginning.BeginFault.TheVariants.{NoMemory};
 ghost use Rattle.swim_node.specs.History.{step_of};
 ghost use Rattle.swim_node.specs.Replaying.{begin_fault};
@@ -20,7 +22,7 @@ use crate::view::View;
 use std::alloc::{AllocError, Global};
 use swim_member::{Answer, Judgement, Member, Phase, Settings};
 use swim_node::{BeginFault, Beginning, Entry, Replay};
-use swim_wire::Endpoint;
+use swim_wire::{Datagram, Endpoint};
 
 /// What the call was told, and what time did.
 fn tell_met(
@@ -30,16 +32,17 @@ fn tell_met(
     before: &View,
     after: &View,
     judged: &Judgement,
+    read: &Datagram,
 ) -> Result<(), AllocError>
     requires { settings.now.period ≢ 0 }
-    ensures { OnOk result (facts.new.items
-        ≡ facts.old.items ++ met settings.now who before.now after.now judged.now) }
+    ensures { OnOk result ((event : Events) → facts.new.items ≡ facts.old.items
+        ++ met settings.now who before.now after.now (judged_as event read.now judged.now)) }
 {
     match judged {
-        Judgement::Datagram { datagram, .. } => {
-            tell_datagram(facts, settings, who, before, after, datagram)
+        Judgement::Datagram { own: _ } => {
+            tell_datagram(facts, settings, who, before, after, read)
         }
-        Judgement::Tick { .. } => tell_tick(facts, settings, who, before, after),
+        Judgement::Tick => tell_tick(facts, settings, who, before, after),
         _ => Ok(()),
     }
 }
@@ -89,18 +92,19 @@ fn facts_of(
     settings: &Settings,
     who: Endpoint,
     judged: &Judgement,
+    read: &Datagram,
     before: &View,
     after: &View,
     entry: &Entry,
 ) -> Result<Vec<Fact>, AllocError>
     requires { settings.now.period ≢ 0 }
-    ensures { IfOk result (λ told. told.items
-        ≡ facts settings.now who judged.now before.now after.now entry.now) }
+    ensures { IfOk result (λ told. told.items ≡ facts settings.now who
+        (judged_as entry.now.event read.now judged.now) before.now after.now entry.now) }
 {
     let mut facts = Vec::new(alloc);
-    tell_met(&mut facts, settings, who, before, after, judged)?;
+    tell_met(&mut facts, settings, who, before, after, judged, read)?;
     tell_own(&mut facts, who, settings.me, before, after)?;
-    let purpose = purpose_of(judged);
+    let purpose = purpose_of(judged, read);
     let (outs, outcomes) = (entry.outs.as_slice(), entry.outcomes.as_slice());
     tell_sent(&mut facts, who, &purpose, outs, outcomes)?;
     Ok(facts)
@@ -145,13 +149,16 @@ fn tell_call(
     ensures low { OnOk result (member.new.number ≤ entry.now.granted) }
     ensures settings { OnOk result (member.new.settings ≡ member.old.settings) }
 {
-    let judged = member.judge(&entry.event);
+    let mut read = Datagram::default();
+    let judged = member.judge(&entry.event, &mut read);
     let before = View::of(member, who);
     let mut said = Answer::nothing();
-    member.act(&judged, entry.granted, &mut said);
+    member.act(&entry.event, judged, &read, entry.granted, &mut said);
     let after = View::of(member, who);
     let settings = member.settings();
-    let facts = facts_of(alloc, &settings, who, &judged, &before, &after, entry)?;
+    let facts = facts_of(
+        alloc, &settings, who, &judged, &read, &before, &after, entry,
+    )?;
     stamp(told, call, after.time, &facts)
 }
 
