@@ -35,7 +35,7 @@ known begun now none still base =
     ∙ (sym base ∙ sym (ap (λ (h : List Entry). known_peers (state_after now.base h)) still))
 
 -- why they were not saved, said of the one before
-refuses : (old begun now : NodeView FileView) (peers : List ℕ) (fault : SaveFault) → begun.disk ≡ old.disk → KeepsGiven ⊤ file_state peers (Err fault) (store_of begun) (store_of now) → RefusesPeers old now (why.Keeping fault)
+refuses : (old begun now : NodeView FileView) (peers : List ℕ) (fault : SaveFault) → begun.disk ≡ old.disk → KeepsGiven (Unit {0}) file_state peers (Err fault) (store_of begun) (store_of now) → RefusesPeers old now (why.Keeping fault)
 refuses old begun now peers Device disk keeps =
     subst (λ (d : FileView). (file_state now.disk).failures ≡ (file_state d).failures + 1) disk (keeps.tries.counts.device refl)
 refuses old begun now peers Exhausted disk keeps = (
