@@ -239,6 +239,8 @@ impl Allowed {
 pub struct Shadow {
     member: Member,
     allowed: Allowed,
+    /// The datagram of the next call, where it is one.
+    read: Datagram,
 }
 
 impl Shadow {
@@ -264,17 +266,21 @@ impl Shadow {
             ping: None,
             counts: member.counts(),
         };
-        Ok(Some(Shadow { member, allowed }))
+        Ok(Some(Shadow {
+            member,
+            allowed,
+            read: Datagram::default(),
+        }))
     }
 
     /// Does what the node did last. Gives an update by which the law of detection is broken, if there is one.
     pub fn follow(&mut self, entry: &Entry) -> Result<Option<(Update, Lapse)>, SimulateFault> {
-        let judged = self.member.judge(&entry.event);
+        let judged = self.member.judge(&entry.event, &mut self.read);
         let mut found = None;
         let mut begins = false;
         match &judged {
-            Judgement::Datagram { datagram, .. } => self.allowed.receive(datagram)?,
-            Judgement::Tick { .. } => {
+            Judgement::Datagram { own: _ } => self.allowed.receive(&self.read)?,
+            Judgement::Tick => {
                 begins = self.member.ends_period();
                 found = self.allowed.look(&self.member)?;
             }
@@ -282,7 +288,8 @@ impl Shadow {
         }
         let granted = entry.granted.max(self.member.number());
         let mut said = Answer::nothing();
-        self.member.act(&judged, granted, &mut said);
+        self.member
+            .act(&entry.event, judged, &self.read, granted, &mut said);
         if begins {
             self.allowed.begin_period(entry.outs.as_slice());
         }
