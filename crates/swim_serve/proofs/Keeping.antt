@@ -1,13 +1,12 @@
 -- Peers that are kept where an era ends.
-use Rattle.std.proofs.Common.{◌≡◌, ◌⊎◌, ◌+◌, ◌<◌, ◌∙◌, [], ap, inl, inr, sym, true, false, refl}
-use Rattle.std.specs.Prelude.{Option, Some, None, IfSome, IfNone, is_some, Result, Ok, Err, OnOk, OnErr}
-use Rattle.swim_wire.specs.declared.update.TheConstants.{NUMBER_MAX}
+use Rattle.std.proofs.Common.{List, ℕ, ◌≡◌, ◌⊎◌, ◌∙◌, [], ap, inl, inr, sym, true, false, refl}
+use Rattle.std.specs.Prelude.{Option, Some, None, IfSome, IfNone, is_some, Result, Ok, Err}
 use Rattle.swim_disk.specs.Disk.{DiskState}
 use Rattle.swim_state.specs.declared.fault.SaveFault.{SaveFault}
 use Rattle.swim_state.specs.declared.fault.SaveFault.TheVariants.{Device, Changed, Exhausted}
-use Rattle.swim_state.specs.Held.{HasPeers}
 use Rattle.swim_node.specs.History.{Base, state_after}
-use Rattle.swim_node.specs.Node.{NodeView, granted_base}
+use Rattle.swim_node.specs.Keeping.{KeepsGiven}
+use Rattle.swim_node.specs.Node.{NodeView, granted_base, store_of}
 use Rattle.swim_node.specs.Peers.{known_peers}
 use Rattle.swim_serve.specs.Peers.{FailedBy, HasSaved, CouldNotSave, KeepsPeers, BeginsKept}
 
@@ -22,24 +21,30 @@ is_broken : {P : Type 0} (saved : Result (Unit {0}) SaveFault) (why : SaveFault)
 is_broken saved why is other (inl e) = absurd (other (cc (sym is ∙ e)))
 is_broken saved why is other (inr p) = p
 
--- what a call that keeps them says
-pub keeps_peers : {D : Type 0} (keeps : Type 0) (state : D → DiskState) (a b : NodeView D) (saved : Result (Unit {0}) SaveFault) → a.entries ≡ [] → b.entries ≡ [] → b.base ≡ granted_base a.base b.base.granted → OnOk saved ((a.base.granted < b.base.granted) × (b.peers ≡ known_peers (state_after a.base a.entries)) × (b.broken ≡ false)) → (keeps → OnOk saved (HasPeers (state b.disk) b.peers)) → (saved ≡ Err Device → (state b.disk).failures ≡ (state a.disk).failures + 1) → (saved ≡ Err Changed → a.broken ≡ true) → (saved ≡ Err Exhausted → b.base.granted ≡ NUMBER_MAX) → OnErr saved ((saved ≡ Err Exhausted) ⊎ (b.broken ≡ true)) → OnErr saved (a.broken ≡ false → (b.base.granted ≡ a.base.granted) × (b.peers ≡ a.peers)) → KeepsPeers keeps state a b
-keeps_peers keeps state a b (Ok u) none empty base ok named device changed full ready steady = inl (record { known = ok.1 ∙ known-same a b none empty base; raised = ok.0; whole = ok.2; lasts = named })
-keeps_peers keeps state a b (Err Device) none empty base ok named device changed full ready steady = inr (Device, record { failed = (is_broken (Err Device) Device refl (λ e. cc) ready, device refl); stood = steady })
-keeps_peers keeps state a b (Err Changed) none empty base ok named device changed full ready steady = inr (Changed, record { failed = (changed refl, is_broken (Err Changed) Changed refl (λ e. cc) ready); stood = steady })
-keeps_peers keeps state a b (Err Exhausted) none empty base ok named device changed full ready steady = inr (Exhausted, record { failed = full refl; stood = steady })
+-- where it failed, the old ones stand if no save had failed before
+stood : {D : Type 0} (keeps : Type 0) (state : D → DiskState) (a b : NodeView D) (why : SaveFault) (known : List ℕ) → KeepsGiven keeps state known (Err why) (store_of a) (store_of b) → a.broken ≡ false → (b.base.granted ≡ a.base.granted) × (b.peers ≡ a.peers)
+stood keeps state a b why known kept whole = let same = kept.tries.steady whole in (same.ceiling_is, same.peers_are)
+
+-- why it failed
+failed : {D : Type 0} (keeps : Type 0) (state : D → DiskState) (a b : NodeView D) (why : SaveFault) (known : List ℕ) → KeepsGiven keeps state known (Err why) (store_of a) (store_of b) → FailedBy state a b why
+failed keeps state a b Device known kept = (is_broken (Err Device) Device refl (λ e. cc) kept.ready, kept.tries.counts.device refl)
+failed keeps state a b Changed known kept = (kept.tries.reread refl, is_broken (Err Changed) Changed refl (λ e. cc) kept.ready)
+failed keeps state a b Exhausted known kept = kept.full refl
 
 -- where it was done
-pub has_saved : {D : Type 0} (keeps : Type 0) (state : D → DiskState) (a b : NodeView D) (u : Unit {0}) (saved : Result (Unit {0}) SaveFault) → saved ≡ Ok u → a.entries ≡ [] → b.entries ≡ [] → b.base ≡ granted_base a.base b.base.granted → OnOk saved ((a.base.granted < b.base.granted) × (b.peers ≡ known_peers (state_after a.base a.entries)) × (b.broken ≡ false)) → (keeps → OnOk saved (HasPeers (state b.disk) b.peers)) → HasSaved keeps state a b
-has_saved keeps state a b u (Ok v) is none empty base ok named = record { known = ok.1 ∙ known-same a b none empty base; raised = ok.0; whole = ok.2; lasts = named }
-has_saved keeps state a b u (Err why) is none empty base ok named = absurd cc
+pub has_saved : {D : Type 0} (keeps : Type 0) (state : D → DiskState) (a b : NodeView D) (u : Unit {0}) (saved : Result (Unit {0}) SaveFault) → saved ≡ Ok u → a.entries ≡ [] → b.entries ≡ [] → b.base ≡ granted_base a.base b.base.granted → KeepsGiven keeps state (known_peers (state_after a.base a.entries)) saved (store_of a) (store_of b) → HasSaved keeps state a b
+has_saved keeps state a b u (Ok v) is none empty base kept = record { known = kept.ok.1 ∙ known-same a b none empty base; raised = kept.ok.0; whole = kept.ok.2; lasts = λ model. (kept.tries.guards model).named }
+has_saved keeps state a b u (Err why) is none empty base kept = absurd cc
 
 -- where it could not be
-pub could_not : {D : Type 0} (state : D → DiskState) (a b : NodeView D) (why : SaveFault) (saved : Result (Unit {0}) SaveFault) → saved ≡ Err why → (saved ≡ Err Device → (state b.disk).failures ≡ (state a.disk).failures + 1) → (saved ≡ Err Changed → a.broken ≡ true) → (saved ≡ Err Exhausted → b.base.granted ≡ NUMBER_MAX) → OnErr saved ((saved ≡ Err Exhausted) ⊎ (b.broken ≡ true)) → OnErr saved (a.broken ≡ false → (b.base.granted ≡ a.base.granted) × (b.peers ≡ a.peers)) → (why : SaveFault) × CouldNotSave state a b why
-could_not state a b why (Ok v) is device changed full ready steady = absurd cc
-could_not state a b why (Err Device) is device changed full ready steady = (Device, record { failed = (is_broken (Err Device) Device refl (λ e. cc) ready, device refl); stood = steady })
-could_not state a b why (Err Changed) is device changed full ready steady = (Changed, record { failed = (changed refl, is_broken (Err Changed) Changed refl (λ e. cc) ready); stood = steady })
-could_not state a b why (Err Exhausted) is device changed full ready steady = (Exhausted, record { failed = full refl; stood = steady })
+pub could_not : {D : Type 0} (keeps : Type 0) (state : D → DiskState) (a b : NodeView D) (why : SaveFault) (saved : Result (Unit {0}) SaveFault) → saved ≡ Err why → KeepsGiven keeps state (known_peers (state_after a.base a.entries)) saved (store_of a) (store_of b) → (why : SaveFault) × CouldNotSave state a b why
+could_not keeps state a b why (Ok v) is kept = absurd cc
+could_not keeps state a b why (Err fault) is kept = (fault, record { failed = failed keeps state a b fault _ kept; stood = stood keeps state a b fault _ kept })
+
+-- what a call that keeps them says
+pub keeps_peers : {D : Type 0} (keeps : Type 0) (state : D → DiskState) (a b : NodeView D) (saved : Result (Unit {0}) SaveFault) → a.entries ≡ [] → b.entries ≡ [] → b.base ≡ granted_base a.base b.base.granted → KeepsGiven keeps state (known_peers (state_after a.base a.entries)) saved (store_of a) (store_of b) → KeepsPeers keeps state a b
+keeps_peers keeps state a b (Ok u) none empty base kept = inl (has_saved keeps state a b u (Ok u) refl none empty base kept)
+keeps_peers keeps state a b (Err why) none empty base kept = inr (could_not keeps state a b why (Err why) refl kept)
 
 begins : {D : Type 0} (state : D → DiskState) (a b : NodeView D) (why : SaveFault) → FailedBy state a b why → BeginsKept b
 begins state a b Device f = inr (inl f.0)

@@ -28,4 +28,4 @@ returns-clause-named c =
     let old = c.self.inside.node in
     let new = c.keep_peers.new.self in
     subst (λ (l : Life PlayDisk). OnOk c.keep_peers.result (HasPeers (disk_state new.disk) (known_peers (state_after l.base l.entries)))) c.self.view_is
-    (named c.keep_peers.result (disk_state new.disk) new.peers (known_peers (state_after old.base old.entries)) _ _ (c.keep_peers.ensures.named (tt {0})) c.keep_peers.ensures.ok)
+    (named c.keep_peers.result (disk_state new.disk) new.peers (known_peers (state_after old.base old.entries)) _ _ (c.keep_peers.ensures.keeps.tries.guards (tt {0})).named c.keep_peers.ensures.keeps.ok)
