@@ -1,4 +1,3 @@
-mod Adding
 mod Changing
 mod Crosses
 mod Dealing
