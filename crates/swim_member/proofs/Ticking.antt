@@ -6,7 +6,7 @@ use Rattle.swim_rules.specs.Rows.{answer_to, is_kind, is_due, row_of}
 use Rattle.swim_wire.specs.declared.update.UpdateKind.TheVariants.{Alive, Suspect, Confirm}
 use Rattle.swim_member.specs.declared.state.Probe.{Probe}
 use Rattle.swim_member.specs.Checks.{rules_of}
-use Rattle.swim_member.specs.State.{State}
+use Rattle.swim_member.specs.State.{Change, State}
 use Rattle.swim_member.specs.Events.{Action, Advance, Expire, Forget, Blame, Probe_next, Ask, Bye, perform, outs, notes, each_from, tick_actions}
 use Rattle.swim_member.specs.Expiry.{expire_first, forget_first}
 use Rattle.swim_member.specs.Probe.{blame, suspect_target, suspect_of, ask, ask_one, helpers_about, is_at}
@@ -20,33 +20,22 @@ use Rattle.swim_member.proofs.Actions.{after-append, notes_by-append, outs_by-ap
 use Rattle.swim_member.proofs.Received.{outs-heard_with}
 use Rattle.std.proofs.Common.{nat_le, not, ◌&&◌}
 
+-- whatever is read off what the first row that is due makes of itself, there is none of it
+none_by : {T : Type 0} (read : List Change → List T) (first : Option Row → List Change) (o : Option Row) → read (first None) ≡ [] → ((r : Row) → read (first (Some r)) ≡ []) → read (first o) ≡ []
+none_by read first None none some = none
+none_by read first (Some r) none some = some r
+
 outs-expire : (s : State) → outs (perform s Expire) ≡ []
-outs-expire s = by_row (find (is_due Suspect s.settings.suspect s.time) s.rows)
-  where
-    by_row : (o : Option Row) → outs (expire_first o) ≡ []
-    by_row None = refl
-    by_row (Some r) = refl
+outs-expire s = none_by outs expire_first (find (is_due Suspect s.settings.suspect s.time) s.rows) refl (λ r. refl)
 
 notes-expire : (s : State) → notes (perform s Expire) ≡ []
-notes-expire s = by_row (find (is_due Suspect s.settings.suspect s.time) s.rows)
-  where
-    by_row : (o : Option Row) → notes (expire_first o) ≡ []
-    by_row None = refl
-    by_row (Some r) = refl
+notes-expire s = none_by notes expire_first (find (is_due Suspect s.settings.suspect s.time) s.rows) refl (λ r. refl)
 
 outs-forget : (s : State) → outs (perform s Forget) ≡ []
-outs-forget s = by_row (find (is_due Confirm s.settings.forget s.time) s.rows)
-  where
-    by_row : (o : Option Row) → outs (forget_first o) ≡ []
-    by_row None = refl
-    by_row (Some r) = refl
+outs-forget s = none_by outs forget_first (find (is_due Confirm s.settings.forget s.time) s.rows) refl (λ r. refl)
 
 notes-forget : (s : State) → notes (perform s Forget) ≡ []
-notes-forget s = by_row (find (is_due Confirm s.settings.forget s.time) s.rows)
-  where
-    by_row : (o : Option Row) → notes (forget_first o) ≡ []
-    by_row None = refl
-    by_row (Some r) = refl
+notes-forget s = none_by notes forget_first (find (is_due Confirm s.settings.forget s.time) s.rows) refl (λ r. refl)
 
 outs-blame : (s : State) → outs (perform s Blame) ≡ []
 outs-blame s = at (is_at s 0) s.probe
