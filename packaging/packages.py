@@ -56,7 +56,7 @@ def put_changelog(tree, documents, source, release):
     """Debian's own change log: what changed is told by the page of the repository."""
     when = formatdate(int(os.environ["SOURCE_DATE_EPOCH"]), localtime=False).replace("-0000", "+0000")
     who = output("git", "log", "-1", "--format=%an <%ae>")
-    entry = f"{source} ({release}) unstable; urgency=medium\n\n  * As docs/CHANGELOG.md of the commit says.\n\n -- {who}  {when}\n"
+    entry = f"{source} ({release}) unstable; urgency=medium\n\n  * As docs/develop/CHANGELOG.md of the commit says.\n\n -- {who}  {when}\n"
     put(tree, f"{documents}/changelog.Debian.gz", gzip.compress(entry.encode(), 9, mtime=0))
 
 

@@ -40,7 +40,7 @@
  *             SWIM_LOCKED where another has it.
  * Numbers.    Addresses and ports are in host order: 127.0.0.1 is 0x7f000001.
  *
- * docs/EMBEDDING.md says more.
+ * docs/develop/EMBEDDING.md says more.
  */
 #ifndef SWIM_H
 #define SWIM_H
@@ -107,7 +107,7 @@ enum swim_code {
     SWIM_OPEN_NOT_STATE = 22,   /* it is no state file */
     SWIM_OPEN_WRONG_OWNER = 23, /* it is of another group or endpoint */
     SWIM_OPEN_NO_SLOT = 24,     /* swim_make_state was cut short, or else something wrote the file: see swim_make_state */
-    SWIM_OPEN_DAMAGED = 25,     /* something else wrote the file, or the disk lost what it had synced: docs/INCIDENTS.md */
+    SWIM_OPEN_DAMAGED = 25,     /* something else wrote the file, or the disk lost what it had synced: docs/operate/INCIDENTS.md */
     SWIM_OPEN_EXHAUSTED = 26,   /* there is no number left */
     SWIM_OPEN_LIMIT = 27,       /* `limit` is 0 or above SWIM_LIMIT_MAX */
     SWIM_OPEN_NO_MEMORY = 28,
@@ -223,7 +223,7 @@ uint32_t swim_version(void);
 const char *swim_name(int code);
 const char *swim_text(int code);
 
-/* The name of a note as docs/PROTOCOL.md has it, as "BadDatagram"; of any other number "unknown note". Static. */
+/* The name of a note as docs/reference/PROTOCOL.md has it, as "BadDatagram"; of any other number "unknown note". Static. */
 const char *swim_note_name(int note);
 
 /*

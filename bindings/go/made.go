@@ -57,7 +57,7 @@ const (
 	ErrOpenWrongOwner Code = C.SWIM_OPEN_WRONG_OWNER
 	// ErrOpenNoSlot is SWIM_OPEN_NO_SLOT: swim_make_state was cut short, or else something wrote the file: see swim_make_state.
 	ErrOpenNoSlot Code = C.SWIM_OPEN_NO_SLOT
-	// ErrOpenDamaged is SWIM_OPEN_DAMAGED: something else wrote the file, or the disk lost what it had synced: docs/INCIDENTS.md.
+	// ErrOpenDamaged is SWIM_OPEN_DAMAGED: something else wrote the file, or the disk lost what it had synced: docs/operate/INCIDENTS.md.
 	ErrOpenDamaged Code = C.SWIM_OPEN_DAMAGED
 	// ErrOpenExhausted is SWIM_OPEN_EXHAUSTED: there is no number left.
 	ErrOpenExhausted Code = C.SWIM_OPEN_EXHAUSTED

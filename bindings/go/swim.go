@@ -1,5 +1,5 @@
 // Package swim is a member of a SWIM group, by polling, over the C library. bindings/c/swim.h says what each call does; what the
-// program has to feed is in docs/EMBEDDING.md. pkg-config has to find swim.pc, which bindings/c/build and the Debian package
+// program has to feed is in docs/develop/EMBEDDING.md. pkg-config has to find swim.pc, which bindings/c/build and the Debian package
 // libswim-dev leave: PKG_CONFIG_PATH names its folder.
 package swim
 
@@ -39,7 +39,7 @@ func (code Code) Error() string {
 	return fmt.Sprintf("%s: %s", C.GoString(C.swim_name(number)), C.GoString(C.swim_text(number)))
 }
 
-// String is the name of a note, as docs/PROTOCOL.md has it.
+// String is the name of a note, as docs/reference/PROTOCOL.md has it.
 func (note Note) String() string { return C.GoString(C.swim_note_name(C.int(note))) }
 
 // A Fault is a code with what the system said. errors.Is finds the Code and, as in errors.Is(err, fs.ErrNotExist), the Errno.

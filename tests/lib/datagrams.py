@@ -1,4 +1,4 @@
-"""Datagrams, as docs/FORMATS.md has them."""
+"""Datagrams, as docs/reference/FORMATS.md has them."""
 
 import socket
 import struct

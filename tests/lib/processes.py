@@ -102,7 +102,7 @@ class Told(str):
     __hash__ = str.__hash__
 
 
-# The last lines of docs/INCIDENTS.md, after the texts that have one.
+# The last lines of docs/operate/INCIDENTS.md, after the texts that have one.
 HINTS = (
     (
         r"init refused 1 NotEmpty|open refused (2 NotState|4 NoSlot)",

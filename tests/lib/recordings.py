@@ -1,4 +1,4 @@
-"""Recordings in a folder, read as docs/RECORDINGS.md says. It shares no line with the crates."""
+"""Recordings in a folder, read as docs/reference/RECORDINGS.md says. It shares no line with the crates."""
 
 import re
 from typing import NamedTuple

@@ -1,4 +1,4 @@
-"""Scripts of `swim play` and their transcripts, as docs/SCRIPTS.md has them: what a line prints, and which numbers it
+"""Scripts of `swim play` and their transcripts, as docs/reference/SCRIPTS.md has them: what a line prints, and which numbers it
 says."""
 
 import re

@@ -61,6 +61,11 @@ def read_words(doc):
     return words_of(parser_for(doc))
 
 
+def page(name):
+    """A page of docs/, on whichever shelf it stands."""
+    return next((ROOT / "docs").glob(f"*/{name}.md"))
+
+
 @contextmanager
 def folder_for(keep):
     """A folder for a run: the one to keep, or one that is gone in the end, after an interrupt too."""

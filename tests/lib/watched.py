@@ -1,5 +1,5 @@
-"""A member that tells what it sees of one other, as docs/PROTOCOL.md has it: rows, probes, relays, and what `swim explain` is to print
-(docs/RECORDINGS.md). It shares no line with the crates."""
+"""A member that tells what it sees of one other, as docs/reference/PROTOCOL.md has it: rows, probes, relays, and what `swim explain` is to print
+(docs/reference/RECORDINGS.md). It shares no line with the crates."""
 
 import re
 from typing import NamedTuple

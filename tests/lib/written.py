@@ -1,4 +1,4 @@
-"""Recordings that are written here, as docs/RECORDINGS.md has them."""
+"""Recordings that are written here, as docs/reference/RECORDINGS.md has them."""
 
 from typing import NamedTuple
 

@@ -7,7 +7,7 @@
         due = member.advance(time.monotonic())        # then, and when it is due again: ticks, and joins
 
 After each event `datagrams` has to be taken to its end: the next event is refused until then. `swim.aio.Member` does all of it
-over UDP under asyncio. Threads may call one member: each call waits for the one before. `docs/EMBEDDING.md` says how time, random
+over UDP under asyncio. Threads may call one member: each call waits for the one before. `docs/develop/EMBEDDING.md` says how time, random
 words and the state file are to be fed.
 
 A member in memory, for tests:

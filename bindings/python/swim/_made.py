@@ -53,7 +53,7 @@ class Code(enum.IntEnum):
     OPEN_NOT_STATE = 22  # it is no state file
     OPEN_WRONG_OWNER = 23  # it is of another group or endpoint
     OPEN_NO_SLOT = 24  # swim_make_state was cut short, or else something wrote the file: see swim_make_state
-    OPEN_DAMAGED = 25  # something else wrote the file, or the disk lost what it had synced: docs/INCIDENTS.md
+    OPEN_DAMAGED = 25  # something else wrote the file, or the disk lost what it had synced: docs/operate/INCIDENTS.md
     OPEN_EXHAUSTED = 26  # there is no number left
     OPEN_LIMIT = 27  # `limit` is 0 or above SWIM_LIMIT_MAX
     OPEN_NO_MEMORY = 28

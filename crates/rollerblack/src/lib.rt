@@ -1,5 +1,5 @@
 //! A member of a SWIM group that no restart harms, for programs that embed one: every name that such a program needs, from the
-//! crates that have them. Their contracts say what is promised; docs/NODE.md has the rules of a call, of eras and of lives.
+//! crates that have them. Their contracts say what is promised; docs/reference/NODE.md has the rules of a call, of eras and of lives.
 //!
 //! The code below stands in `crates/swim_thread_tests/src/embedded`, where it is compiled and run, but for the last program.
 //!

@@ -1,4 +1,4 @@
-//! How soon a member finds another that fell silent, at the worst. The expected ticks are those of docs/DETECTION.md, counted by hand.
+//! How soon a member finds another that fell silent, at the worst. The expected ticks are those of docs/proof/DETECTION.md, counted by hand.
 
 ghost use Rattle.std.specs.Prelude.{◌<◌};
 

@@ -16,7 +16,7 @@ use swim_wire::{Endpoint, Update, decode};
 /// The most lines of numbers of other lives that are logged, so that no stranger can fill the disk by such numbers.
 const LIVES_MAX: u8 = 5;
 
-/// The byte of a datagram that counts its updates (docs/FORMATS.md).
+/// The byte of a datagram that counts its updates (docs/reference/FORMATS.md).
 const COUNT_AT: usize = 6;
 
 /// What the log tells of the own number, each thing once: that the group knows a greater one, which no call of this life

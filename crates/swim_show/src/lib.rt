@@ -1,5 +1,5 @@
 //! What a state file says, for people: its owner, its slots, what an opening would do with it, and where its bytes
-//! depart from the format. The format is in `docs/STATE_FILE.md`.
+//! depart from the format. The format is in `docs/reference/STATE_FILE.md`.
 #![tactic(auto)]
 
 mod asking;

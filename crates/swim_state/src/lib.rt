@@ -2,7 +2,7 @@
 //! at any moment leaves a file whose floor is at least the ceiling that is known.
 //!
 //! All offsets and sizes are in bytes, and numbers in the file are big-endian. The format, and why each
-//! sync stands where it stands, is in `docs/STATE_FILE.md`.
+//! sync stands where it stands, is in `docs/reference/STATE_FILE.md`.
 #![tactic(auto)]
 
 mod fault;

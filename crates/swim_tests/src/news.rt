@@ -1,4 +1,4 @@
-//! Changes between lists of rows, and their texts, which are those of docs/OPERATIONS.md.
+//! Changes between lists of rows, and their texts, which are those of docs/operate/OPERATIONS.md.
 
 use crate::same::{holds, prints, same};
 use swim_news::{Change, ChangeJson, Changes, RowJson, Rows, compare};

@@ -1,5 +1,5 @@
 //! Workers over a member that they call directly, and conversations over connections in parts. The texts are those of
-//! docs/CONTROL.md.
+//! docs/reference/CONTROL.md.
 
 mod direct;
 mod fakes;

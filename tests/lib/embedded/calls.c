@@ -90,7 +90,7 @@ int __wrap_fsync(int fd) {
 /* What is sent to a member. */
 
 #define ME_PORT 7801
-#define KIND_JOIN 4 /* docs/FORMATS.md */
+#define KIND_JOIN 4 /* docs/reference/FORMATS.md */
 #define MAKES 300
 #define LOOPBACK 0x7f000001u
 

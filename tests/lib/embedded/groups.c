@@ -1,6 +1,6 @@
 /*
  * A group of 32 members of swim.h in one program, each with an inbox in the place of a socket, in ticks in the place of time. Each
- * looks after itself as docs/EMBEDDING.md says: it reads what waits before it ticks, never makes up for a tick, and leaves the joins
+ * looks after itself as docs/develop/EMBEDDING.md says: it reads what waits before it ticks, never makes up for a tick, and leaves the joins
  * to the library, which is told of two seeds.
  *
  *     groups pause      one rests for 300 ticks, and goes on as the page says: nobody else is confirmed by anybody

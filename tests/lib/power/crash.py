@@ -3,7 +3,7 @@
 An image keeps or loses each loose write: all choices where they are few. One write more is torn: at any byte if it is short,
 and at the sectors of 512 bytes in any choice. Writes of the same bytes come in any order. A new length is kept, lost, or
 something between. A name that no sync of its folder covers is kept or lost. The last kind, "any bytes", puts whatever it
-likes where a write is loose, as docs/STATE_FILE.md allows a disk."""
+likes where a write is loose, as docs/reference/STATE_FILE.md allows a disk."""
 
 import collections
 import itertools

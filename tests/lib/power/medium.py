@@ -2,7 +2,7 @@
 
 A write that no sync covers is `loose`: a crash may keep it or lose it. What a failed sync means differs by the rule:
 
-- KEEPS: a later sync that succeeds keeps what a failed one did not. docs/STATE_FILE.md assumes this of a disk.
+- KEEPS: a later sync that succeeds keeps what a failed one did not. docs/reference/STATE_FILE.md assumes this of a disk.
 - FORGETS: Linux takes the pages for written once it has told of the failure. So what the failed sync covered may be lost for
   good, though later syncs succeed, and a read gives it from memory, until the same bytes are written again. Reads give what
   the disk has once the pages were dropped, and a read of such bytes shows that they are durable."""

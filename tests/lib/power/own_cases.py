@@ -15,7 +15,7 @@ PATH = b"/f/s"
 OWNER = owner_bytes(7, "10.0.0.1", 7000)
 
 
-# State files, from the bytes that docs/STATE_FILE.md has.
+# State files, from the bytes that docs/reference/STATE_FILE.md has.
 
 
 def put(content, *pieces):

@@ -1,4 +1,4 @@
-"""The state file, read as docs/STATE_FILE.md says, and by nothing else of the repository: what the program does is judged by
+"""The state file, read as docs/reference/STATE_FILE.md says, and by nothing else of the repository: what the program does is judged by
 this reader, so it shares no line with the program."""
 
 import struct

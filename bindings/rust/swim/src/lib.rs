@@ -1,4 +1,4 @@
-//! A member of a SWIM group, by polling, over the proved library libswim. `docs/EMBEDDING.md` says how time, random words and the
+//! A member of a SWIM group, by polling, over the proved library libswim. `docs/develop/EMBEDDING.md` says how time, random words and the
 //! state file are to be fed.
 //!
 //! After each event [`Member::next_datagram`] has to be asked until it gives none: the next event is refused until then. Ticks that

@@ -55,7 +55,7 @@ pub enum Code {
     OpenWrongOwner,
     /// `SWIM_OPEN_NO_SLOT`: swim_make_state was cut short, or else something wrote the file: see swim_make_state.
     OpenNoSlot,
-    /// `SWIM_OPEN_DAMAGED`: something else wrote the file, or the disk lost what it had synced: docs/INCIDENTS.md.
+    /// `SWIM_OPEN_DAMAGED`: something else wrote the file, or the disk lost what it had synced: docs/operate/INCIDENTS.md.
     OpenDamaged,
     /// `SWIM_OPEN_EXHAUSTED`: there is no number left.
     OpenExhausted,
