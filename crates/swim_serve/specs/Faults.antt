@@ -1,5 +1,6 @@
 -- How the ends of an era's workers end the member.
 use Rattle.std.specs.Prelude.{Option, Some, None}
+use Rattle.std.specs.Option.{option_map, option_or}
 use Rattle.swim_shell.specs.declared.caller.Refusal.{Refusal}
 use Rattle.swim_shell.specs.declared.caller.Refusal.TheVariants as refusal
 use Rattle.swim_shell.specs.declared.conversation.ControlEnd.{ControlEnd}
@@ -19,29 +20,21 @@ fault_by (era.Refused refusal.Memory) = fault.Memory
 fault_by (era.Refused why) = fault.Worker (worker.Refused why)
 fault_by era.Odd = fault.Odd
 
--- a refused call ends the member, but where the era is full
-abbrev pub by_refusal : Option Refusal → Option Fault
-by_refusal None = None
-by_refusal (Some refusal.EraFull) = None
-by_refusal (Some why) = Some (fault.Worker (worker.Refused why))
+-- a worker's own end is a fault of it, but where the era is full
+abbrev pub fault_by_end : Option WorkerEnd → Option Fault
+fault_by_end None = None
+fault_by_end (Some (worker.Refused refusal.EraFull)) = None
+fault_by_end (Some end) = Some (fault.Worker end)
 
--- the receiver ends the member by its own fault too
-abbrev pub by_receiver : Option WorkerEnd → Option Fault
-by_receiver None = None
-by_receiver (Some worker.Fault) = Some (fault.Worker worker.Fault)
-by_receiver (Some (worker.Refused why)) = by_refusal (Some why)
+-- the desk ends itself where a call was refused; the end of a connection is none of its own, and
+-- neither are `stop`, `record` and `reload`
+abbrev pub refused_desk : Option ControlEnd → Option WorkerEnd
+refused_desk (Some (control.Refused why)) = Some (worker.Refused why)
+refused_desk _ = None
 
--- and the desk by no end of a connection, nor by `stop`, `record` or `reload`
-abbrev pub by_desk : Option ControlEnd → Option Fault
-by_desk (Some (control.Refused why)) = by_refusal (Some why)
-by_desk _ = None
-
--- the first fault there is
-abbrev pub first_of : Option Fault → Option Fault → Option Fault
-first_of (Some why) _ = Some why
-first_of None next = next
-
--- the fault that is told: the receiver's, or else the ticker's, the sender's or the desk's
+-- the first fault is told, in this order of the workers
 abbrev pub fault_of : EraEnds → Option Fault
-fault_of ends = first_of (by_receiver ends.receiver) (first_of (by_refusal ends.ticker)
-    (first_of (by_refusal ends.sender) (by_desk ends.control)))
+fault_of ends = option_or (fault_by_end ends.receiver)
+    (option_or (fault_by_end (option_map worker.Refused ends.ticker))
+    (option_or (fault_by_end (option_map worker.Refused ends.sender))
+    (fault_by_end (refused_desk ends.control))))

@@ -1,7 +1,7 @@
 //! How the ends of an era's workers end the member.
 
 ghost use Rattle.std.specs.Prelude.{◌≡◌};
-ghost use Rattle.swim_serve.specs.Faults.{by_desk, by_receiver, by_refusal, fault_by, fault_of};
+ghost use Rattle.swim_serve.specs.Faults.{fault_by, fault_by_end, fault_of, refused_desk};
 
 use crate::era::{EraEnds, EraFault};
 use swim_shell::{ControlEnd, Refusal, WorkerEnd};
@@ -30,33 +30,22 @@ pub(crate) fn fault_by(why: EraFault) -> Fault
     }
 }
 
-/// How a worker that a refused call ended ends the member, if it does: a full era does not.
-fn by_refusal(end: Option<Refusal>) -> Option<Fault>
-    ensures { result ≡ by_refusal end }
+/// How a worker's own end ends the member, if it does: a full era does not.
+fn fault_by_end(end: Option<WorkerEnd>) -> Option<Fault>
+    ensures { result ≡ fault_by_end end }
 {
     match end {
-        None | Some(Refusal::EraFull) => None,
-        Some(why) => Some(Fault::Worker(WorkerEnd::Refused(why))),
+        None | Some(WorkerEnd::Refused(Refusal::EraFull)) => None,
+        Some(end) => Some(Fault::Worker(end)),
     }
 }
 
-/// How the receiver ends the member, if it does.
-fn by_receiver(end: Option<WorkerEnd>) -> Option<Fault>
-    ensures { result ≡ by_receiver end }
+/// How the desk ended itself, if it did: neither a line nor its gate is an end of its own.
+fn refused_desk(end: Option<ControlEnd>) -> Option<WorkerEnd>
+    ensures { result ≡ refused_desk end }
 {
     match end {
-        None => None,
-        Some(WorkerEnd::Refused(why)) => by_refusal(Some(why)),
-        Some(WorkerEnd::Fault) => Some(Fault::Worker(WorkerEnd::Fault)),
-    }
-}
-
-/// How the desk ends the member, if it does: neither where a line ended the member or the era, nor where its gate stopped it.
-fn by_desk(end: Option<ControlEnd>) -> Option<Fault>
-    ensures { result ≡ by_desk end }
-{
-    match end {
-        Some(ControlEnd::Refused(why)) => by_refusal(Some(why)),
+        Some(ControlEnd::Refused(why)) => Some(WorkerEnd::Refused(why)),
         _ => None,
     }
 }
@@ -65,14 +54,8 @@ fn by_desk(end: Option<ControlEnd>) -> Option<Fault>
 pub(crate) fn fault_of(ends: &EraEnds) -> Option<Fault>
     ensures { result ≡ fault_of ends.now }
 {
-    if let Some(fault) = by_receiver(ends.receiver) {
-        return Some(fault);
-    }
-    if let Some(fault) = by_refusal(ends.ticker) {
-        return Some(fault);
-    }
-    if let Some(fault) = by_refusal(ends.sender) {
-        return Some(fault);
-    }
-    by_desk(ends.control)
+    let ticker = ends.ticker.map(|why| WorkerEnd::Refused(why));
+    let sender = ends.sender.map(|why| WorkerEnd::Refused(why));
+    let last = fault_by_end(sender).or(fault_by_end(refused_desk(ends.control)));
+    fault_by_end(ends.receiver).or(fault_by_end(ticker).or(last))
 }
