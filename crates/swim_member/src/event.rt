@@ -4,7 +4,7 @@ ghost use Rattle.std.specs.Prelude.{◌≡◌};
 
 use arrayvec::ArrayVec;
 use swim_rules::Deal;
-use swim_wire::{Cursor, DATAGRAM_MAX, Endpoint};
+use swim_wire::{Cursor, DATAGRAM_MAX, Endpoint, copied};
 
 /// The most bytes of a received datagram that are kept: one more than a datagram may have.
 pub const RECEIVED_MAX: usize = DATAGRAM_MAX + 1;
@@ -46,4 +46,24 @@ pub enum Event {
         /// The cursor after which they begin.
         after: Cursor,
     },
+}
+
+impl Event {
+    /// The same once more, which takes no memory. It moves as many bytes as the largest event has.
+    pub fn copy(&self) -> Event
+        ensures { result ≡ self.now }
+    {
+        match self {
+            Event::Tick { deal } => Event::Tick { deal: *deal },
+            Event::Datagram { from, bytes } => Event::Datagram {
+                from: *from,
+                bytes: copied(bytes),
+            },
+            Event::ReceiveFailed => Event::ReceiveFailed,
+            Event::SendFailed { count } => Event::SendFailed { count: *count },
+            Event::Join { peer } => Event::Join { peer: *peer },
+            Event::Leave => Event::Leave,
+            Event::Members { after } => Event::Members { after: *after },
+        }
+    }
 }

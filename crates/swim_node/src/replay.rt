@@ -17,7 +17,6 @@ ghost use Rattle.swim_node.specs.declared.entry.Save.{Save as Saved};
 
 use crate::base::Base;
 use crate::beginning::check_bounds;
-use crate::copies::copy_event;
 use crate::counts::greatest_own;
 use crate::entering::Done;
 use crate::journal::Journal;
@@ -49,7 +48,7 @@ impl Cause {
     {
         Cause {
             tag: entry.tag,
-            event: copy_event(&entry.event),
+            event: entry.event.copy(),
             granted: entry.granted,
             outcomes: copied(&entry.outcomes),
         }

@@ -11,7 +11,6 @@ ghost use Rattle.swim_node.specs.declared.entry.Entry.{Entry as Entries};
 ghost use Rattle.swim_node.specs.declared.entry.Tag.{Tag as Tags};
 ghost use Rattle.swim_member.specs.declared.event.Event.{Event as Events};
 
-use crate::copies::copy_event;
 use crate::{ApplyFault, Link, Node, Tag};
 use swim_disk::Disk;
 use swim_member::Event;
@@ -52,7 +51,7 @@ pub fn run<D: Disk, L: Link>(
     node.numbers_are_covered();
     for i in 0..calls.len() {
         let call = &calls[i];
-        if let Err(fault) = node.apply(link, call.0, copy_event(&call.1)) {
+        if let Err(fault) = node.apply(link, call.0, call.1.copy()) {
             return Err((i, fault));
         }
     }

@@ -3,13 +3,12 @@ use Rattle.std.proofs.Common.{◌≡◌, ℕ, ◌+◌, ◌<◌, ◌≤◌, ◌&&
 use Rattle.std.specs.Prelude.{Option, Some, None}
 use Rattle.std.proofs.lemmas.List.{append-nil}
 use Rattle.std.proofs.lemmas.Bool.Decides.{nat_tests}
-use Rattle.swim_shell.specs.declared.arrival.Arrival.{Arrival}
 use Rattle.swim_shell.specs.declared.caller.Refusal.{Refusal}
 use Rattle.swim_shell.specs.declared.worker.WorkerEnd.TheVariants as ends
 use Rattle.swim_member.specs.declared.event.Event.{Event}
 use Rattle.swim_node.specs.declared.entry.Reply.{Reply}
 use Rattle.swim_shell.specs.Calls.{CallerView, NewCall, NewCalls, Refuses}
-use Rattle.swim_shell.specs.Inbounds.{Came, Received, Nothing, Failed, events_at, events_for, failures_in, row_after, failures_in_a_row, is_calm, Took, event_of, waiting, ReceiverView, receiver_of, Takes, Receiving, kept_after, ReceivesLast}
+use Rattle.swim_shell.specs.Inbounds.{Came, Received, Nothing, Failed, events_at, events_for, failures_in, row_after, failures_in_a_row, is_calm, Took, waiting, ReceiverView, receiver_of, Takes, Receiving, kept_after, ReceivesLast}
 use Rattle.swim_shell.proofs.News.{no_calls, more_calls, one_call}
 use Rattle.std.proofs.lemmas.List.{append_assoc}
 
@@ -49,7 +48,7 @@ longer : {A : Type 0} (xs : List A) (x : A) (n : ℕ) → length xs ≡ n → le
 longer xs x n e = omega (arith, length-append xs (x ∷ []))
 
 -- nothing waited, and the inbound answered
-pub takes_answer : (tells : Type 0) (a b : ReceiverView) (taken : Option Arrival) (one : Came) → a.kept ≡ None → Took tells a.came b.came a.failures b.failures (one ∷ []) → b.row ≡ row_after a.row one → events_at one ≡ waiting taken → Takes tells a b taken
+pub takes_answer : (tells : Type 0) (a b : ReceiverView) (taken : Option Event) (one : Came) → a.kept ≡ None → Took tells a.came b.came a.failures b.failures (one ∷ []) → b.row ≡ row_after a.row one → events_at one ≡ waiting taken → Takes tells a b taken
 takes_answer tells a b taken one none took row is = record {
   came = one ∷ [];
   took = took;
@@ -59,7 +58,7 @@ takes_answer tells a b taken one none took row is = record {
 }
 
 -- what waited
-pub takes_kept : (tells : Type 0) (a b : ReceiverView) (last : Arrival) → a.kept ≡ Some last → b.came ≡ a.came → b.failures ≡ a.failures → b.row ≡ a.row → Takes tells a b (Some last)
+pub takes_kept : (tells : Type 0) (a b : ReceiverView) (last : Event) → a.kept ≡ Some last → b.came ≡ a.came → b.failures ≡ a.failures → b.row ≡ a.row → Takes tells a b (Some last)
 takes_kept tells a b last is came failures row = record {
   came = [];
   took = record { told = λ _. came ∙ sym (append-nil a.came); failed = omega (arith, failures) };
@@ -91,7 +90,7 @@ row_on n [] ys = refl
 row_on n (x ∷ xs) ys = row_on (row_after n x) xs ys
 
 -- one turn more
-pub receiving_turn : (tells : Type 0) (a m b : ReceiverView) (p q r : CallerView) (n : ℕ) (taken : Option Arrival) → Receiving tells a p m q n → Takes tells m b taken → b.kept ≡ None → NewCalls q r (waiting taken) → b.row < 16 → Receiving tells a p b r (n + 1)
+pub receiving_turn : (tells : Type 0) (a m b : ReceiverView) (p q r : CallerView) (n : ℕ) (taken : Option Event) → Receiving tells a p m q n → Takes tells m b taken → b.kept ≡ None → NewCalls q r (waiting taken) → b.row < 16 → Receiving tells a p b r (n + 1)
 receiving_turn tells a m b p q r n taken w t none calls less =
     let row : b.row ≡ failures_in_a_row (failures_in_a_row a.row w.came) t.came = t.row_is ∙ ap (λ k. failures_in_a_row k t.came) w.row_is in
     record {
@@ -106,7 +105,7 @@ receiving_turn tells a m b p q r n taken w t none calls less =
     }
 
 -- a turn in which nothing came is one without a failure
-no_failure : (came : List Came) (k : Option Arrival) (n : ℕ) → length came + length (waiting k) ≡ 1 → waiting k ++ events_for came ≡ [] → failures_in_a_row n came ≡ 0
+no_failure : (came : List Came) (k : Option Event) (n : ℕ) → length came + length (waiting k) ≡ 1 → waiting k ++ events_for came ≡ [] → failures_in_a_row n came ≡ 0
 no_failure came (Some x) n one none = absurd cc
 no_failure [] None n one none = absurd omega (arith, one)
 no_failure (Nothing ∷ []) None n one none = refl
@@ -120,16 +119,16 @@ receiving_nothing tells a m b p q n w t none =
     receiving_turn tells a m b p q q n None w t none (no_calls q) (omega (arith, row))
 
 -- the call for what was taken
-pub enters : (p q : CallerView) (event : Event) (reply : Reply) (last : Arrival) → event ≡ event_of last → NewCall p q event reply → NewCalls p q (waiting (Some last))
+pub enters : (p q : CallerView) (event : Event) (reply : Reply) (last : Event) → event ≡ last → NewCall p q event reply → NewCalls p q (waiting (Some last))
 enters p q event reply last is n = subst (λ e. NewCalls p q (e ∷ [])) is (one_call p q event reply n)
 
 -- the last turn
-pub receives_fault : (tells : Type 0) (limit : ℕ) (m b : ReceiverView) (p q : CallerView) (event : Event) (reply : Reply) (last : Arrival) → Takes tells m b (Some last) → b.kept ≡ None → event ≡ event_of last → NewCall p q event reply → 16 ≤ b.row → ReceivesLast tells limit ends.Fault m p b q
+pub receives_fault : (tells : Type 0) (limit : ℕ) (m b : ReceiverView) (p q : CallerView) (event : Event) (reply : Reply) (last : Event) → Takes tells m b (Some last) → b.kept ≡ None → event ≡ last → NewCall p q event reply → 16 ≤ b.row → ReceivesLast tells limit ends.Fault m p b q
 receives_fault tells limit m b p q event reply last t none is call more = record { taken = Some last; takes = t; ends_by = (enters p q event reply last is call, more, none) }
 
 -- whatever is kept after it
-takes_and : (tells : Type 0) (a b : ReceiverView) (taken kept : Option Arrival) → Takes tells a b taken → Takes tells a (receiver_of b.came b.failures b.row kept) taken
+takes_and : (tells : Type 0) (a b : ReceiverView) (taken kept : Option Event) → Takes tells a b taken → Takes tells a (receiver_of b.came b.failures b.row kept) taken
 takes_and tells a b taken kept t = record { came = t.came; took = t.took; row_is = t.row_is; events_are = t.events_are; one = t.one }
 
-pub receives_refused : (tells : Type 0) (limit : ℕ) (why : Refusal) (m b : ReceiverView) (p q : CallerView) (event : Event) (last : Arrival) (kept : Option Arrival) → Takes tells m b (Some last) → kept ≡ kept_after why last → event ≡ event_of last → Refuses limit why p q event → ReceivesLast tells limit (ends.Refused why) m p (receiver_of b.came b.failures b.row kept) q
+pub receives_refused : (tells : Type 0) (limit : ℕ) (why : Refusal) (m b : ReceiverView) (p q : CallerView) (event : Event) (last : Event) (kept : Option Event) → Takes tells m b (Some last) → kept ≡ kept_after why last → event ≡ last → Refuses limit why p q event → ReceivesLast tells limit (ends.Refused why) m p (receiver_of b.came b.failures b.row kept) q
 receives_refused tells limit why m b p q event last kept t kept_is is refused = record { taken = Some last; takes = takes_and tells m b (Some last) kept t; ends_by = record { last = last; taken_is = refl; refused = subst (Refuses limit why p q) is refused; kept_is = kept_is } }

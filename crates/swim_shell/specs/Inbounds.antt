@@ -3,8 +3,6 @@ use Rattle.std.specs.Prelude.{◌≡◌, ℕ, ◌+◌, ◌≤◌, min, ◌&&◌,
 use Rattle.std.specs.Prelude.{List, [], ◌∷◌, ◌++◌, length, Option, Some, None, Result, Ok, Err}
 use Rattle.swim_member.specs.declared.event.Event.{Event}
 use Rattle.swim_member.specs.declared.event.Event.TheVariants.{Datagram, ReceiveFailed}
-use Rattle.swim_shell.specs.declared.arrival.Arrival.{Arrival}
-use Rattle.swim_shell.specs.declared.arrival.Arrival.TheVariants as arrival
 use Rattle.swim_shell.specs.declared.caller.Refusal.{Refusal}
 use Rattle.swim_shell.specs.declared.caller.Refusal.TheVariants as refusal
 use Rattle.swim_shell.specs.declared.receiver.TheConstants.{FAILURES_MAX}
@@ -64,15 +62,10 @@ pub record Took (tells : Type 0) (old new : List Came) (f g : ℕ) (came : List 
   pub told : tells → new ≡ old ++ came
   pub failed : g ≡ f + failures_in came
 
--- the event that something that came makes
-abbrev pub event_of : Arrival → Event
-event_of (arrival.Datagram from bytes) = Datagram from bytes
-event_of arrival.Failure = ReceiveFailed
-
 -- the event that waits to be entered, if one does
-abbrev pub waiting : Option Arrival → List Event
+abbrev pub waiting : Option Event → List Event
 waiting None = []
-waiting (Some a) = event_of a ∷ []
+waiting (Some event) = event ∷ []
 
 -- what a contract sees of a receiver: what its inbound answered, and how many of it were failures;
 -- how many in a row were, last; and what came and found the era full, so that it waits for the next
@@ -80,10 +73,10 @@ pub record ReceiverView : Type 0 where
   pub came : List Came
   pub failures : ℕ
   pub row : ℕ
-  pub kept : Option Arrival
+  pub kept : Option Event
 
 -- the same of these parts
-abbrev pub receiver_of : List Came → ℕ → ℕ → Option Arrival → ReceiverView
+abbrev pub receiver_of : List Came → ℕ → ℕ → Option Event → ReceiverView
 receiver_of came failures row kept = record {
   came = came;
   failures = failures;
@@ -92,7 +85,7 @@ receiver_of came failures row kept = record {
 }
 
 -- what a turn takes: what waits, or else one answer of the inbound
-pub record Takes (tells : Type 0) (a b : ReceiverView) (taken : Option Arrival) : Type 0 where
+pub record Takes (tells : Type 0) (a b : ReceiverView) (taken : Option Event) : Type 0 where
   pub came : List Came
   pub took : Took tells a.came b.came a.failures b.failures came
   pub row_is : b.row ≡ failures_in_a_row a.row came
@@ -114,21 +107,21 @@ pub record Receiving (tells : Type 0) (a : ReceiverView) (p : CallerView) (b : R
   pub each : length came + length (waiting a.kept) ≡ turns + length (waiting b.kept)
 
 -- what waits after a call that was refused so: what found the era full is not lost
-abbrev pub kept_after : Refusal → Arrival → Option Arrival
+abbrev pub kept_after : Refusal → Event → Option Event
 kept_after refusal.EraFull a = Some a
 kept_after _ a = None
 
 -- the call for what was taken was refused
-pub record EntersInVain (limit : ℕ) (why : Refusal) (p q : CallerView) (taken kept : Option Arrival)
+pub record EntersInVain (limit : ℕ) (why : Refusal) (p q : CallerView) (taken kept : Option Event)
     : Type 0 where
-  pub last : Arrival
+  pub last : Event
   pub taken_is : taken ≡ Some last
-  pub refused : Refuses limit why p q (event_of last)
+  pub refused : Refuses limit why p q last
   pub kept_is : kept ≡ kept_after why last
 
 -- how the last turn ended a receiver: it was entered, and 16 failures in a row were; or its call
 -- was refused
-abbrev pub EndsBy : ℕ → WorkerEnd → CallerView → CallerView → Option Arrival → ReceiverView → Type 0
+abbrev pub EndsBy : ℕ → WorkerEnd → CallerView → CallerView → Option Event → ReceiverView → Type 0
 EndsBy limit ends.Fault p q taken b =
     NewCalls p q (waiting taken) × (FAILURES_MAX ≤ b.row) × (b.kept ≡ None)
 EndsBy limit (ends.Refused why) p q taken b = EntersInVain limit why p q taken b.kept
@@ -137,6 +130,6 @@ EndsBy limit (ends.Refused why) p q taken b = EntersInVain limit why p q taken b
 pub record ReceivesLast (tells : Type 0) (limit : ℕ) (end : WorkerEnd) (a : ReceiverView)
     (p : CallerView) (b : ReceiverView) (q : CallerView)
     : Type 0 where
-  pub taken : Option Arrival
+  pub taken : Option Event
   pub takes : Takes tells a b taken
   pub ends_by : EndsBy limit end p q taken b

@@ -3,12 +3,12 @@
 ghost use Rattle.std.specs.Prelude.{◌≡◌, None};
 ghost use Rattle.swim_shell.specs.Inbounds.{Takes, kept_after, receiver_of};
 
-use crate::arrival::Arrival;
 use crate::caller::{Caller, Refusal};
 use crate::inbound::Inbound;
 use crate::worker::{Worker, WorkerEnd};
 use arrayvec::ArrayVec;
 use std::marker::Model;
+use swim_member::Event;
 
 /// A receiver ends after so many failed receives in a row.
 pub const FAILURES_MAX: u8 = 16;
@@ -21,7 +21,7 @@ pub struct Receiver<I: Inbound> {
     /// How many receives in a row have failed, counted up to 16.
     failed: u8,
     /// What came and found the era full.
-    kept: Option<Arrival>,
+    kept: Option<Event>,
 }
 
 impl<I: Inbound> Model for Receiver<I> {
@@ -33,11 +33,11 @@ impl<I: Inbound> Model for Receiver<I> {
 }
 
 /// What waits for the next era after a call for this was refused so.
-fn kept_after(why: Refusal, arrival: Arrival) -> Option<Arrival>
-    ensures { result ≡ kept_after why arrival }
+fn kept_after(why: Refusal, event: Event) -> Option<Event>
+    ensures { result ≡ kept_after why event }
 {
     match why {
-        Refusal::EraFull => Some(arrival),
+        Refusal::EraFull => Some(event),
         Refusal::Memory | Refusal::Unread => None,
     }
 }
@@ -56,7 +56,7 @@ impl<I: Inbound> Receiver<I> {
 
     /// What the inbound gives next; none where nothing came.
     #[tactic(auto, using(crate::proofs::Receiving::takes_answer))]
-    fn receive(&mut self) -> Option<Arrival>
+    fn receive(&mut self) -> Option<Event>
         requires { self.old.kept ≡ None }
         ensures takes { Takes I.tells self.old self.new result }
         ensures kept { self.new.kept ≡ None }
@@ -65,7 +65,7 @@ impl<I: Inbound> Receiver<I> {
         match self.inbound.receive(&mut bytes) {
             Ok(Some(from)) => {
                 self.failed = 0;
-                Some(Arrival::Datagram { from, bytes })
+                Some(Event::Datagram { from, bytes })
             }
             Ok(None) => {
                 self.failed = 0;
@@ -73,19 +73,19 @@ impl<I: Inbound> Receiver<I> {
             }
             Err(_) => {
                 self.failed = self.failed.saturating_add(1).min(FAILURES_MAX);
-                Some(Arrival::Failure)
+                Some(Event::ReceiveFailed)
             }
         }
     }
 
     /// What is entered next: what waits, or else what the inbound gives; none where nothing came.
     #[tactic(auto, using(crate::proofs::Receiving::takes_kept))]
-    fn take(&mut self) -> Option<Arrival>
+    fn take(&mut self) -> Option<Event>
         ensures takes { Takes I.tells self.old self.new result }
         ensures kept { self.new.kept ≡ None }
     {
         match self.kept.take() {
-            Some(arrival) => Some(arrival),
+            Some(event) => Some(event),
             None => self.receive(),
         }
     }
@@ -107,12 +107,12 @@ impl<C: Caller, I: Inbound> Worker<C> for Receiver<I> {
 
     #[tactic(auto, using(crate::proofs::Receiving::receiving_nothing, crate::proofs::Receiving::receiving_turn))]
     fn turn(&mut self, caller: &mut C) -> Option<WorkerEnd> {
-        let arrival = self.take()?;
-        match caller.call(arrival.event()) {
+        let taken = self.take()?;
+        match caller.call(taken.copy()) {
             Ok(_) if self.failed >= FAILURES_MAX => Some(WorkerEnd::Fault),
             Ok(_) => None,
             Err(refusal) => {
-                self.kept = kept_after(refusal, arrival);
+                self.kept = kept_after(refusal, taken);
                 Some(WorkerEnd::Refused(refusal))
             }
         }
