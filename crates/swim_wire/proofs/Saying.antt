@@ -1,5 +1,5 @@
 -- What the updates of a text say of a member's number.
-use Rattle.std.proofs.Common.{◌≡◌, ◌∙◌, ℕ, List, [], ◌∷◌, ◌++◌, max, refl, ap, arith, true, false, Some, None}
+use Rattle.std.proofs.Common.{◌≡◌, ℕ, List, [], ◌∷◌, ◌++◌, max, refl, ap, arith, true, false, Some, None}
 use Rattle.std.specs.Prelude.{drop, slice_index, Option, IfSome, IfNone}
 use Rattle.std.specs.Option.{is_some}
 use Rattle.swim_wire.specs.Decoding.{first_fault_of, read_as, decoded}

@@ -17,7 +17,11 @@ fn number_of(bytes: &[u8], about: Endpoint) -> u64
     requires { 16 ≤ length bytes.now }
     ensures { result ≡ number_of about (update_of bytes.now) }
 {
-    if who_in(bytes) == about.number() { number_in(bytes) } else { 0 }
+    if who_in(bytes) == about.number() {
+        number_in(bytes)
+    } else {
+        0
+    }
 }
 
 /// The greatest number that the updates after the head say of a member, or 0.
