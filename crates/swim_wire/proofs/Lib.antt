@@ -3,4 +3,5 @@ pub mod Order
 pub mod Updates
 pub mod Grammar
 pub mod Judging
+pub mod Saying
 pub mod Examples

@@ -6,4 +6,5 @@ pub mod Spelling
 pub mod Faults
 pub mod Reading
 pub mod Decoding
+pub mod Said
 pub mod Text

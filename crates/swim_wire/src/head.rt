@@ -12,7 +12,7 @@
 //! | 20 | 6 | sender: address 4, port 2 |
 //! | 26 | 6 | subject: the same form |
 
-ghost use Rattle.std.specs.Prelude.{◌≡◌, ℕ, ◌≤◌, ◌↔◌, length, slice_index, Some, IsTrue, IfSome, IfNone};
+ghost use Rattle.std.specs.Prelude.{◌≡◌, ℕ, ◌<◌, ◌≤◌, ◌↔◌, length, slice_index, Some, IsTrue, IfSome, IfNone};
 ghost use Rattle.swim_wire.specs.Spelling.{head_text, HeadFits};
 ghost use Rattle.swim_wire.specs.Faults.{HasReservedHead, HasNoSender, HasNoSubject, HasNoneBelow, IsFirstFault, IsFaultless, IsCounted};
 
@@ -108,6 +108,13 @@ pub(crate) fn count_of(bytes: &[u8]) -> usize
     ensures { result ≡ slice_index bytes.now 6 }
 {
     bytes[COUNT_AT] as usize
+}
+
+/// Whether the head says that no update follows it, as that of most pings does.
+pub(crate) fn has_no_updates(bytes: &[u8]) -> bool
+    ensures { IsTrue result ↔ ((6 < length bytes.now) × (slice_index bytes.now 6 ≡ 0)) }
+{
+    bytes.len() > COUNT_AT && bytes[COUNT_AT] == 0
 }
 
 /// The first fault of the head, of those that concern no update.

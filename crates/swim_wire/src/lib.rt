@@ -17,6 +17,7 @@ mod head;
 mod laws;
 mod reading;
 mod rules;
+mod said;
 mod update;
 mod writing;
 
@@ -30,5 +31,6 @@ pub use laws::{
 };
 pub use reading::{decode, decode_into};
 pub use rules::Rules;
+pub use said::number_said;
 pub use update::{LEAP, MEMBERS_MAX, NUMBER_MAX, Update, UpdateKind};
 pub use writing::{encode, encode_into};

@@ -20,7 +20,7 @@ use crate::update::{
 use arrayvec::ArrayVec;
 
 /// The bytes from update `i` on.
-fn update_at(bytes: &[u8], i: usize) -> &[u8]
+pub(crate) fn update_at(bytes: &[u8], i: usize) -> &[u8]
     requires { 32 + 16 * i + 16 ≤ length bytes.now }
     ensures text { result.now ≡ from_update i bytes.now }
     ensures whole { 16 ≤ length result.now }
@@ -116,7 +116,7 @@ fn ordered_fault(bytes: &[u8]) -> Option<WireFault>
 }
 
 /// The first fault of the fields, in bytes whose length is that of their count.
-fn field_fault(bytes: &[u8]) -> Option<WireFault>
+pub(crate) fn field_fault(bytes: &[u8]) -> Option<WireFault>
     requires none { HasNoneBelow 7 bytes.now }
     requires counted { IsCounted bytes.now }
     ensures some { IfSome result (λ fault. IsFirstFault fault bytes.now) }

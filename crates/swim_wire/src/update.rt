@@ -11,6 +11,7 @@
 
 ghost use Rattle.std.specs.Prelude.{◌≡◌, ◌≢◌, ◌≤◌, ◌↔◌, ℕ, List, length, Some, None, IsTrue, IfSome, IfNone};
 ghost use Rattle.swim_wire.specs.Filler.{filler};
+ghost use Rattle.swim_wire.specs.Numbers.{number_at};
 ghost use Rattle.swim_wire.specs.Text.{kind_word};
 ghost use Rattle.swim_wire.specs.Updates.{update_code, HasReservedUpdate, HasNoMember, HasUnknownCode, HasGreatNumber};
 ghost use Rattle.swim_wire.specs.declared.update.UpdateKind.{UpdateKind as UpdateKinds};
@@ -99,6 +100,23 @@ pub struct Update {
     pub number: u64,
 }
 
+/// The six bytes of the member that the update with which the bytes begin is about, as a number.
+pub(crate) fn who_in(bytes: &[u8]) -> u64
+    requires { 16 ≤ length bytes.now }
+    ensures { result ≡ number_at 2 6 bytes.now }
+{
+    // the low six bytes of the first word
+    BigEndian::read_u64(bytes) % (1 << 48)
+}
+
+/// The incarnation number of the update with which the bytes begin.
+pub(crate) fn number_in(bytes: &[u8]) -> u64
+    requires { 16 ≤ length bytes.now }
+    ensures { result ≡ number_at 8 8 bytes.now }
+{
+    BigEndian::read_u64(&bytes[NUMBER_AT..])
+}
+
 impl Update {
     ghost use Rattle.swim_wire.specs.Numbers.{IsEndpoint};
     ghost use Rattle.swim_wire.specs.Updates.{update_text, update_of};
@@ -115,9 +133,8 @@ impl Update {
         };
         Update {
             kind,
-            // the low six bytes of the first word
-            who: Endpoint::from_number(BigEndian::read_u64(bytes) % (1 << 48)),
-            number: BigEndian::read_u64(&bytes[NUMBER_AT..]),
+            who: Endpoint::from_number(who_in(bytes)),
+            number: number_in(bytes),
         }
     }
 
@@ -198,7 +215,7 @@ impl UpdateFault for GreatNumber {
     ghost Faulty = { HasGreatNumber };
 
     fn is_in(bytes: &[u8]) -> bool {
-        BigEndian::read_u64(&bytes[NUMBER_AT..]) > NUMBER_MAX
+        number_in(bytes) > NUMBER_MAX
     }
 }
 
