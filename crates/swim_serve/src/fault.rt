@@ -1,6 +1,8 @@
 //! How the ends of an era's workers end the member.
 
 ghost use Rattle.std.specs.Prelude.{◌≡◌};
+ghost use Rattle.std.specs.Option.{option_map};
+ghost use Rattle.swim_shell.specs.declared.worker.WorkerEnd.TheVariants as worker;
 ghost use Rattle.swim_serve.specs.Faults.{fault_by, fault_by_end, fault_of, refused_desk};
 
 use crate::era::{EraEnds, EraFault};
@@ -50,12 +52,22 @@ fn refused_desk(end: Option<ControlEnd>) -> Option<WorkerEnd>
     }
 }
 
+/// How a worker that makes only calls ended itself, if it did.
+fn refused(end: Option<Refusal>) -> Option<WorkerEnd>
+    ensures { result ≡ option_map worker.Refused end }
+{
+    match end {
+        Some(why) => Some(WorkerEnd::Refused(why)),
+        None => None,
+    }
+}
+
 /// The fault that ends the member, if one does: the first in the order of the workers.
 pub(crate) fn fault_of(ends: &EraEnds) -> Option<Fault>
     ensures { result ≡ fault_of ends.now }
 {
-    let ticker = ends.ticker.map(|why| WorkerEnd::Refused(why));
-    let sender = ends.sender.map(|why| WorkerEnd::Refused(why));
-    let last = fault_by_end(sender).or(fault_by_end(refused_desk(ends.control)));
-    fault_by_end(ends.receiver).or(fault_by_end(ticker).or(last))
+    let ticker = fault_by_end(refused(ends.ticker));
+    let sender = fault_by_end(refused(ends.sender));
+    let desk = fault_by_end(refused_desk(ends.control));
+    fault_by_end(ends.receiver).or(ticker.or(sender.or(desk)))
 }
