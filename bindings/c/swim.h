@@ -34,8 +34,8 @@
  * Fork.       Open after the fork, as after daemon(). In the child of a fork a handle that was open answers SWIM_FORKED, so
  *             that no two processes say one number; swim_close frees it there, and should be called, since the state file
  *             stays locked as long as any process has it open. The parent goes on. (exec closes the file by itself.)
- * Time.       A tick is what the group agrees on: `swim run` ticks each 100 ms, and so does swim_advance, by the program's
- *             clock. Ticks that are late are skipped and never made up: see swim_tick.
+ * Time.       A tick is what the group agrees on: `swim run` ticks each 100 ms by its defaults, and so does swim_advance, by the
+ *             clock that it is told of. Ticks that are late are skipped and never made up: see swim_tick.
  * The file.   One handle on a state file, and never an older copy of it. swim_open locks the file (flock), and answers
  *             SWIM_LOCKED where another has it.
  * Numbers.    Addresses and ports are in host order: 127.0.0.1 is 0x7f000001.
@@ -290,8 +290,9 @@ int swim_tick(struct swim_member *member, uint64_t random);
 /*
  * Time is what the program's clock says, in milliseconds: one that only rises, from whatever it counts, as CLOCK_MONOTONIC. Makes one
  * tick if one is due, however late it is, and says in *next_ms when to call again: when the next one is due, 100 ms after this one was,
- * or after now where that has passed. So ticks that are late are skipped. The first one is due 100 ms after the first call. Hand in
- * first what waits at the socket. It may be called sooner, for example after each datagram. Use this or swim_tick, and not both.
+ * or after now where that has passed. So ticks that are late are skipped. The first one is due 100 ms after the first call. Ticks of
+ * 50 ms, as the preset `lan` of `swim run` has, are made by a clock that is told twice as fast. Hand in first what waits at the socket.
+ * It may be called sooner, for example after each datagram. Use this or swim_tick, and not both.
  *
  * Once swim_seeds was called it joins, too, whom `swim run` would join: where nothing waits, a call may make one join, and *next_ms
  * may then be now or soon. At SWIM_NO_MEMORY nothing happened, or the tick was made and the join was not, which is then due at the
@@ -324,7 +325,7 @@ int swim_seeds(struct swim_member *member, const struct swim_endpoint *seeds, si
    be lost, and after a cut of the network that lasts longer than `suspect` a group that never joins again stays in two for ever. */
 int swim_join(struct swim_member *member, struct swim_endpoint peer);
 
-/* Leaves the group: the datagrams that wait then tell it. The member takes part no more. */
+/* Leaves the group: the datagrams that wait then tell it, once, and no answer comes. The member takes part no more. */
 int swim_leave(struct swim_member *member);
 
 /*
@@ -360,8 +361,8 @@ int swim_notes(const struct swim_member *member, uint8_t notes[SWIM_NOTES_MAX], 
 /* The peers that stand in the state file: whom an earlier life knew, for swim_join. SWIM_OK, SWIM_NULL, SWIM_CLOSED. */
 int swim_stored_peers(const struct swim_member *member, struct swim_endpoint peers[SWIM_PEERS_MAX], size_t *count);
 
-/* Saves whom the member knows, the first eight that are alive or suspected. It raises the saved number by one and writes the
-   file, so now and then is enough. SWIM_OK, SWIM_NULL, SWIM_CLOSED, SWIM_KEEP_*. */
+/* Saves whom the member knows, the first eight that are alive or suspected. It raises the saved number by one, and writes and syncs
+   the file, for which a slow disk takes its time, so now and then is enough. SWIM_OK, SWIM_NULL, SWIM_CLOSED, SWIM_KEEP_*. */
 int swim_keep_peers(struct swim_member *member);
 
 #ifdef __cplusplus

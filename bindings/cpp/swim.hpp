@@ -49,10 +49,19 @@ inline swim_settings usual(std::uint64_t group, std::uint32_t address, std::uint
 // Makes a state file at a path where nothing is, whole or not at all.
 inline void make(const std::string &path, const swim_settings &settings) { must(swim_make(path.c_str(), &settings)); }
 
+// Makes it in the empty file of a descriptor, which is open for reading and writing, without O_APPEND.
+inline void make_state(int fd, const swim_settings &settings) { must(swim_make_state(fd, &settings)); }
+
 class Member {
 public:
     Member(const std::string &path, const swim_settings &settings, std::uint32_t limit = 1) {
         must(swim_open(&handle_, path.c_str(), &settings, limit));
+    }
+    // On the file of a descriptor, which stays the caller's to close. It is not locked.
+    static Member by_descriptor(int fd, const swim_settings &settings, std::uint32_t limit = 1) {
+        Member member;
+        must(swim_open_descriptor(&member.handle_, fd, &settings, limit));
+        return member;
     }
     // For tests: on a new state file in memory.
     static Member in_memory(const swim_settings &settings, std::uint32_t limit = 1) {

@@ -3,8 +3,9 @@
  *
  *     member STATE-FILE GROUP PORT PEER-PORT SECONDS
  *
- * It makes the state file where there is none, has the library look for its group from the member on PEER-PORT and from whom an earlier
- * life knew, ticks each 100 ms, prints whom it knows in the end, leaves, and ends. PEER-PORT 0 is nobody.
+ * It makes the state file where there is none, as only a trial may (see swim_make), has the library look for its group from the member
+ * on PEER-PORT and from whom an earlier life knew, ticks each 100 ms, prints whom it knows in the end, leaves, and ends. PEER-PORT 0 is
+ * nobody.
  */
 #include "swim.h"
 

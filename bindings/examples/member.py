@@ -1,4 +1,5 @@
-"""A member in Python: `member.py STATE-FILE GROUP PORT PEER-PORT SECONDS`, on loopback alone, as member.c."""
+"""A member in Python: `member.py STATE-FILE GROUP PORT PEER-PORT SECONDS`, on loopback alone, as member.c: also in that only a trial may
+make a state file where there is none."""
 
 import os
 import select

@@ -19,6 +19,8 @@ import (
 	"errors"
 	"fmt"
 	"net/netip"
+	"os"
+	"runtime"
 	"sync"
 	"syscall"
 	"unsafe"
@@ -127,6 +129,17 @@ func Make(path string, settings Settings) error {
 	return check(code, errno)
 }
 
+// MakeFile makes it in an empty file, which is open for reading and writing, without O_APPEND. Its folder is the caller's to sync.
+func MakeFile(file *os.File, settings Settings) error {
+	given, err := settings.toC()
+	if err != nil {
+		return err
+	}
+	defer runtime.KeepAlive(file)
+	code, errno := C.swim_make_state(C.int(file.Fd()), &given)
+	return check(code, errno)
+}
+
 // A Member is a member that runs. Goroutines may call it side by side: each call waits for the one before. Its handle lies in C's
 // memory, since Go may not keep C's pointers in its own.
 type Member struct {
@@ -154,6 +167,16 @@ func Open(path string, settings Settings) (*Member, error) {
 	defer C.free(unsafe.Pointer(name))
 	return opened(settings, func(handle *C.struct_swim_member, given *C.struct_swim_settings) (C.int, error) {
 		code, errno := C.swim_open(handle, name, given, 1)
+		return code, errno
+	})
+}
+
+// OpenFile begins one on a file that is open for reading and writing, without O_APPEND, and that stays the caller's to close. It is not
+// locked: two members on one file are the caller's to rule out.
+func OpenFile(file *os.File, settings Settings) (*Member, error) {
+	defer runtime.KeepAlive(file)
+	return opened(settings, func(handle *C.struct_swim_member, given *C.struct_swim_settings) (C.int, error) {
+		code, errno := C.swim_open_descriptor(handle, C.int(file.Fd()), given, 1)
 		return code, errno
 	})
 }

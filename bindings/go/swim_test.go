@@ -5,8 +5,10 @@ import (
 	"fmt"
 	"io/fs"
 	"net/netip"
+	"os"
 	"path/filepath"
 	"sync"
+	"syscall"
 	"testing"
 
 	"example.com/rollerblack/swim"
@@ -47,6 +49,25 @@ func TestErrorsTellTheirErrno(t *testing.T) {
 	want(t, member.Close(), nil)
 	want(t, member.Close(), swim.ErrClosed)
 	want(t, member.Tick(1), swim.ErrClosed)
+}
+
+func TestAFileThatIsOpenTakesAMember(t *testing.T) {
+	path, settings := filepath.Join(t.TempDir(), "member.state"), swim.Usual(7, me)
+	file, err := os.OpenFile(path, os.O_RDWR|os.O_CREATE|os.O_EXCL, 0o600)
+	want(t, err, nil)
+	want(t, swim.MakeFile(file, settings), nil)
+	member, err := swim.OpenFile(file, settings)
+	want(t, err, nil)
+	want(t, file.Close(), nil)
+	want(t, member.Tick(1), nil)
+	want(t, member.Close(), nil)
+	_, err = swim.OpenFile(file, settings)
+	want(t, err, syscall.EBADF)
+	added, err := os.OpenFile(path, os.O_RDWR|os.O_APPEND, 0)
+	want(t, err, nil)
+	defer added.Close()
+	_, err = swim.OpenFile(added, settings)
+	want(t, err, swim.ErrBadDescriptor)
 }
 
 func TestNoAddressPanics(t *testing.T) {

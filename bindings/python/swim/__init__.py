@@ -43,6 +43,7 @@ __all__ = [
 
 Address = Tuple[str, int]  # "127.0.0.1", 7000: as sockets have it
 Path = Union[str, bytes, "os.PathLike[str]"]
+File = Union[Path, int]  # a path or, as open() takes it, a descriptor
 Data = Union[bytes, bytearray, memoryview]
 
 if any(_c.sizeof(shape) != size for shape, size in _made.SIZES.items()):
@@ -82,6 +83,10 @@ class SwimError(OSError):
 
     def __str__(self) -> str:
         return self._text
+
+    def __reduce__(self) -> Tuple[Any, ...]:
+        """So that it goes from one process to another."""
+        return type(self), (int(self.code), self.errno or 0)
 
 
 class Closed(SwimError):
@@ -176,20 +181,26 @@ def version() -> int:
     return int(_library.swim_version())
 
 
-def make(path: Path, settings: Settings) -> None:
-    """Makes the state file of a member at a path where nothing is, whole or not at all."""
-    _must(_library.swim_make(os.fsencode(path), settings._to_c()))
+def make(path: File, settings: Settings) -> None:
+    """Makes the state file of a member at a path where nothing is, whole or not at all; or in the empty file of a descriptor, which is
+    open for reading and writing, without O_APPEND."""
+    if isinstance(path, int):
+        _must(_library.swim_make_state(path, settings._to_c()))
+    else:
+        _must(_library.swim_make(os.fsencode(path), settings._to_c()))
 
 
 class Member:
-    """A member on its state file, or, where `path` is None, on one in memory, for tests. Calls of several threads wait for one
-    another."""
+    """A member on its state file, or, where `path` is None, on one in memory, for tests. A file at a path is locked; a descriptor is
+    duplicated, and two members on its file are the caller's to rule out. Calls of several threads wait for one another."""
 
-    def __init__(self, path: Optional[Path], settings: Settings, limit: int = 1):
+    def __init__(self, path: Optional[File], settings: Settings, limit: int = 1):
         self._lock = threading.Lock()
         self._handle = _made.swim_member()
         if path is None:
             _must(_library.swim_open_memory(self._handle, settings._to_c(), limit))
+        elif isinstance(path, int):
+            _must(_library.swim_open_descriptor(self._handle, path, settings._to_c(), limit))
         else:
             _must(_library.swim_open(self._handle, os.fsencode(path), settings._to_c(), limit))
 

@@ -5,18 +5,21 @@
 """
 
 import asyncio
-from typing import Any, Optional, Sequence, Tuple
+import contextlib
+from typing import Any, Counter, Optional, Sequence, Tuple
 
 import swim
 
 
 class Member(asyncio.DatagramProtocol):
     """A member that runs from `start`, which `async with` calls, to `stop`. State files are saved in the loop, at a suspicion and
-    at the end: some milliseconds on a slow disk."""
+    at the end: some milliseconds on a slow disk. `noted` counts what it took note of in what came, each a swim.Note: many of OTHER_GROUP,
+    NOT_SENDER or OTHER_VERSION mean that somebody is set up wrongly."""
 
-    def __init__(self, path: Optional[swim.Path], settings: swim.Settings, peers: Sequence[swim.Address] = ()):
+    def __init__(self, path: Optional[swim.File], settings: swim.Settings, peers: Sequence[swim.Address] = ()):
         self._settings, self._member = settings, swim.Member(path, settings)
         self._member.seeds(peers)
+        self.noted: Counter[int] = Counter()
         self.members, self.changes, self.status = self._member.members, self._member.changes, self._member.status
 
     async def start(self) -> None:
@@ -36,15 +39,20 @@ class Member(asyncio.DatagramProtocol):
             ticks.get_loop().call_exception_handler({"message": "a swim member ticks no more", "exception": fault})
 
     async def stop(self, leave: bool = True) -> None:
-        """Ends the member, which leaves its group if it is not to come back soon."""
+        """Ends the member, which leaves its group if it is not to come back soon. It ends, and leaves, also where its peers cannot be
+        saved, which is raised then."""
         self._ticks.cancel()
         await asyncio.gather(self._ticks, return_exceptions=True)
-        self._member.keep_peers()
-        if leave:
-            self._member.leave()
-            self._send()
-        self._udp.close()
-        self._member.close()
+        with contextlib.ExitStack() as end:
+            end.callback(self._member.close)
+            end.callback(self._udp.close)
+            if leave:
+                end.callback(self._leave)
+            self._member.keep_peers()
+
+    def _leave(self) -> None:
+        self._member.leave()
+        self._send()
 
     async def __aenter__(self) -> "Member":
         await self.start()
@@ -66,8 +74,10 @@ class Member(asyncio.DatagramProtocol):
             self._udp.sendto(data, to)
 
     def datagram_received(self, data: bytes, addr: Tuple[Any, ...]) -> None:
-        self._member.receive((addr[0], addr[1]), data)
-        self._send()
+        if addr[1] != 0:  # one from port 0 is no event
+            self._member.receive((addr[0], addr[1]), data)
+            self.noted.update(self._member.notes())
+            self._send()
 
     def error_received(self, exc: Exception) -> None:
         """A send failed at once or later; the protocol lives with lost datagrams."""

@@ -6,7 +6,7 @@ import pickle
 import socket
 import threading
 from pathlib import Path
-from typing import Callable, Iterator, Union
+from typing import Callable, Iterator, List, Union
 
 import pytest
 
@@ -41,6 +41,29 @@ def test_errors_tell_their_errno(tmp_path: Path, settings: swim.Settings) -> Non
     with swim.Member(path, settings):
         with pytest.raises(swim.Locked):
             swim.Member(path, settings)
+
+
+def test_a_descriptor_takes_a_member(tmp_path: Path, settings: swim.Settings) -> None:
+    path = tmp_path / "member.state"
+    with open(path, "w+b", buffering=0) as file:
+        swim.make(file.fileno(), settings)
+        member = swim.Member(file.fileno(), settings)
+    with member:  # it has a descriptor of its own
+        assert member.status().first == 1
+    with open(path, "a+b") as added:
+        with pytest.raises(swim.SwimError) as refused:
+            swim.Member(added.fileno(), settings)
+    assert refused.value.code is swim.Code.BAD_DESCRIPTOR
+
+
+def test_errors_go_to_other_processes(tmp_path: Path, member: swim.Member, settings: swim.Settings) -> None:
+    member.close()
+    calls: List[Callable[[], object]] = [lambda: swim.Member(tmp_path / "none.state", settings), member.tick]
+    for call in calls:
+        with pytest.raises(swim.SwimError) as raised:
+            call()
+        here, there = raised.value, pickle.loads(pickle.dumps(raised.value))
+        assert (type(there), there.code, there.errno, str(there)) == (type(here), here.code, here.errno, str(here))
 
 
 def test_codes_are_classes(member: swim.Member) -> None:
@@ -114,6 +137,26 @@ def test_threads_wait_for_one_another(member: swim.Member) -> None:
 def test_a_member_is_not_copied(member: swim.Member) -> None:
     with pytest.raises((TypeError, ValueError)):
         pickle.dumps(member)
+
+
+def test_asyncio_counts_notes_and_always_ends(settings: swim.Settings, monkeypatch: pytest.MonkeyPatch) -> None:
+    async def fail_to_keep() -> swim.aio.Member:
+        member = swim.aio.Member(None, settings)
+        await member.start()
+        member.datagram_received(b"x", PEER)
+        member.datagram_received(b"x", ("127.0.0.1", 0))
+        monkeypatch.setattr(member._member, "keep_peers", refuse)
+        with pytest.raises(swim.SwimError):
+            await member.stop()
+        return member
+
+    def refuse() -> None:
+        raise swim.SwimError(swim.Code.KEEP_DEVICE, errno.ENOSPC)
+
+    member = asyncio.run(fail_to_keep())
+    assert member.noted == {swim.Note.BAD_DATAGRAM: 1}
+    with pytest.raises(swim.Closed):
+        member.status()
 
 
 def test_asyncio(tmp_path: Path, settings: swim.Settings) -> None:

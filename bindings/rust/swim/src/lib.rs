@@ -30,6 +30,7 @@ use std::ffi::{CStr, CString};
 use std::net::{Ipv4Addr, SocketAddrV4};
 use std::os::raw::c_int;
 use std::os::unix::ffi::OsStrExt;
+use std::os::unix::io::{AsFd, AsRawFd};
 use std::path::Path;
 use std::{error, fmt, io, ptr};
 use swim_sys as sys;
@@ -249,6 +250,12 @@ pub fn make(path: impl AsRef<Path>, settings: &Settings) -> Result<(), Fault> {
     done(unsafe { sys::swim_make(path.as_ptr(), &settings.to_c()) })
 }
 
+/// Makes it in an empty file, which is open for reading and writing, without O_APPEND. Its folder is the caller's to sync.
+pub fn make_state(file: impl AsFd, settings: &Settings) -> Result<(), Fault> {
+    // SAFETY: file and settings live through the call.
+    done(unsafe { sys::swim_make_state(file.as_fd().as_raw_fd(), &settings.to_c()) })
+}
+
 /// A member. It is one thread's at a time: `Send`, and not `Sync`. Dropping it closes it, and sends nothing.
 ///
 /// ```compile_fail
@@ -284,6 +291,14 @@ impl Member {
         let path = path_to_c(path.as_ref())?;
         // SAFETY: all three live through the call.
         Member::open_by(|handle| unsafe { sys::swim_open(handle, path.as_ptr(), &settings.to_c(), limit) })
+    }
+
+    /// Opens one on a file that is open for reading and writing, without O_APPEND. It is not locked: two members on one file are the
+    /// caller's to rule out.
+    pub fn open_descriptor(file: impl AsFd, settings: &Settings, limit: u32) -> Result<Member, Fault> {
+        let fd = file.as_fd().as_raw_fd();
+        // SAFETY: all three live through the call.
+        Member::open_by(|handle| unsafe { sys::swim_open_descriptor(handle, fd, &settings.to_c(), limit) })
     }
 
     /// For tests: a member on a new state file in memory.

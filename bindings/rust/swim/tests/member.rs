@@ -1,6 +1,7 @@
 //! What the crate adds to libswim: codes with their errno, types, threads. tests/embedded tries the library itself.
 
 use std::error::Error;
+use std::fs::OpenOptions;
 use std::io::ErrorKind;
 use std::net::{Ipv4Addr, SocketAddrV4};
 use swim::{Code, Kind, Member, Note, Phase, Settings, DATAGRAM_MAX, SEEDS_MAX};
@@ -34,6 +35,31 @@ fn a_fault_has_its_code_and_what_the_system_said() {
     let fault = Member::open(&path, &settings, 1).unwrap_err();
     assert_eq!((fault.code, fault.errno.is_none()), (Code::Locked, true));
     drop(open);
+    std::fs::remove_file(&path).expect("it is there");
+}
+
+#[test]
+fn a_file_that_is_open_takes_a_member() {
+    let settings = Settings::usual(7, at(7000));
+    let path = std::env::temp_dir().join(format!("swim-open-{}.state", std::process::id()));
+    let mut flags = OpenOptions::new();
+    let file = flags
+        .read(true)
+        .write(true)
+        .create_new(true)
+        .open(&path)
+        .expect("it is new");
+    swim::make_state(&file, &settings).expect("it is made");
+    let mut member = Member::open_descriptor(&file, &settings, 1).expect("it opens");
+    drop(file); // the member has its own
+    assert_eq!(member.status().expect("a status").first, 1);
+    let added = OpenOptions::new()
+        .read(true)
+        .append(true)
+        .open(&path)
+        .expect("it is there");
+    let fault = Member::open_descriptor(&added, &settings, 1).unwrap_err();
+    assert_eq!(fault.code, Code::BadDescriptor);
     std::fs::remove_file(&path).expect("it is there");
 }
 
