@@ -1,6 +1,7 @@
 //! A member that runs: its settings, its state file, its sockets, and its eras one after the other.
 #![tactic(auto)]
 
+mod binding;
 mod ended;
 mod errand;
 mod file_watch;
@@ -13,10 +14,9 @@ mod reading;
 mod rereading;
 mod running;
 mod settings_reading;
-mod sockets;
 mod state_file;
 mod surroundings;
 
+pub use binding::try_addresses;
 pub use reading::settings_at;
 pub use running::{run, shown_settings};
-pub use sockets::try_addresses;

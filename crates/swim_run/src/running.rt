@@ -3,6 +3,7 @@
 ghost use Rattle.std.specs.Prelude.{◌≡◌, ◌+◌, Some, None, if◌then◌else◌};
 ghost use Rattle.swim_settings.specs.Ranges.{AreInRange};
 
+use crate::binding::{bind, waits};
 use crate::ended::ended_by;
 use crate::file_watch::FileWatch;
 use crate::host_lookup::HostLookup;
@@ -11,7 +12,6 @@ use crate::live_settings::{LiveSettings, log_from};
 use crate::member_chores::MemberChores;
 use crate::reading::settings_at;
 use crate::settings_reading::SettingsReading;
-use crate::sockets::{bind, waits};
 use crate::state_file::{StateFile, open_node};
 use crate::surroundings::{HandedOver, Surroundings};
 use log::{LevelFilter, Log, info, warn};

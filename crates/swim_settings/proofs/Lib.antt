@@ -1,3 +1,4 @@
+mod MemberTimes
 mod Naming
 pub mod Taken
 pub mod Texts

@@ -29,7 +29,7 @@ use Rattle.swim_settings.specs.declared.settings.TheConstants.{JOIN_MAX}
 use Rattle.swim_settings.specs.declared.place.Place.{Place}
 use Rattle.swim_settings.specs.declared.place.Place.TheVariants as place
 use Rattle.swim_settings.specs.declared.preset.Preset.{Preset}
-use Rattle.swim_settings.specs.declared.preset.PresetTimes.{PresetTimes}
+use Rattle.swim_settings.specs.declared.preset.DefaultTimes.{DefaultTimes}
 use Rattle.swim_settings.specs.Keys.{key_text, keys, keys_before}
 use Rattle.swim_settings.specs.Levels.{level_text}
 use Rattle.swim_settings.specs.Presets.{preset_text, times_of}
@@ -118,13 +118,13 @@ abbrev pub IsLevel : Members → Option Level → Type 0
 IsLevel = IsWordAt level_text key.Log
 
 -- the times of the preset there, or the usual ones
-abbrev pub AreTimes : Members → PresetTimes → Type 0
+abbrev pub AreTimes : Members → DefaultTimes → Type 0
 AreTimes table times =
     (preset : Option Preset) × IsPreset table preset × (times ≡ times_of preset)
 
 -- the table says these settings of the member, with these times in the place of its own ones; its
 -- group, endpoint, block and rules aside
-pub record SaysMember (times : PresetTimes) (table : Members) (settings : Settings) : Type 0 where
+pub record SaysMember (times : DefaultTimes) (table : Members) (settings : Settings) : Type 0 where
   pub lambda : IsNumber Lambda times.lambda table settings.lambda
   pub period : IsNumber Period times.period table settings.period
   pub direct : IsNumber Direct times.direct table settings.direct
@@ -163,15 +163,15 @@ abbrev pub IsWithin : Key → ℕ → ℕ → ℕ → Members → ℕ → Type 0
 IsWithin key default least most table n = IsNumber key default table n × (least ≤ n) × (n ≤ most)
 
 -- the number there, or that of the table's preset, from the least to the most
-abbrev pub IsTime : Key → (PresetTimes → ℕ) → ℕ → ℕ → Members → Type 0
+abbrev pub IsTime : Key → (DefaultTimes → ℕ) → ℕ → ℕ → Members → Type 0
 IsTime key usual least most table =
-    (times : PresetTimes) × (n : ℕ) × AreTimes table times
+    (times : DefaultTimes) × (n : ℕ) × AreTimes table times
     × IsWithin key (usual times) least most table n
 
 -- neither is the number there, nor that of the table's preset, from the least to the most
-abbrev pub IsNoTime : Key → (PresetTimes → ℕ) → ℕ → ℕ → Members → Type 0
+abbrev pub IsNoTime : Key → (DefaultTimes → ℕ) → ℕ → ℕ → Members → Type 0
 IsNoTime key usual least most table =
-    (times : PresetTimes) × AreTimes table times × No (IsWithin key (usual times) least most table)
+    (times : DefaultTimes) × AreTimes table times × No (IsWithin key (usual times) least most table)
 
 -- the table has nothing at the key that the key takes
 abbrev pub IsRefused : Key → Members → Type 0
@@ -184,7 +184,7 @@ IsRefused TickMs table = IsNoTime TickMs (λ times. times.tick_ms) 1 60000 table
 IsRefused Lambda table = IsNoTime Lambda (λ times. times.lambda) 1 16 table
 IsRefused Period table = IsNoTime Period (λ times. times.period) 2 1000 table
 IsRefused Direct table =
-    (times : PresetTimes) × (period : ℕ) × AreTimes table times
+    (times : DefaultTimes) × (period : ℕ) × AreTimes table times
     × IsNumber Period times.period table period
     × No (IsWithin Direct times.direct 1 (period - 1) table)
 IsRefused Suspect table = IsNoTime Suspect (λ times. times.suspect) 1 100000 table
@@ -219,7 +219,7 @@ IsTaken TickMs table = IsTime TickMs (λ times. times.tick_ms) 1 60000 table
 IsTaken Lambda table = IsTime Lambda (λ times. times.lambda) 1 16 table
 IsTaken Period table = IsTime Period (λ times. times.period) 2 1000 table
 IsTaken Direct table =
-    (times : PresetTimes) × (period n : ℕ) × AreTimes table times
+    (times : DefaultTimes) × (period n : ℕ) × AreTimes table times
     × IsNumber Period times.period table period
     × IsWithin Direct times.direct 1 (period - 1) table n
 IsTaken Suspect table = IsTime Suspect (λ times. times.suspect) 1 100000 table

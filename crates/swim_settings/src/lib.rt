@@ -17,7 +17,7 @@ mod value;
 pub use key::{KEYS, Key};
 pub use level::Level;
 pub use place::{HostName, Place};
-pub use preset::{Preset, PresetTimes};
+pub use preset::{DefaultTimes, Preset};
 pub use refusal::SettingsRefusal;
 pub use reload::restart_keys;
 pub use settings::{JOIN_MAX, RunSettings, read_settings};

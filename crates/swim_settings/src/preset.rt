@@ -36,7 +36,7 @@ impl Word for Preset {
 
 /// What stands in the place of the keys of these names that a file has not.
 #[derive(Clone, Copy, Debug, PartialEq, Eq)]
-pub struct PresetTimes {
+pub struct DefaultTimes {
     /// `tick_ms`, in milliseconds.
     pub tick_ms: u64,
     /// `lambda`.
@@ -55,13 +55,13 @@ pub struct PresetTimes {
     pub rejoin: u64,
 }
 
-impl PresetTimes {
+impl DefaultTimes {
     /// The times of a preset, or those of a file without one.
-    pub fn of(preset: Option<Preset>) -> PresetTimes
+    pub fn of(preset: Option<Preset>) -> DefaultTimes
         ensures { result ≡ times_of preset }
     {
         match preset {
-            None => PresetTimes {
+            None => DefaultTimes {
                 tick_ms: 100,
                 lambda: 3,
                 period: 10,
@@ -71,7 +71,7 @@ impl PresetTimes {
                 helpers: 3,
                 rejoin: 300,
             },
-            Some(Preset::Local) => PresetTimes {
+            Some(Preset::Local) => DefaultTimes {
                 tick_ms: 20,
                 lambda: 3,
                 period: 10,
@@ -81,7 +81,7 @@ impl PresetTimes {
                 helpers: 3,
                 rejoin: 100,
             },
-            Some(Preset::Lan) => PresetTimes {
+            Some(Preset::Lan) => DefaultTimes {
                 tick_ms: 50,
                 lambda: 3,
                 period: 10,
@@ -91,7 +91,7 @@ impl PresetTimes {
                 helpers: 5,
                 rejoin: 600,
             },
-            Some(Preset::Wan) => PresetTimes {
+            Some(Preset::Wan) => DefaultTimes {
                 tick_ms: 200,
                 lambda: 4,
                 period: 15,

@@ -14,7 +14,7 @@ ghost use Rattle.swim_settings.specs.declared.key.Key.TheVariants as key;
 use crate::key::Key;
 use crate::level::Level;
 use crate::place::Place;
-use crate::preset::{Preset, PresetTimes};
+use crate::preset::{DefaultTimes, Preset};
 use crate::refusal::SettingsRefusal;
 use crate::table::{read_table, refuse_unknown};
 use crate::value::{
@@ -71,7 +71,7 @@ fn read_member(
     table: &Table,
     group: u64,
     me: Endpoint,
-    times: PresetTimes,
+    times: DefaultTimes,
 ) -> Result<Settings, SettingsRefusal>
     requires taken { AreTakenBefore key.Lambda (table_view table.now) }
     requires times { AreTimes (table_view table.now) times }
@@ -152,7 +152,7 @@ fn read_keys(alloc: Global, table: &Table) -> Result<RunSettings, SettingsRefusa
     let me = read_endpoint_at(table, Key::Me)?;
     let control = read_endpoint_at(table, Key::Control)?;
     let preset = read_word(table, Key::Preset, &Preset::ALL)?;
-    let times = PresetTimes::of(preset);
+    let times = DefaultTimes::of(preset);
     let tick_ms = read_within(table, Key::TickMs, times.tick_ms, 1, 60_000)?;
     let member = read_member(table, group, me, times)?;
     let limit = read_within(table, Key::Limit, 4096, 1, 65_536)?;

@@ -8,11 +8,11 @@ use swim_replay::{era_is_recorded, play_era};
 use swim_scenes::{endpoint, opened_by_plan, ping, suspicion, update};
 use swim_wire::UpdateKind;
 
-/// What was heard before the era, and the calls of the era: the second caller's join is taken, and the first bye of its
-/// leave is lost.
-const WANT: &str = "recording 1
+/// A member that knows two others, and told each update once. Its era is of at most four calls: the member is suspected and
+/// refutes it; a second caller joins, and its leave loses the first bye.
+pub(crate) const RECORDING: &str = "recording 1
 member 7 10.0.0.1:7000 3 1
-times 10 3 50 6000 3 1 8
+times 10 3 50 6000 3 1 4
 alive 10.0.0.2:7000 1 0
 alive 10.0.0.3:7000 1 0
 +alive 10.0.0.1:7000 1 1
@@ -40,7 +40,7 @@ const TIMED: &str = "recording 2\nclock 1795910399050 1795910401050 100\n";
 
 #[test]
 fn an_era_is_written(rt: HostRuntime) {
-    let (mut node, _) = opened_by_plan(rt.alloc(), 8).expect(&rt, "a node");
+    let (mut node, _) = opened_by_plan(rt.alloc(), 4).expect(&rt, "a node");
     let mut link = MemoryLink::new(rt.alloc(), 1);
     let second = update(UpdateKind::Alive, 2, 1).expect(&rt, "a port");
     let third = update(UpdateKind::Alive, 3, 1).expect(&rt, "a port");
@@ -69,14 +69,14 @@ fn an_era_is_written(rt: HostRuntime) {
     let text = recording(rt.alloc(), None, &beginning, node.journal())
         .ok()
         .expect(&rt, "memory");
-    same(&rt, text.as_str(), WANT);
+    same(&rt, text.as_str(), RECORDING);
     let text = recording(rt.alloc(), Some(TIME), &beginning, node.journal())
         .ok()
         .expect(&rt, "memory");
     same(
         &rt,
         text.as_str().strip_prefix(TIMED),
-        WANT.strip_prefix("recording 1\n"),
+        RECORDING.strip_prefix("recording 1\n"),
     );
     era_is_recorded(&node, &beginning);
     for time in [None, Some(TIME)] {

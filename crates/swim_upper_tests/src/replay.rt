@@ -1,31 +1,11 @@
-//! A recording by the tables of its page, written by hand. What is refused, and at which line, is in `tests/replayed`.
+//! Recordings that are played. What is refused, and at which line, is in `tests/replayed`.
 
+use crate::record::RECORDING;
 use crate::same::{holds, holds_at, same};
 use swim_explain::stories_name_causes;
 use swim_member::Event;
 use swim_node::Outcome;
 use swim_replay::{RecordingReason, play_recording};
-
-/// A member that knows two others, and told each update once. Its era is of at most four calls: the member is suspected and
-/// refutes it; a second caller joins, and its leave loses the first bye.
-const RECORDING: &str = "recording 1
-member 7 10.0.0.1:7000 3 1
-times 10 3 50 6000 3 1 4
-alive 10.0.0.2:7000 1 0
-alive 10.0.0.3:7000 1 0
-+alive 10.0.0.1:7000 1 1
-+alive 10.0.0.2:7000 1 1
-+alive 10.0.0.3:7000 1 1
-running 1 0 1 0 1 1
-sendfail 4
-granted 2
-recv 10.0.0.2:7000 5357494d010101000000000000000007000000010a0000021b580a0000011b5802000a0000011b580000000000000001
-caller 3
-join 10.0.0.4:7000
-caller 3
-lost 1
-leave
-";
 
 #[test]
 fn a_recording_is_played(rt: HostRuntime) {

@@ -4,7 +4,7 @@ use crate::same::{given, holds, same, same_at};
 use std::alloc::{AllocError, Global};
 use std::test::Fail;
 use swim_settings::{
-    Key, Level, Place, PresetTimes, RunSettings, read_settings, restart_keys, show_settings,
+    DefaultTimes, Key, Level, Place, RunSettings, read_settings, restart_keys, show_settings,
 };
 use swim_wire::Endpoint;
 use swim_words::Word;
@@ -268,7 +268,7 @@ wan 200 4 15 5 150 6000 3 50";
 
 /// The times of settings, as a row of that table has them.
 fn times_in(alloc: Global, run: &RunSettings) -> Result<String, AllocError> {
-    let PresetTimes {
+    let DefaultTimes {
         tick_ms,
         lambda,
         period,
@@ -277,7 +277,7 @@ fn times_in(alloc: Global, run: &RunSettings) -> Result<String, AllocError> {
         forget,
         helpers,
         rejoin,
-    } = PresetTimes {
+    } = DefaultTimes {
         tick_ms: run.tick_ms,
         lambda: u64::from(run.settings.lambda),
         period: run.settings.period,

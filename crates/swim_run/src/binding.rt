@@ -1,4 +1,4 @@
-//! What a running member holds of the network.
+//! Binds the sockets of a running member.
 
 use log::Log;
 use std::alloc::Global;
