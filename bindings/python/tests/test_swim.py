@@ -96,6 +96,13 @@ def test_port_0_is_left_aside(member: swim.Member) -> None:
     assert member.notes() == []
 
 
+def test_a_socket_of_ipv6_harms_nobody(member: swim.Member) -> None:
+    member.receive(("::1", 7001), b"x")
+    assert member.notes() == []
+    member.receive(("::ffff:127.0.0.1", 7001), b"x")
+    assert member.notes() == [swim.Note.BAD_DATAGRAM]
+
+
 def test_late_ticks_are_skipped(member: swim.Member) -> None:
     assert [member.advance(now) for now in (5.0, 5.05, 5.1, 60.0)] == [5.1, 5.1, 5.2, 60.1]
 
