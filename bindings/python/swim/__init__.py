@@ -235,7 +235,13 @@ class Member:
         return due.value / 1000
 
     def receive(self, source: Address, data: Data) -> None:
-        """Bytes came from there. No datagram, whatever it is, makes this fail; one from port 0 is left aside."""
+        """Bytes came from there. No datagram, whatever it is, makes this fail; one from port 0, or from an address of IPv6 that stands for
+        none of IPv4, is left aside."""
+        at = ipaddress.ip_address(source[0])
+        if isinstance(at, ipaddress.IPv6Address):
+            if at.ipv4_mapped is None:
+                return
+            source = str(at.ipv4_mapped), source[1]
         kept = bytes(memoryview(data)[: DATAGRAM_MAX + 1])
         self._call(_library.swim_receive, _to_c(source), kept, len(kept))
 

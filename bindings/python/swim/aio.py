@@ -14,11 +14,13 @@ import swim
 class Member(asyncio.DatagramProtocol):
     """A member that runs from `start`, which `async with` calls, to `stop`. State files are saved in the loop, at a suspicion and
     at the end: some milliseconds on a slow disk. `noted` counts what it took note of in what came, each a swim.Note: many of OTHER_GROUP,
-    NOT_SENDER or OTHER_VERSION mean that somebody is set up wrongly."""
+    NOT_SENDER or OTHER_VERSION mean that somebody is set up wrongly. Ticks are as long as those of the others: 50 ms in a group that
+    `swim up` made."""
 
-    def __init__(self, path: Optional[swim.File], settings: swim.Settings, peers: Sequence[swim.Address] = ()):
+    def __init__(self, path: Optional[swim.File], settings: swim.Settings, peers: Sequence[swim.Address] = (), tick_ms: int = 100):
         self._settings, self._member = settings, swim.Member(path, settings)
         self._member.seeds(peers)
+        self._speed = 100 / tick_ms  # of the clock that the library is told of, whose ticks are 100 ms
         self.noted: Counter[int] = Counter()
         self.members, self.changes, self.status = self._member.members, self._member.changes, self._member.status
 
@@ -64,7 +66,7 @@ class Member(asyncio.DatagramProtocol):
     async def _tick(self) -> None:
         now = asyncio.get_running_loop().time
         while True:
-            due = self._member.advance(now())
+            due = self._member.advance(now() * self._speed) / self._speed
             self._send()
             await asyncio.sleep(max(0.0, due - now()))
             await asyncio.sleep(0)  # what waits at the socket is read before a tick

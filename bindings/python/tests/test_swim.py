@@ -96,6 +96,13 @@ def test_port_0_is_left_aside(member: swim.Member) -> None:
     assert member.notes() == []
 
 
+def test_a_socket_of_ipv6_harms_nobody(member: swim.Member) -> None:
+    member.receive(("::1", 7001), b"x")
+    assert member.notes() == []
+    member.receive(("::ffff:127.0.0.1", 7001), b"x")
+    assert member.notes() == [swim.Note.BAD_DATAGRAM]
+
+
 def test_late_ticks_are_skipped(member: swim.Member) -> None:
     assert [member.advance(now) for now in (5.0, 5.05, 5.1, 60.0)] == [5.1, 5.1, 5.2, 60.1]
 
@@ -159,12 +166,13 @@ def test_asyncio_counts_notes_and_always_ends(settings: swim.Settings, monkeypat
         member.status()
 
 
-def test_asyncio(tmp_path: Path, settings: swim.Settings) -> None:
+@pytest.mark.parametrize("tick_ms", [100, 50])
+def test_asyncio(settings: swim.Settings, tick_ms: int) -> None:
     async def meet() -> bool:
         other = swim.Settings(group=7, me=("127.0.0.1", settings.me[1] + 1 if settings.me[1] < 65535 else 1024))
-        async with swim.aio.Member(None, settings, peers=[other.me]) as first:
+        async with swim.aio.Member(None, settings, peers=[other.me], tick_ms=tick_ms) as first:
             await asyncio.sleep(0.3)  # it has asked in vain
-            async with swim.aio.Member(None, other) as second:
+            async with swim.aio.Member(None, other, tick_ms=tick_ms) as second:
                 for _ in range(100):
                     if first.status().alive == second.status().alive == 1:
                         return True
