@@ -18,15 +18,15 @@ const WATCHED: Token = Token(0);
 
 /// What tells that the last reader of standard output has gone.
 #[derive(Drop)]
-struct Watch {
+struct OutputWatch {
     poll: Poll,
     changes: Events<Global>,
 }
 
-impl Watch {
+impl OutputWatch {
     /// A watch of standard output; none where it cannot be watched, as a file. That nobody reads is told whatever is asked for, and
     /// of what is asked for here nothing comes.
-    fn new<R: Net + AllocGlobal>(rt: &R) -> Option<Watch> {
+    fn new<R: Net + AllocGlobal>(rt: &R) -> Option<OutputWatch> {
         let poll = Poll::new(rt).ok()?;
         let changes = Events::with_capacity(rt.alloc(), 1).ok()?;
         let mut stream = SourceFd(&STANDARD_OUTPUT);
@@ -34,7 +34,7 @@ impl Watch {
             .registry()
             .register(&mut stream, WATCHED, Interest::PRIORITY);
         registered.ok()?;
-        Some(Watch { poll, changes })
+        Some(OutputWatch { poll, changes })
     }
 
     /// Waits so long, or until the last reader goes, and says whether it has.
@@ -51,14 +51,14 @@ impl Watch {
 /// Standard output.
 #[derive(Drop)]
 pub(crate) struct Output {
-    watch: Option<Watch>,
+    watch: Option<OutputWatch>,
 }
 
 impl Output {
     /// That of this process.
     pub(crate) fn new<R: Net + AllocGlobal>(rt: &R) -> Output {
         Output {
-            watch: Watch::new(rt),
+            watch: OutputWatch::new(rt),
         }
     }
 

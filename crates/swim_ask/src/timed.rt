@@ -6,9 +6,9 @@ use std::rt::Clock;
 
 /// When something is told: in UTC as RFC 3339 writes it, to the millisecond; `-` where the clock fails.
 #[derive(Clone, Copy)]
-struct Moment(Option<Timestamp>);
+struct ToldTime(Option<Timestamp>);
 
-impl Display for Moment {
+impl Display for ToldTime {
     fn fmt<W: fmt::Write>(&self, f: &mut Formatter<W>) -> fmt::Result {
         match &self.0 {
             Some(time) => write!(f, "{time:.3}"),
@@ -20,14 +20,14 @@ impl Display for Moment {
 /// What is told, behind the time at which it is.
 #[derive(Clone, Copy)]
 pub(crate) struct Timed<D> {
-    at: Moment,
+    at: ToldTime,
     told: D,
 }
 
 impl<D> Timed<D> {
     /// What is told now.
     pub(crate) fn now<R: Clock>(rt: &R, told: D) -> Timed<D> {
-        let at = Moment(Timestamp::now(rt).ok());
+        let at = ToldTime(Timestamp::now(rt).ok());
         Timed { at, told }
     }
 }

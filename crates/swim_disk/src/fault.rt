@@ -3,7 +3,7 @@
 ghost use Rattle.std.specs.Prelude.{◌≡◌, ◌+◌, IfOk, IfErr};
 
 use crate::count::Count;
-use crate::plan::{Plan, Rules};
+use crate::plan::{FaultRules, Plan};
 use crate::{Disk, DiskFault};
 use std::alloc::Global;
 use std::mem;
@@ -14,7 +14,7 @@ use std::sync::Arc;
 #[derive(Drop)]
 pub struct FaultDisk<D: Disk> {
     inner: D,
-    rules: Arc<Rules, Global>,
+    rules: Arc<FaultRules, Global>,
     failures: Count,
     asked: Count,
 }
@@ -29,7 +29,7 @@ impl<D: Disk> FaultDisk<D> {
         ensures failures { IfOk result (λ made. own_failures made.0 ≡ 0) }
         ensures back { IfErr result (λ back. back ≡ inner) }
     {
-        match Rules::shared(alloc) {
+        match FaultRules::shared(alloc) {
             Ok((rules, plan)) => Ok((
                 FaultDisk {
                     inner,

@@ -20,7 +20,7 @@ const HELD: u8 = 2;
 /// What a disk is to do at its next calls. Each number counts the calls up to the one that fails:
 /// 1 is the next one, and 0 stands for none.
 #[derive(Drop)]
-pub(crate) struct Rules {
+pub(crate) struct FaultRules {
     fail_read: AtomicU64,
     fail_write: AtomicU64,
     tear_write: AtomicU64,
@@ -34,7 +34,7 @@ pub(crate) struct Rules {
 /// use. No contract says what it holds.
 #[derive(Drop)]
 pub struct Plan {
-    rules: Arc<Rules, Global>,
+    rules: Arc<FaultRules, Global>,
 }
 
 /// Takes one call off: whether it was the last one.
@@ -46,9 +46,9 @@ fn is_due(left: &AtomicU64) -> bool {
     now == 1
 }
 
-impl Rules {
-    fn new() -> Rules {
-        Rules {
+impl FaultRules {
+    fn new() -> FaultRules {
+        FaultRules {
             fail_read: AtomicU64::new(0),
             fail_write: AtomicU64::new(0),
             tear_write: AtomicU64::new(0),
@@ -60,8 +60,8 @@ impl Rules {
     }
 
     /// The rules twice: for the disk, and for the one who sets them.
-    pub(crate) fn shared(alloc: Global) -> Result<(Arc<Rules, Global>, Plan), AllocError> {
-        let rules = Arc::new(alloc, Rules::new())?;
+    pub(crate) fn shared(alloc: Global) -> Result<(Arc<FaultRules, Global>, Plan), AllocError> {
+        let rules = Arc::new(alloc, FaultRules::new())?;
         let theirs = Arc::try_clone(&rules)?;
         Ok((rules, Plan { rules: theirs }))
     }

@@ -14,9 +14,9 @@ use swim_rules::{Heard, Row};
 
 /// A row without its member, or `null`.
 #[derive(Clone, Copy)]
-struct RowJson(Option<Row>);
+struct HeldJson(Option<Row>);
 
-impl fmt::Display for RowJson {
+impl fmt::Display for HeldJson {
     fn fmt<W: fmt::Write>(&self, f: &mut fmt::Formatter<W>) -> fmt::Result {
         match self.0 {
             Some(row) => {
@@ -147,7 +147,7 @@ impl fmt::Display for FactJson {
     fn fmt<W: fmt::Write>(&self, f: &mut fmt::Formatter<W>) -> fmt::Result {
         match self.0 {
             Fact::Began { row } => {
-                let row = RowJson(row);
+                let row = HeldJson(row);
                 write!(f, "\"fact\":\"began\",\"row\":{row}")
             }
             Fact::Came { kind, seq } => {
@@ -161,7 +161,7 @@ impl fmt::Display for FactJson {
                 became,
             } => {
                 let (kind, number) = (update.kind.name(), update.number);
-                let (was, became) = (RowJson(was), word_of(became));
+                let (was, became) = (HeldJson(was), word_of(became));
                 write!(
                     f,
                     "\"fact\":\"told\",\"by\":\"{by}\",\"kind\":\"{kind}\",\"number\":{number},\"was\":{was},\"became\":\"{became}\""

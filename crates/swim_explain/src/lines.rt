@@ -107,9 +107,9 @@ impl fmt::Display for Why {
 
 /// What is held where the era begins.
 #[derive(Clone, Copy)]
-struct Beginning(Option<Row>);
+struct BeginningLine(Option<Row>);
 
-impl fmt::Display for Beginning {
+impl fmt::Display for BeginningLine {
     fn fmt<W: fmt::Write>(&self, f: &mut fmt::Formatter<W>) -> fmt::Result {
         match self.0 {
             None => write!(f, "the era begins: it is not known"),
@@ -159,9 +159,9 @@ impl fmt::Display for Changed {
 
 /// What was sent.
 #[derive(Clone, Copy)]
-struct Sent(Fact);
+struct SentFact(Fact);
 
-impl fmt::Display for Sent {
+impl fmt::Display for SentFact {
     fn fmt<W: fmt::Write>(&self, f: &mut fmt::Formatter<W>) -> fmt::Result {
         match self.0 {
             Fact::Pinged {
@@ -196,7 +196,7 @@ impl fmt::Display for Fact {
     fn fmt<W: fmt::Write>(&self, f: &mut fmt::Formatter<W>) -> fmt::Result {
         match *self {
             Fact::Began { row } => {
-                let beginning = Beginning(row);
+                let beginning = BeginningLine(row);
                 write!(f, "{beginning}")
             }
             Fact::Came { kind, seq } => {
@@ -221,7 +221,7 @@ impl fmt::Display for Fact {
                 write!(f, "{by} told: {said}")
             }
             fact => {
-                let sent = Sent(fact);
+                let sent = SentFact(fact);
                 write!(f, "{sent}")
             }
         }

@@ -4,7 +4,7 @@ use Rattle.std.proofs.lemmas.Bool.{cases_Bool, cases_lt, false≢true, eq-eqb, n
 use Rattle.std.proofs.lemmas.List.{append-nil, append_assoc, drop_more, take_all, take-append-le}
 use Rattle.swim_wire.specs.Filler.{filler}
 use Rattle.swim_gossip.specs.declared.buffer.Waiting.{Waiting}
-use Rattle.swim_gossip.specs.declared.slots.Slot.{Slot}
+use Rattle.swim_gossip.specs.declared.slots.BufferSlot.{BufferSlot}
 use Rattle.swim_gossip.specs.Queue.{without, AreWithin, NeverRise}
 use Rattle.swim_gossip.specs.Buckets.{at, lives, spots, runs, raised_at, bump, queue_in}
 use Rattle.swim_gossip.proofs.Rises.{rank, stands, rise-take, rise-parts, stands-parts}
@@ -13,7 +13,7 @@ use Rattle.swim_gossip.proofs.Raised.{at-raised, length-raised, within-push, wit
 
 -- Counts by place
 
-pub falling-at : (slots : List Slot) (i j : ℕ) → NeverRise (queue_in slots) → i ≤ j → (at slots i).waits ≡ true → (at slots j).waits ≡ true → (at slots j).count ≤ (at slots i).count
+pub falling-at : (slots : List BufferSlot) (i j : ℕ) → NeverRise (queue_in slots) → i ≤ j → (at slots i).waits ≡ true → (at slots j).waits ≡ true → (at slots j).count ≤ (at slots i).count
 falling-at [] i j h l m n = absurd (false≢true m)
 falling-at (s ∷ slots) zero zero h l m n = omega arith
 falling-at (s ∷ slots) zero (suc j) h l m n = let parts : AreWithin s.count (queue_in slots) × NeverRise (queue_in slots) = rw m at h in within-at s.count slots j parts.0 n
@@ -24,13 +24,13 @@ falling-at (s ∷ slots) (suc i) (suc j) h l m n =
       | inr w ↦ let rest : NeverRise (queue_in slots) = rw w at h in falling-at slots i j rest (omega arith) m n
     ]
 
-within-from : (most : ℕ) (slots : List Slot) → ((k : ℕ) → (at slots k).waits ≡ true → (at slots k).count ≤ most) → AreWithin most (queue_in slots)
+within-from : (most : ℕ) (slots : List BufferSlot) → ((k : ℕ) → (at slots k).waits ≡ true → (at slots k).count ≤ most) → AreWithin most (queue_in slots)
 within-from most [] h = tt
 within-from most (s ∷ slots) h =
     let rest : AreWithin most (queue_in slots) = within-from most slots (λ k l. h (suc k) l) in
     elim (cases_Bool s.waits) [ inl w ↦ rw w (h 0 w, rest) | inr w ↦ rw w rest ]
 
-falling-from : (slots : List Slot) → ((i j : ℕ) → i ≤ j → (at slots i).waits ≡ true → (at slots j).waits ≡ true → (at slots j).count ≤ (at slots i).count) → NeverRise (queue_in slots)
+falling-from : (slots : List BufferSlot) → ((i j : ℕ) → i ≤ j → (at slots i).waits ≡ true → (at slots j).waits ≡ true → (at slots j).count ≤ (at slots i).count) → NeverRise (queue_in slots)
 falling-from [] h = tt
 falling-from (s ∷ slots) h =
     let rest : NeverRise (queue_in slots) = falling-from slots (λ i j l m n. h (suc i) (suc j) (omega arith) m n) in
@@ -38,22 +38,22 @@ falling-from (s ∷ slots) h =
 
 -- Runs
 
-spots-none : (c i : ℕ) (slots : List Slot) → ((k : ℕ) → (at slots k).waits ≡ true → (at slots k).count ≢ c) → spots c i slots ≡ []
+spots-none : (c i : ℕ) (slots : List BufferSlot) → ((k : ℕ) → (at slots k).waits ≡ true → (at slots k).count ≢ c) → spots c i slots ≡ []
 spots-none c i [] h = refl
 spots-none c i (s ∷ slots) h =
     let rest : spots c (suc i) slots ≡ [] = spots-none c (suc i) slots (λ k l. h (suc k) l) in
     elim (cases_Bool s.waits) [ inl w ↦ rw (w, ne_eqb s.count c (h 0 w)) rest | inr w ↦ rw w rest ]
 
-abbrev none : Slot
+abbrev none : BufferSlot
 none = record { update = filler; count = 0; waits = false }
 
-spots-more : (c i : ℕ) (slots : List Slot) → i < length slots → spots c i (drop i slots) ≡ cond ((at slots i).waits && ((at slots i).count == c)) (i ∷ spots c (suc i) (drop (suc i) slots)) (spots c (suc i) (drop (suc i) slots))
+spots-more : (c i : ℕ) (slots : List BufferSlot) → i < length slots → spots c i (drop i slots) ≡ cond ((at slots i).waits && ((at slots i).count == c)) (i ∷ spots c (suc i) (drop (suc i) slots)) (spots c (suc i) (drop (suc i) slots))
 spots-more c i slots l =
     let next : i + 1 ≡ suc i = omega arith in
     ap (spots c i) (drop_more slots i none l) ∙ ap (λ (k : ℕ). spots c i (at slots i ∷ drop k slots)) next
 
 -- none of these n is in the bucket
-spots-skip : (c i n : ℕ) (slots : List Slot) → i + n ≤ length slots → ((k : ℕ) → i ≤ k → k < i + n → (at slots k).waits ≡ true → (at slots k).count ≢ c) → spots c i (drop i slots) ≡ spots c (i + n) (drop (i + n) slots)
+spots-skip : (c i n : ℕ) (slots : List BufferSlot) → i + n ≤ length slots → ((k : ℕ) → i ≤ k → k < i + n → (at slots k).waits ≡ true → (at slots k).count ≢ c) → spots c i (drop i slots) ≡ spots c (i + n) (drop (i + n) slots)
 spots-skip c i zero slots l h = ap (λ (k : ℕ). spots c k (drop k slots)) (let e : i ≡ i + 0 = omega arith in e)
 spots-skip c i (suc n) slots l h =
     let next : suc i + n ≡ i + suc n = omega arith in
@@ -64,12 +64,12 @@ spots-skip c i (suc n) slots l h =
       | inr w ↦ rw w rest
     ]
 
-drop-all : (slots : List Slot) → drop (length slots) slots ≡ []
+drop-all : (slots : List BufferSlot) → drop (length slots) slots ≡ []
 drop-all [] = refl
 drop-all (s ∷ slots) = drop-all slots
 
 -- all of these n that are no gaps are in the bucket, and none behind them is
-spots-lives : (c i n : ℕ) (slots : List Slot) → i + n ≤ length slots → ((k : ℕ) → i ≤ k → k < i + n → (at slots k).waits ≡ true → (at slots k).count ≡ c) → ((k : ℕ) → i + n ≤ k → (at slots k).waits ≡ true → (at slots k).count ≢ c) → spots c i (drop i slots) ≡ lives slots i n
+spots-lives : (c i n : ℕ) (slots : List BufferSlot) → i + n ≤ length slots → ((k : ℕ) → i ≤ k → k < i + n → (at slots k).waits ≡ true → (at slots k).count ≡ c) → ((k : ℕ) → i + n ≤ k → (at slots k).waits ≡ true → (at slots k).count ≢ c) → spots c i (drop i slots) ≡ lives slots i n
 spots-lives c i zero slots l h o =
     let all : i + (length slots - i) ≡ length slots = omega arith in
     spots-skip c i (length slots - i) slots (omega arith) (λ k p q. o k (omega arith))
@@ -83,7 +83,7 @@ spots-lives c i (suc n) slots l h o =
     ]
 
 -- the buckets from n to before m are empty
-runs-same : (n m : ℕ) (slots : List Slot) → n ≤ m → ((k : ℕ) → (at slots k).waits ≡ true → n ≤ (at slots k).count → m ≤ (at slots k).count) → runs m slots ≡ runs n slots
+runs-same : (n m : ℕ) (slots : List BufferSlot) → n ≤ m → ((k : ℕ) → (at slots k).waits ≡ true → n ≤ (at slots k).count → m ≤ (at slots k).count) → runs m slots ≡ runs n slots
 runs-same n zero slots l h = let same : zero ≡ n = omega arith in ap (λ (k : ℕ). runs k slots) same
 runs-same n (suc m) slots l h =
     elim (cases_lt m n) [
@@ -97,10 +97,10 @@ runs-same n (suc m) slots l h =
 -- Places that are taken
 
 -- the places so far, and then those up to the end, are all of them
-pub record IsLeft (slots : List Slot) (place end room : ℕ) (places all : List ℕ) : Type 0 where
+pub record IsLeft (slots : List BufferSlot) (place end room : ℕ) (places all : List ℕ) : Type 0 where
   pub is : take room (places ++ lives slots place (end - place)) ≡ take room all
 
-pub left-more : (slots : List Slot) (place end room : ℕ) (places all : List ℕ) → place < end → (at slots place).waits ≡ true → IsLeft slots place end room places all → IsLeft slots (place + 1) end room (places ++ place ∷ []) all
+pub left-more : (slots : List BufferSlot) (place end room : ℕ) (places all : List ℕ) → place < end → (at slots place).waits ≡ true → IsLeft slots place end room places all → IsLeft slots (place + 1) end room (places ++ place ∷ []) all
 left-more slots place end room places all l w h =
     let count : end - place ≡ suc (end - (place + 1)) = omega arith in
     let next : suc place ≡ place + 1 = omega arith in
@@ -108,7 +108,7 @@ left-more slots place end room places all l w h =
     ap (lives slots place) count ∙ rw w (ap (λ (k : ℕ). place ∷ lives slots k (end - (place + 1))) next) in
     record { is = ap (take room) (append_assoc places (place ∷ []) (lives slots (place + 1) (end - (place + 1))) ∙ ap (λ (xs : List ℕ). places ++ xs) (sym here)) ∙ h.is }
 
-pub left-gap : (slots : List Slot) (place end room : ℕ) (places all : List ℕ) → place < end → (at slots place).waits ≡ false → IsLeft slots place end room places all → IsLeft slots (place + 1) end room places all
+pub left-gap : (slots : List BufferSlot) (place end room : ℕ) (places all : List ℕ) → place < end → (at slots place).waits ≡ false → IsLeft slots place end room places all → IsLeft slots (place + 1) end room places all
 left-gap slots place end room places all l w h =
     let count : end - place ≡ suc (end - (place + 1)) = omega arith in
     let next : suc place ≡ place + 1 = omega arith in
@@ -116,16 +116,16 @@ left-gap slots place end room places all l w h =
     ap (lives slots place) count ∙ rw w (ap (λ (k : ℕ). lives slots k (end - (place + 1))) next) in
     record { is = ap (λ (xs : List ℕ). take room (places ++ xs)) (sym here) ∙ h.is }
 
-pub left-none : (slots : List Slot) (place end room : ℕ) (places all : List ℕ) → end ≤ place → length places ≤ room → IsLeft slots place end room places all → places ≡ take room all
+pub left-none : (slots : List BufferSlot) (place end room : ℕ) (places all : List ℕ) → end ≤ place → length places ≤ room → IsLeft slots place end room places all → places ≡ take room all
 left-none slots place end room places all l m h =
     let none : end - place ≡ 0 = omega arith in
     sym (take_all room places m) ∙ ap (take room) (sym (append-nil places)) ∙ ap (λ (k : ℕ). take room (places ++ lives slots place k)) (sym none) ∙ h.is
 
-pub left-full : (slots : List Slot) (place end room : ℕ) (places all : List ℕ) → length places ≡ room → IsLeft slots place end room places all → places ≡ take room all
+pub left-full : (slots : List BufferSlot) (place end room : ℕ) (places all : List ℕ) → length places ≡ room → IsLeft slots place end room places all → places ≡ take room all
 left-full slots place end room places all e h =
     sym (take_all room places (omega arith)) ∙ sym (take-append-le room places (lives slots place (end - place)) (omega arith)) ∙ h.is
 
-lives-some : (slots : List Slot) (i n x : ℕ) → i ≤ x → x < i + n → (at slots x).waits ≡ true → 0 < length (lives slots i n)
+lives-some : (slots : List BufferSlot) (i n x : ℕ) → i ≤ x → x < i + n → (at slots x).waits ≡ true → 0 < length (lives slots i n)
 lives-some slots i zero x l m w = absurd (omega arith)
 lives-some slots i (suc n) x l m w =
     elim (cases_Bool (at slots i).waits) [
@@ -143,13 +143,13 @@ taken-longer (suc room) [] (y ∷ ys) l m = omega arith
 taken-longer (suc room) (x ∷ xs) ys l m = let rest : length xs < length (take room (xs ++ ys)) = taken-longer room xs ys (omega arith) m in omega arith
 
 -- a bucket has one place at least
-pub bucket-some : (slots : List Slot) (begin end room : ℕ) (places : List ℕ) → begin < end → (at slots (end - 1)).waits ≡ true → length places < room → length places < length (take room (places ++ lives slots begin (end - begin)))
+pub bucket-some : (slots : List BufferSlot) (begin end room : ℕ) (places : List ℕ) → begin < end → (at slots (end - 1)).waits ≡ true → length places < room → length places < length (take room (places ++ lives slots begin (end - begin)))
 bucket-some slots begin end room places l w m = taken-longer room places (lives slots begin (end - begin)) m (lives-some slots begin (end - begin) (end - 1) (omega arith) (omega arith) w)
 
 -- Buckets that are taken
 
 -- the places from end on, those of the buckets below count, are taken as long as there is room
-pub record AreTaken (slots : List Slot) (end limit room : ℕ) (places : List ℕ) : Type 0 where
+pub record AreTaken (slots : List BufferSlot) (end limit room : ℕ) (places : List ℕ) : Type 0 where
   pub count : ℕ
   pub low : count ≤ limit
   pub before : (k : ℕ) → k < end → (at slots k).waits ≡ true → count ≤ (at slots k).count
@@ -157,7 +157,7 @@ pub record AreTaken (slots : List Slot) (end limit room : ℕ) (places : List �
   pub is : places ≡ take room (runs count slots)
 
 -- at first, where there are only gaps behind the end
-pub taken-none : (slots : List Slot) (end limit room : ℕ) → ((k : ℕ) → end ≤ k → (at slots k).waits ≡ false) → AreTaken slots end limit room []
+pub taken-none : (slots : List BufferSlot) (end limit room : ℕ) → ((k : ℕ) → end ≤ k → (at slots k).waits ≡ false) → AreTaken slots end limit room []
 taken-none slots end limit room h = record {
   count = 0;
   low = omega arith;
@@ -177,7 +177,7 @@ take-again (suc room) [] ys = refl
 take-again (suc room) (x ∷ xs) ys = ap (λ (zs : List ℕ). x ∷ zs) (take-again room xs ys)
 
 -- a bucket, from begin to before end
-pub record IsBucket (slots : List Slot) (begin end : ℕ) : Type 0 where
+pub record IsBucket (slots : List BufferSlot) (begin end : ℕ) : Type 0 where
   pub some : begin < end
   pub within : end ≤ length slots
   pub last : (at slots (end - 1)).waits ≡ true
@@ -186,7 +186,7 @@ pub record IsBucket (slots : List Slot) (begin end : ℕ) : Type 0 where
   pub other : 0 < begin → (at slots (begin - 1)).count ≢ (at slots (end - 1)).count
 
 -- one more bucket
-pub taken-more : (slots : List Slot) (begin end limit room : ℕ) (places : List ℕ) → NeverRise (queue_in slots) → IsBucket slots begin end → (at slots (end - 1)).count < limit
+pub taken-more : (slots : List BufferSlot) (begin end limit room : ℕ) (places : List ℕ) → NeverRise (queue_in slots) → IsBucket slots begin end → (at slots (end - 1)).count < limit
     → AreTaken slots end limit room places → AreTaken slots begin limit room (take room (places ++ lives slots begin (end - begin)))
 taken-more slots begin end limit room places h b under taken =
     let c : ℕ = (at slots (end - 1)).count in
@@ -225,7 +225,7 @@ taken-more slots begin end limit room places h b under taken =
     }
 
 -- the buckets that are left are at or above the limit
-pub taken-all : (slots : List Slot) (end limit room : ℕ) (places : List ℕ) → ((k : ℕ) → k < end → (at slots k).waits ≡ true → limit ≤ (at slots k).count) → AreTaken slots end limit room places → places ≡ take room (runs limit slots)
+pub taken-all : (slots : List BufferSlot) (end limit room : ℕ) (places : List ℕ) → ((k : ℕ) → k < end → (at slots k).waits ≡ true → limit ≤ (at slots k).count) → AreTaken slots end limit room places → places ≡ take room (runs limit slots)
 taken-all slots end limit room places h taken =
     taken.is ∙ ap (take room) (sym (runs-same taken.count limit slots taken.low (λ k w m. elim (cases_lt k end) [
       | inl o ↦ h k o w
@@ -233,12 +233,12 @@ taken-all slots end limit room places h taken =
     ])))
 
 -- the last one is at or above the limit
-pub taken-high : (slots : List Slot) (end limit room : ℕ) (places : List ℕ) → NeverRise (queue_in slots) → 0 < end → (at slots (end - 1)).waits ≡ true → limit ≤ (at slots (end - 1)).count → AreTaken slots end limit room places → places ≡ take room (runs limit slots)
+pub taken-high : (slots : List BufferSlot) (end limit room : ℕ) (places : List ℕ) → NeverRise (queue_in slots) → 0 < end → (at slots (end - 1)).waits ≡ true → limit ≤ (at slots (end - 1)).count → AreTaken slots end limit room places → places ≡ take room (runs limit slots)
 taken-high slots end limit room places h l w n taken =
     taken-all slots end limit room places (λ k o v. let e : (at slots (end - 1)).count ≤ (at slots k).count = falling-at slots k (end - 1) h (omega arith) v w in omega arith) taken
 
 -- there is no more room
-pub taken-full : (slots : List Slot) (end limit room : ℕ) (places : List ℕ) → room ≤ length places → AreTaken slots end limit room places → places ≡ take room (runs limit slots)
+pub taken-full : (slots : List BufferSlot) (end limit room : ℕ) (places : List ℕ) → room ≤ length places → AreTaken slots end limit room places → places ≡ take room (runs limit slots)
 taken-full slots end limit room places l taken =
     let same : length places ≡ length (take room (runs taken.count slots)) = ap length taken.is in
     taken.is ∙ runs-full taken.count limit room slots taken.low (omega arith)
@@ -258,7 +258,7 @@ falling-push [] w h e = (tt, tt)
 falling-push (v ∷ queue) w h e = (within-push v.count queue w h.0 (omega arith), falling-push queue w h.1 e)
 
 -- of two that were sent equally often the earlier one is picked if the later one is
-earlier-stands : (limit room i j : ℕ) (slots : List Slot) → length slots ≤ 368 → i ≤ j → (at slots i).waits ≡ true → (at slots i).count ≡ (at slots j).count → stands j (take room (runs limit slots)) ≡ true → stands i (take room (runs limit slots)) ≡ true
+earlier-stands : (limit room i j : ℕ) (slots : List BufferSlot) → length slots ≤ 368 → i ≤ j → (at slots i).waits ≡ true → (at slots i).count ≡ (at slots j).count → stands j (take room (runs limit slots)) ≡ true → stands i (take room (runs limit slots)) ≡ true
 earlier-stands limit room i j slots few l w e s =
     let later : ((at slots j).waits ≡ true) × (nat_lt (at slots j).count limit ≡ true) =
     and_parts (at slots j).waits (nat_lt (at slots j).count limit) (sym (stands-runs limit j slots) ∙ stands-parts room (runs limit slots) j ∙ or_left (stands j (take room (runs limit slots))) (stands j (drop room (runs limit slots))) s) in
@@ -272,7 +272,7 @@ earlier-stands limit room i j slots few l w e s =
           absurd (omega arith)
     ]
 
-pub falling-raised : (limit room : ℕ) (slots : List Slot) → length slots ≤ 368 → NeverRise (queue_in slots) → NeverRise (queue_in (raised_at (take room (runs limit slots)) slots))
+pub falling-raised : (limit room : ℕ) (slots : List BufferSlot) → length slots ≤ 368 → NeverRise (queue_in slots) → NeverRise (queue_in (raised_at (take room (runs limit slots)) slots))
 falling-raised limit room slots few h = falling-from (raised_at (take room (runs limit slots)) slots) one
   where
     raised-is : (y : ℕ) → y < length slots → at (raised_at (take room (runs limit slots)) slots) y ≡ cond (stands y (take room (runs limit slots))) (bump (at slots y)) (at slots y)
@@ -284,12 +284,12 @@ falling-raised limit room slots few h = falling-from (raised_at (take room (runs
         let same : length (raised_at (take room (runs limit slots)) slots) ≡ length slots = length-raised (take room (runs limit slots)) slots in
         omega arith
 
-    still : (b : Bool) (s : Slot) → (cond b (bump s) s).waits ≡ s.waits
+    still : (b : Bool) (s : BufferSlot) → (cond b (bump s) s).waits ≡ s.waits
     still true s = refl
     still false s = refl
 
     live : (y : ℕ) → (at (raised_at (take room (runs limit slots)) slots) y).waits ≡ true → (at slots y).waits ≡ true
-    live y w = sym (ap (λ (s : Slot). s.waits) (raised-is y (low y w)) ∙ still (stands y (take room (runs limit slots))) (at slots y)) ∙ w
+    live y w = sym (ap (λ (s : BufferSlot). s.waits) (raised-is y (low y w)) ∙ still (stands y (take room (runs limit slots))) (at slots y)) ∙ w
 
     both : (i j : ℕ) → i ≤ j → (at slots i).waits ≡ true → (at slots j).waits ≡ true → (a b : Bool) → stands i (take room (runs limit slots)) ≡ a → stands j (take room (runs limit slots)) ≡ b → (cond b (bump (at slots j)) (at slots j)).count ≤ (cond a (bump (at slots i)) (at slots i)).count
     both i j l v w true true p q = let e : (at slots j).count ≤ (at slots i).count = falling-at slots i j h l v w in omega arith

@@ -4,7 +4,7 @@ use Rattle.std.specs.List.{list_any}
 use Rattle.std.proofs.lemmas.Bool.{false≢true, eqb-true, eq-eqb, or_cases, or_left, or_right, false_from_ne_true}
 use Rattle.std.proofs.lemmas.List.{take-append-drop}
 use Rattle.std.proofs.lemmas.List.Folds.{list_any-append}
-use Rattle.swim_gossip.specs.declared.slots.Slot.{Slot}
+use Rattle.swim_gossip.specs.declared.slots.BufferSlot.{BufferSlot}
 use Rattle.swim_gossip.specs.Buckets.{at}
 
 -- a place is among these
@@ -17,7 +17,7 @@ RiseFrom f low [] = Unit {0}
 RiseFrom f low (x ∷ xs) = (low ≤ f x) × RiseFrom f (suc (f x)) xs
 
 -- whose bucket and place come earlier has the lower rank
-abbrev pub rank : List Slot → ℕ → ℕ
+abbrev pub rank : List BufferSlot → ℕ → ℕ
 rank slots x = 512 * (at slots x).count + x
 
 pub rise-weaker : (f : ℕ → ℕ) (low under : ℕ) (xs : List ℕ) → under ≤ low → RiseFrom f low xs → RiseFrom f under xs

@@ -10,7 +10,7 @@ ghost use Rattle.swim_gossip.specs.declared.slots.TheConstants.{SLOTS_MAX};
 ghost use Rattle.swim_wire.specs.declared.datagram.TheConstants.{UPDATES_MAX};
 
 use crate::buffer::BUCKETS_MAX;
-use crate::slots::{SLOTS_MAX, Slot};
+use crate::slots::{BufferSlot, SLOTS_MAX};
 use crate::visits::Visits;
 use arrayvec::ArrayVec;
 use swim_wire::{UPDATES_MAX, Update};
@@ -18,7 +18,7 @@ use swim_wire::{UPDATES_MAX, Update};
 /// How many places are passed at once, at first, on the way to the begin of a bucket.
 const STRIDE: usize = 16;
 
-impl Slot {
+impl BufferSlot {
     /// Whether an update that was sent so often waits here.
     fn is_sent(&self, count: u32) -> bool
         ensures { result ≡ (self.now.waits && (self.now.count == count)) }
@@ -35,7 +35,7 @@ impl Slot {
 }
 
 /// The end of the slots, without the gaps there.
-fn end_of(slots: &[Slot], visits: &mut Visits) -> usize
+fn end_of(slots: &[BufferSlot], visits: &mut Visits) -> usize
     requires few { length slots.now ≤ SLOTS_MAX }
     requires begun { visits.old ≡ 0 }
     ensures end { result ≤ length slots.now }
@@ -52,7 +52,7 @@ fn end_of(slots: &[Slot], visits: &mut Visits) -> usize
 }
 
 /// Goes back from a place by strides, as long as updates that were sent so often wait there.
-fn stride_back(slots: &[Slot], place: usize, count: u32, visits: &mut Visits) -> usize
+fn stride_back(slots: &[BufferSlot], place: usize, count: u32, visits: &mut Visits) -> usize
     requires few { length slots.now ≤ SLOTS_MAX }
     requires place { place < length slots.now }
     requires here { (at slots.now place).waits ≡ true }
@@ -74,7 +74,7 @@ fn stride_back(slots: &[Slot], place: usize, count: u32, visits: &mut Visits) ->
 }
 
 /// Goes back from a place to the first behind all updates that were not sent so often.
-fn step_back(slots: &[Slot], place: usize, count: u32, visits: &mut Visits) -> usize
+fn step_back(slots: &[BufferSlot], place: usize, count: u32, visits: &mut Visits) -> usize
     requires few { length slots.now ≤ SLOTS_MAX }
     requires place { place < length slots.now }
     requires begun { visits.old ≤ 3000 }
@@ -94,7 +94,7 @@ fn step_back(slots: &[Slot], place: usize, count: u32, visits: &mut Visits) -> u
 }
 
 /// The first place of the bucket that ends before `end`, or of gaps before it.
-fn begin_of(slots: &[Slot], end: usize, visits: &mut Visits) -> usize
+fn begin_of(slots: &[BufferSlot], end: usize, visits: &mut Visits) -> usize
     requires few { length slots.now ≤ SLOTS_MAX }
     requires falling { NeverRise (queue_in slots.now) }
     requires some { 0 < end }
@@ -117,7 +117,7 @@ fn begin_of(slots: &[Slot], end: usize, visits: &mut Visits) -> usize
 
 /// Takes the places from `begin` to before `end` that are no gaps, as long as there is room.
 fn take_bucket(
-    slots: &[Slot],
+    slots: &[BufferSlot],
     begin: usize,
     end: usize,
     room: usize,
@@ -150,7 +150,7 @@ fn take_bucket(
 /// The places of the updates that the next datagram carries: bucket after bucket, from the last slot
 /// on, as long as there is room.
 fn next_places(
-    slots: &[Slot],
+    slots: &[BufferSlot],
     limit: u32,
     room: usize,
     visits: &mut Visits,
@@ -177,7 +177,7 @@ fn next_places(
 
 /// Puts the updates at these places into an empty list, and counts one more send of each.
 fn send_at(
-    slots: &mut [Slot],
+    slots: &mut [BufferSlot],
     places: &[u16],
     updates: &mut ArrayVec<Update, UPDATES_MAX>,
     visits: &mut Visits,
@@ -201,7 +201,7 @@ fn send_at(
 
 /// Puts the updates that the next datagram carries into an empty list, and counts the send of each.
 pub(crate) fn pick_from(
-    slots: &mut [Slot],
+    slots: &mut [BufferSlot],
     limit: u32,
     room: usize,
     updates: &mut ArrayVec<Update, UPDATES_MAX>,

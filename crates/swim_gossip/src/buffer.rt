@@ -7,7 +7,7 @@ ghost use Rattle.swim_gossip.specs.Buckets.{queue_in};
 ghost use Rattle.swim_wire.specs.declared.datagram.TheConstants.{UPDATES_MAX};
 
 use crate::buckets::pick_from;
-use crate::slots::{HINTS_MAX, SLOTS_MAX, Slot, clear_about, fill, hint_of, put, waiting_in};
+use crate::slots::{BufferSlot, HINTS_MAX, SLOTS_MAX, clear_about, fill, hint_of, put, waiting_in};
 use crate::visits::Visits;
 use arrayvec::ArrayVec;
 use std::marker::Model;
@@ -45,7 +45,7 @@ pub const BUCKETS_MAX: u32 = 144;
 #[derive(Drop)]
 pub struct Buffer {
     /// What waits, and gaps where what waited was removed.
-    slots: ArrayVec<Slot, SLOTS_MAX>,
+    slots: ArrayVec<BufferSlot, SLOTS_MAX>,
     /// How many wait.
     len: usize,
     /// For each member where its update may stand. Members may share a hint, so it is only a hint.
@@ -70,7 +70,7 @@ impl Model for Buffer {
 
 /// Puts the updates that the next datagram carries into an empty list, and counts the send of each.
 fn pick_in(
-    slots: &mut ArrayVec<Slot, SLOTS_MAX>,
+    slots: &mut ArrayVec<BufferSlot, SLOTS_MAX>,
     limit: u32,
     room: usize,
     updates: &mut ArrayVec<Update, UPDATES_MAX>,

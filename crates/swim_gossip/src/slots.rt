@@ -24,7 +24,7 @@ pub(crate) const HINTS_MAX: usize = 1024;
 
 /// The place of an update, or a gap.
 #[derive(Clone, Copy)]
-pub(crate) struct Slot {
+pub(crate) struct BufferSlot {
     /// The update.
     pub(crate) update: Update,
     /// In how many datagrams it was sent since it began to wait.
@@ -33,11 +33,11 @@ pub(crate) struct Slot {
     pub(crate) waits: bool,
 }
 
-impl Default for Slot {
-    fn default() -> Slot
+impl Default for BufferSlot {
+    fn default() -> BufferSlot
         ensures { result ≡ record { update = filler; count = 0; waits = false } }
     {
-        Slot {
+        BufferSlot {
             update: Update::default(),
             count: 0,
             waits: false,
@@ -45,12 +45,12 @@ impl Default for Slot {
     }
 }
 
-impl Slot {
+impl BufferSlot {
     /// A slot in which an update waits that was sent so often.
-    fn new(update: Update, count: u32) -> Slot
+    fn new(update: Update, count: u32) -> BufferSlot
         ensures { result ≡ record { update = update; count = count; waits = true } }
     {
-        Slot {
+        BufferSlot {
             update,
             count,
             waits: true,
@@ -74,7 +74,7 @@ pub(crate) fn hint_of(who: Endpoint) -> usize
 }
 
 /// The place of the update about a member, or how many slots there are. The hint is where it may stand.
-fn place_of(slots: &[Slot], who: Endpoint, hint: usize, visits: &mut Visits) -> usize
+fn place_of(slots: &[BufferSlot], who: Endpoint, hint: usize, visits: &mut Visits) -> usize
     requires few { length slots.now ≤ SLOTS_MAX }
     requires begun { visits.old ≡ 0 }
     ensures found { result < length slots.now → is_slot_of who (at slots.now result) ≡ true }
@@ -96,7 +96,7 @@ fn place_of(slots: &[Slot], who: Endpoint, hint: usize, visits: &mut Visits) -> 
 }
 
 /// Moves those that are no gaps to the front, hints at them, and gives how many they are.
-fn move_together(slots: &mut [Slot], hints: &mut [u16]) -> usize
+fn move_together(slots: &mut [BufferSlot], hints: &mut [u16]) -> usize
     requires few { length slots.old ≤ SLOTS_MAX }
     requires hints { length hints.old ≡ HINTS_MAX }
     ensures front { take result slots.new ≡ filter (λ s. s.waits) slots.old }
@@ -116,7 +116,7 @@ fn move_together(slots: &mut [Slot], hints: &mut [u16]) -> usize
 }
 
 /// Closes the gaps.
-fn close_gaps(slots: &mut ArrayVec<Slot, SLOTS_MAX>, hints: &mut [u16], visits: &mut Visits)
+fn close_gaps(slots: &mut ArrayVec<BufferSlot, SLOTS_MAX>, hints: &mut [u16], visits: &mut Visits)
     requires hints { length hints.old ≡ HINTS_MAX }
     requires few { length (queue_in slots.old.items) ≤ WAITING_MAX }
     requires begun { visits.old ≤ 1000 }
@@ -132,7 +132,7 @@ fn close_gaps(slots: &mut ArrayVec<Slot, SLOTS_MAX>, hints: &mut [u16], visits: 
 }
 
 /// Leaves a gap in the place of the update about a member, and gives how many such places there were.
-fn clear_in(slots: &mut [Slot], who: Endpoint, hint: usize, visits: &mut Visits) -> usize
+fn clear_in(slots: &mut [BufferSlot], who: Endpoint, hint: usize, visits: &mut Visits) -> usize
     requires few { length slots.old ≤ SLOTS_MAX }
     requires apart { AreApart (queue_in slots.old) }
     requires begun { visits.old ≡ 0 }
@@ -151,7 +151,7 @@ fn clear_in(slots: &mut [Slot], who: Endpoint, hint: usize, visits: &mut Visits)
 
 /// The same of the whole list.
 pub(crate) fn clear_about(
-    slots: &mut ArrayVec<Slot, SLOTS_MAX>,
+    slots: &mut ArrayVec<BufferSlot, SLOTS_MAX>,
     who: Endpoint,
     hint: usize,
     visits: &mut Visits,
@@ -168,7 +168,7 @@ pub(crate) fn clear_about(
 
 /// Puts an update into a slot behind all others, with count 0. So many wait before it.
 pub(crate) fn put(
-    slots: &mut ArrayVec<Slot, SLOTS_MAX>,
+    slots: &mut ArrayVec<BufferSlot, SLOTS_MAX>,
     hints: &mut [u16],
     len: usize,
     update: Update,
@@ -188,11 +188,15 @@ pub(crate) fn put(
     }
     visits.look();
     hints[hint_of(update.who)] = slots.len() as u16;
-    slots.push(Slot::new(update, 0));
+    slots.push(BufferSlot::new(update, 0));
 }
 
 /// Puts these updates into slots.
-pub(crate) fn fill(queue: &[Waiting], slots: &mut ArrayVec<Slot, SLOTS_MAX>, hints: &mut [u16])
+pub(crate) fn fill(
+    queue: &[Waiting],
+    slots: &mut ArrayVec<BufferSlot, SLOTS_MAX>,
+    hints: &mut [u16],
+)
     requires few { length queue.now ≤ WAITING_MAX }
     requires empty { slots.old.items ≡ [] }
     requires hints { length hints.old ≡ HINTS_MAX }
@@ -201,12 +205,12 @@ pub(crate) fn fill(queue: &[Waiting], slots: &mut ArrayVec<Slot, SLOTS_MAX>, hin
 {
     for waits in queue {
         hints[hint_of(waits.update.who)] = slots.len() as u16;
-        slots.push(Slot::new(waits.update, waits.count));
+        slots.push(BufferSlot::new(waits.update, waits.count));
     }
 }
 
 /// The updates in slots that are no gaps.
-pub(crate) fn waiting_in(slots: &[Slot]) -> ArrayVec<Waiting, WAITING_MAX>
+pub(crate) fn waiting_in(slots: &[BufferSlot]) -> ArrayVec<Waiting, WAITING_MAX>
     requires { length (queue_in slots.now) ≤ WAITING_MAX }
     ensures { result.items ≡ queue_in slots.now }
 {

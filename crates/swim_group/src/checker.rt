@@ -37,12 +37,12 @@ pub enum CheckFault {
 }
 
 /// The numbers that each member told of itself.
-type Told = BTreeMap<Endpoint, Numbers>;
+type ToldNumbers = BTreeMap<Endpoint, Numbers>;
 
 /// What the members of a group told of themselves so far.
 #[derive(Drop)]
 pub struct Checker {
-    told: Told,
+    told: ToldNumbers,
     alloc: Global,
 }
 
@@ -55,7 +55,7 @@ impl Model for Checker {
 }
 
 /// Whether a member told this number of itself.
-fn has_told(told: &Told, who: Endpoint, number: u64) -> bool
+fn has_told(told: &ToldNumbers, who: Endpoint, number: u64) -> bool
     ensures { IsTrue result ↔ IsRemembered told.now.entries who number }
 {
     let Some(numbers) = told.get(&who) else {
@@ -65,7 +65,7 @@ fn has_told(told: &Told, who: Endpoint, number: u64) -> bool
 }
 
 /// The greatest number that a member told of itself.
-fn greatest_told(told: &Told, who: Endpoint) -> Option<u64>
+fn greatest_told(told: &ToldNumbers, who: Endpoint) -> Option<u64>
     ensures some { IfSome result (λ n. IsRemembered told.now.entries who n
         × ((m : ℕ) → IsRemembered told.now.entries who m → m ≤ n)) }
     ensures none { IfNone result ((n : ℕ) → IsRemembered told.now.entries who n → ⊥) }
@@ -77,7 +77,7 @@ fn greatest_told(told: &Told, who: Endpoint) -> Option<u64>
 }
 
 /// How it breaks the law that this sender says this, if it does.
-fn breach_of(told: &Told, sender: Endpoint, update: &Update) -> Option<Breach>
+fn breach_of(told: &ToldNumbers, sender: Endpoint, update: &Update) -> Option<Breach>
     ensures some { IfSome result (λ breach.
         Breaks (IsRemembered told.now.entries) sender breach update.now) }
     ensures none { IfNone result (MaySay (IsRemembered told.now.entries) sender update.now) }
@@ -99,7 +99,11 @@ fn breach_of(told: &Told, sender: Endpoint, update: &Update) -> Option<Breach>
 }
 
 /// The first of these updates by which this sender breaks the law, if there is one.
-fn first_breach(told: &Told, sender: Endpoint, updates: &[Update]) -> Option<(Update, Breach)>
+fn first_breach(
+    told: &ToldNumbers,
+    sender: Endpoint,
+    updates: &[Update],
+) -> Option<(Update, Breach)>
     ensures some { IfSome result (λ found. Contains updates.now found.0
         × Breaks (IsRemembered told.now.entries) sender found.1 found.0) }
     ensures none { IfNone result
@@ -117,7 +121,7 @@ fn first_breach(told: &Told, sender: Endpoint, updates: &[Update]) -> Option<(Up
 /// Remembers what this sender tells of itself in these updates, each number once. Err: there was no memory, and nothing
 /// more is remembered.
 fn note_all(
-    told: &mut Told,
+    told: &mut ToldNumbers,
     alloc: Global,
     sender: Endpoint,
     updates: &[Update],

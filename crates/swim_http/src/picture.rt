@@ -32,7 +32,7 @@ struct Angle(usize);
 
 /// Where a name stands: how high above the middle before it is turned, and which end of it is there.
 #[derive(Clone, Copy)]
-struct Place {
+struct NamePlace {
     at: u32,
     anchor: &'static str,
 }
@@ -48,7 +48,7 @@ impl Angle {
 
     /// Where the name of a member there stands outside the circle: one beside the circle begins or ends there, and one above or
     /// below has its middle there.
-    fn outside(self) -> Place
+    fn outside(self) -> NamePlace
         ensures { (3 ≤ result.at) × (result.at < 260) }
     {
         let (at, anchor) = match self.0 {
@@ -56,11 +56,11 @@ impl Angle {
             195_000..=345_000 => (118, "end"),
             _ => (104, "middle"),
         };
-        Place { at, anchor }
+        NamePlace { at, anchor }
     }
 
     /// The same inside the larger circle.
-    fn inside(self) -> Place
+    fn inside(self) -> NamePlace
         ensures { (3 ≤ result.at) × (result.at < 260) }
     {
         let (at, anchor) = match self.0 {
@@ -68,7 +68,7 @@ impl Angle {
             210_000..=330_000 => (112, "start"),
             _ => (142, "middle"),
         };
-        Place { at, anchor }
+        NamePlace { at, anchor }
     }
 
     /// Whether a name inside the circle there keeps clear of one that stands there.
@@ -137,12 +137,17 @@ fn write_letter(text: &mut String, row: &Update, angle: Angle, top: u32) -> Resu
 }
 
 /// Adds the name of a member and what its row says, upright and in two lines.
-fn write_name(text: &mut String, row: &Update, angle: Angle, place: Place) -> Result<(), AllocError>
+fn write_name(
+    text: &mut String,
+    row: &Update,
+    angle: Angle,
+    place: NamePlace,
+) -> Result<(), AllocError>
     requires { (3 ≤ place.at) × (place.at < 260) }
 {
     let (host, port) = (Ipv4Addr::from_bits(row.who.address()), row.who.port());
     let state = state_name(row.kind);
-    let Place { at, anchor } = place;
+    let NamePlace { at, anchor } = place;
     let (upper, lower) = (at - 3, at + 15);
     write!(
         text,
@@ -156,7 +161,7 @@ fn write_member(
     row: &Update,
     angle: Angle,
     ring: Ring,
-    name_at: Option<Place>,
+    name_at: Option<NamePlace>,
 ) -> Result<(), AllocError>
     requires top { ring.top ≤ 140 }
     requires place { IfSome name_at (λ place. (3 ≤ place.at) × (place.at < 260)) }
@@ -190,7 +195,7 @@ fn write_named(text: &mut String, rows: &[Update], ring: Ring) -> Result<(), All
 }
 
 /// Where the name of a member stands in the larger circle: none of one that is alive, and of one that is too near to the one named last.
-fn name_of(row: &Update, angle: Angle, named: Option<Angle>) -> Option<Place>
+fn name_of(row: &Update, angle: Angle, named: Option<Angle>) -> Option<NamePlace>
     ensures { IfSome result (λ place. (3 ≤ place.at) × (place.at < 260)) }
 {
     let is_clear = match named {

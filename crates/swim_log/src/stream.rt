@@ -18,14 +18,14 @@ const WATCHED: Token = Token(0);
 
 /// What tells whether standard error takes a line at once.
 #[derive(Drop)]
-struct Watch {
+struct StreamWatch {
     poll: Poll,
     changes: Events<Global>,
 }
 
-impl Watch {
+impl StreamWatch {
     /// A watch of standard error; none where it cannot be watched, as a file, which takes each line.
-    fn new<R: Net + AllocGlobal>(rt: &R) -> Option<Watch> {
+    fn new<R: Net + AllocGlobal>(rt: &R) -> Option<StreamWatch> {
         let poll = Poll::new(rt).ok()?;
         let changes = Events::with_capacity(rt.alloc(), 1).ok()?;
         let mut stream = SourceFd(&STANDARD_ERROR);
@@ -33,7 +33,7 @@ impl Watch {
             .registry()
             .register(&mut stream, WATCHED, Interest::WRITABLE);
         registered.ok()?;
-        Some(Watch { poll, changes })
+        Some(StreamWatch { poll, changes })
     }
 
     /// Whether a line would be taken at once. Watched anew, a stream that takes one says so again.
@@ -49,7 +49,7 @@ impl Watch {
 /// The log's stream while a line is written.
 #[derive(Drop)]
 pub(crate) struct Stream {
-    watch: Option<Watch>,
+    watch: Option<StreamWatch>,
     /// How many lines were left out since the last one that was written.
     pub(crate) left_out: u64,
 }
@@ -84,7 +84,7 @@ impl LogStream {
     pub fn new<R: Net + AllocGlobal>(rt: &R) -> LogStream {
         LogStream {
             stream: Mutex::new(Stream {
-                watch: Watch::new(rt),
+                watch: StreamWatch::new(rt),
                 left_out: 0,
             }),
         }

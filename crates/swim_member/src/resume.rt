@@ -16,7 +16,7 @@ use crate::member::{Member, RELAYS_MAX};
 use crate::settings::Settings;
 use crate::state::{Joining, Phase, Probe, Relay};
 use crate::tick::LAST_TIME;
-use crate::turn::Turn;
+use crate::turn::TurnList;
 use arrayvec::ArrayVec;
 use std::marker::Model;
 use std::{error, fmt};
@@ -473,7 +473,7 @@ impl Member {
             probe: state.probe,
             relays: state.relays,
             joining: state.joining,
-            turn: Turn::with_list(state.listed, state.place),
+            turn: TurnList::with_list(state.listed, state.place),
         };
         Ok(member)
     }

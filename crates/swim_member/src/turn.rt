@@ -17,16 +17,16 @@ use swim_wire::{Endpoint, copied};
 
 /// The turn list, and how far the probing is in it.
 #[derive(Drop)]
-pub(crate) struct Turn {
+pub(crate) struct TurnList {
     listed: ArrayVec<Endpoint, ROWS_MAX>,
     /// How many of them were probed or passed over.
     place: usize,
 }
 
-impl Model for Turn {
-    ghost use Rattle.swim_member.specs.Machinery.Turns.{TurnList, IsTurn};
+impl Model for TurnList {
+    ghost use Rattle.swim_member.specs.Machinery.Turns.{TurnListView, IsTurn};
 
-    ghost Value = { TurnList };
+    ghost Value = { TurnListView };
 
     ghost view = { λ t. record { listed = t.listed.items; place = t.place } };
 
@@ -73,12 +73,12 @@ fn deal_out(names: &[Endpoint], deal: &Deal) -> ArrayVec<Endpoint, ROWS_MAX>
     listed
 }
 
-impl Turn {
-    /// A turn whose list is empty.
-    pub(crate) fn new() -> Turn
+impl TurnList {
+    /// A turn list that is empty.
+    pub(crate) fn new() -> TurnList
         ensures { result ≡ record { listed = []; place = 0 } }
     {
-        Turn {
+        TurnList {
             listed: ArrayVec::new(),
             place: 0,
         }
@@ -92,12 +92,12 @@ impl Turn {
         let _ = &self.listed;
     }
 
-    /// A turn that has come to this place of a list.
-    pub(crate) fn with_list(listed: ArrayVec<Endpoint, ROWS_MAX>, place: usize) -> Turn
+    /// A turn list that has come to this place of these members.
+    pub(crate) fn with_list(listed: ArrayVec<Endpoint, ROWS_MAX>, place: usize) -> TurnList
         requires { IsTurn listed.items place }
         ensures { result ≡ record { listed = listed.items; place = place } }
     {
-        Turn { listed, place }
+        TurnList { listed, place }
     }
 
     /// A copy of the turn list.

@@ -11,7 +11,7 @@ use Rattle.std.specs.declared.net.socket_addr.SocketAddr.{SocketAddr}
 use Rattle.std.specs.declared.net.socket_addr.SocketAddr.TheVariants.{V4, V6}
 use Rattle.arrayvec.specs.ArrayVec.{ArrayVec}
 use Rattle.swim_shell.specs.Inbounds.{Came, Nothing, came_of}
-use Rattle.swim_net.specs.declared.udp.Answer.{Answer}
+use Rattle.swim_net.specs.declared.udp.ReceiveAnswer.{ReceiveAnswer}
 use Rattle.swim_net.specs.declared.udp.Went.{Went}
 use Rattle.swim_net.specs.declared.udp.Went.TheVariants as went
 
@@ -27,7 +27,7 @@ came_by (from ∷ _) (bytes ∷ _) = came_of from bytes.items
 came_by _ _ = Nothing
 
 -- what these answers say, in order
-abbrev pub came_in : List Answer → List Came
+abbrev pub came_in : List ReceiveAnswer → List Came
 came_in [] = []
 came_in (a ∷ answers) = came_by a.from a.bytes ∷ came_in answers
 

@@ -7,7 +7,7 @@ use Rattle.std.specs.declared.io.ErrorKind.TheVariants as kinds
 use Rattle.std.specs.declared.net.socket_addr.SocketAddr.{SocketAddr}
 use Rattle.swim_shell.specs.Inbounds.{Came, Received, Nothing, Failed}
 use Rattle.swim_net.specs.Datagrams.{IsEndpointAt, MayRetry, brings_nothing, went_by}
-use Rattle.swim_net.specs.declared.socket.Outgoing.{Outgoing}
+use Rattle.swim_net.specs.declared.socket.OutgoingDatagram.{OutgoingDatagram}
 use Rattle.swim_net.specs.declared.udp.UdpInbound.{UdpInbound}
 use Rattle.swim_net.specs.declared.udp.UdpLink.{UdpLink}
 use Rattle.swim_net.specs.declared.udp.Went.TheVariants as went
@@ -18,7 +18,7 @@ Receive = List ℕ × Result (ℕ × SocketAddr) Error
 
 -- what was to go out by a send, and what the socket answered
 abbrev pub Send : Type 0
-Send = Outgoing × Result ℕ Error
+Send = OutgoingDatagram × Result ℕ Error
 
 abbrev pub receives_of : {C : Type 0} → UdpInbound C → List Receive
 receives_of inbound = inbound.socket.answers.items

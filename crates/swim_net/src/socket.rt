@@ -20,7 +20,7 @@ pub(crate) struct ReceivingSocket {
 
 /// A datagram that was to go out.
 #[derive(Drop)]
-pub(crate) struct Outgoing {
+pub(crate) struct OutgoingDatagram {
     to: SocketAddr,
     bytes: Trace<u8>,
 }
@@ -30,7 +30,7 @@ pub(crate) struct Outgoing {
 pub(crate) struct SendingSocket {
     socket: UdpSocket,
     /// What was to go out by each send, and what was answered.
-    pub(crate) answers: Pairs<Outgoing, io::Result<usize>>,
+    pub(crate) answers: Pairs<OutgoingDatagram, io::Result<usize>>,
 }
 
 impl ReceivingSocket {
@@ -69,7 +69,7 @@ impl SendingSocket {
     {
         let answer = self.socket.send_to(bytes, to);
         let bytes = Trace::of(bytes);
-        self.answers = self.answers.and(&Outgoing { to, bytes }, &answer);
+        self.answers = self.answers.and(&OutgoingDatagram { to, bytes }, &answer);
         answer
     }
 }

@@ -141,7 +141,7 @@ impl<'a, C: Clock + Log> Link for UdpLink<'a, C> {
 
 /// One answer of a socket, which only proofs read: each of its traces has one entry.
 #[derive(Drop)]
-struct Answer {
+struct ReceiveAnswer {
     from: Trace<Result<Option<Endpoint>, ReceiveFault>>,
     bytes: Trace<ArrayVec<u8, RECEIVED_MAX>>,
 }
@@ -154,7 +154,7 @@ pub struct UdpInbound<'a, C: Clock> {
     waits: Waits,
     clock: &'a C,
     wait: Duration,
-    answers: Trace<Answer>,
+    answers: Trace<ReceiveAnswer>,
 }
 
 /// Whether a receive that ended so brought nothing, and did not fail: nothing had come in the waiting time, a signal cut it
@@ -223,7 +223,7 @@ impl<'a, C: Clock> UdpInbound<'a, C> {
         ensures socket { receives_of self.new ≡ receives_of self.old }
     {
         let taken = take(received, bytes, into);
-        self.answers = self.answers.and(&Answer {
+        self.answers = self.answers.and(&ReceiveAnswer {
             from: Trace::new().and(&taken),
             bytes: Trace::new().and(into),
         });

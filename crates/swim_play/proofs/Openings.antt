@@ -26,9 +26,9 @@ use Rattle.swim_node.specs.Node.{owner_of}
 use Rattle.swim_script.specs.declared.command.Command.TheVariants.{Init, Start, Crash, Overwrite, KeepPeers}
 use Rattle.swim_script.specs.declared.patch.Patch.{Patch}
 use Rattle.swim_script.specs.declared.first.FirstNumber.{FirstNumber}
-use Rattle.swim_play.specs.declared.session.Opening.{Opening}
-use Rattle.swim_play.specs.declared.session.Opening.TheVariants.{Begun, Refused}
-use Rattle.swim_play.specs.declared.session.Refusal.TheVariants as refusal
+use Rattle.swim_play.specs.declared.session.OpeningOutcome.{OpeningOutcome}
+use Rattle.swim_play.specs.declared.session.OpeningOutcome.TheVariants.{Begun, Refused}
+use Rattle.swim_play.specs.declared.session.OpeningRefusal.TheVariants as refusal
 use Rattle.swim_play.specs.Life.{PlayDisk, disk_state, Adds, IsDeclined}
 use Rattle.swim_play.specs.Play.{Playing, ScriptedLife, Becomes, IfClosed, IfOpen, IfDisk, IsMade, with_disk, IsCrashed, IsOpening, IsRefused, ComesAfterLives, Opens, Starts, CanOpen, with_life, with_life_ended, ended_with, asked_of, event_of, with_left, with_new_era, WritesState, Does}
 use Rattle.swim_play.specs.Machinery.Session.{IsAnswered, events_in}
@@ -69,7 +69,7 @@ module _ (p q : Playing) (owner : Owner) (disk : PlayDisk) (answer : Result (Uni
   start-unmade first ceiling fault below is_made refused is = starts first ceiling below is_made (rw refused tt) (rw refused is)
 
   -- there is one, and an opening follows
-  pub start-opens : (first : FirstNumber) (ceiling : ℕ) (done : Unit {0}) (m : Playing) (opening : Opening) → ceiling ≡ first.value - 1 → IsMade owner ceiling disk answer → answer ≡ Ok done → m ≡ with_disk disk p
+  pub start-opens : (first : FirstNumber) (ceiling : ℕ) (done : Unit {0}) (m : Playing) (opening : OpeningOutcome) → ceiling ≡ first.value - 1 → IsMade owner ceiling disk answer → answer ≡ Ok done → m ≡ with_disk disk p
       → IfDisk m.disk m q (λ disk. IsOpening disk opening m q) → Does p (Start first) q
   start-opens first ceiling done m opening below is_made made_it is opens =
       starts first ceiling below is_made (rw made_it (opening, subst (λ (m : Playing). IfDisk m.disk m q (λ disk. IsOpening disk opening m q)) is opens)) (rw made_it tt)
@@ -120,12 +120,12 @@ module _ (p q : Playing) (old new : PlayDisk) (at : p.disk ≡ Some old) where
   pub opening-begun : (first : ℕ) → CanOpen p.setup → shown (owner_of p.setup.settings) (disk_state old).content ≡ None → first ≡ floor (disk_state old).content + 1 → q ≡ with_life old first new p → IfDisk p.disk p q (λ disk. IsOpening disk (Begun first) p q)
   opening-begun first can sound next is = if-disk p q old (λ disk. IsOpening disk (Begun first) p q) at (record { can = can; sound = sound; next = next; disk = new; is = is })
 
-  refused-as : (fault : OpenFault) (opening : Opening) → opening ≡ Refused (refusal.Open fault) → IsRefused p.setup old (refusal.Open fault) new → (p.apart ≡ false → 0 < length p.lives → ComesAfterLives (refusal.Open fault)) → q ≡ record p { disk = Some new } → IfDisk p.disk p q (λ disk. IsOpening disk opening p q)
+  refused-as : (fault : OpenFault) (opening : OpeningOutcome) → opening ≡ Refused (refusal.Open fault) → IsRefused p.setup old (refusal.Open fault) new → (p.apart ≡ false → 0 < length p.lives → ComesAfterLives (refusal.Open fault)) → q ≡ record p { disk = Some new } → IfDisk p.disk p q (λ disk. IsOpening disk opening p q)
   refused-as fault opening same shows lived is =
-      if-disk p q old (λ disk. IsOpening disk opening p q) at (subst (λ (o : Opening). IsOpening old o p q) (sym same) (record { disk = new; cause = shows; lived = lived; is = is }))
+      if-disk p q old (λ disk. IsOpening disk opening p q) at (subst (λ (o : OpeningOutcome). IsOpening old o p q) (sym same) (record { disk = new; cause = shows; lived = lived; is = is }))
 
   -- the node did not open
-  pub opening-refused : {E : Type 0} (fault : OpenFault) (result : Result Opening E) → (fault ≢ NoMemory → IsRefused p.setup old (refusal.Open fault) new) → (p.apart ≡ false → 0 < length p.lives → ComesAfterLives (refusal.Open fault)) → q ≡ record p { disk = Some new } → IfOk result (λ opening. opening ≡ Refused (refusal.Open fault)) → OnOk result (fault ≢ NoMemory) → IfOk result (λ opening. IfDisk p.disk p q (λ disk. IsOpening disk opening p q))
+  pub opening-refused : {E : Type 0} (fault : OpenFault) (result : Result OpeningOutcome E) → (fault ≢ NoMemory → IsRefused p.setup old (refusal.Open fault) new) → (p.apart ≡ false → 0 < length p.lives → ComesAfterLives (refusal.Open fault)) → q ≡ record p { disk = Some new } → IfOk result (λ opening. opening ≡ Refused (refusal.Open fault)) → OnOk result (fault ≢ NoMemory) → IfOk result (λ opening. IfDisk p.disk p q (λ disk. IsOpening disk opening p q))
   opening-refused fault (Ok opening) shows lived is same room = refused-as fault opening same (shows room) lived is
   opening-refused fault (Err error) shows lived is same room = tt
 

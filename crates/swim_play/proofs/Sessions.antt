@@ -9,8 +9,8 @@ use Rattle.swim_node.specs.Lives.{Life, IsLived}
 use Rattle.swim_node.specs.Node.{owner_of}
 use Rattle.swim_script.specs.declared.command.Command.{Command}
 use Rattle.swim_play.specs.declared.session.Run.{Run}
-use Rattle.swim_play.specs.declared.session.Stage.{Stage}
-use Rattle.swim_play.specs.declared.session.Stage.TheVariants.{Bare, Idle, Open}
+use Rattle.swim_play.specs.declared.session.SessionStage.{SessionStage}
+use Rattle.swim_play.specs.declared.session.SessionStage.TheVariants.{Bare, Idle, Open}
 use Rattle.swim_play.specs.Life.{PlayDisk, disk_state, IsOfOne, Spares, AreOnOneDisk}
 use Rattle.swim_play.specs.Machinery.Session.{Leads, IsSession}
 use Rattle.swim_play.specs.Play.{Playing, ScriptedLife, Scene, IsRun, Shows, Plays, kept_by, with_life_ended, ended_with}
@@ -18,7 +18,7 @@ use Rattle.swim_play.proofs.Lives.{leads-held, leads-none, leads-spared, leads-c
 use Rattle.swim_play.proofs.Openings.{ended-disk}
 
 -- the lives since the last other disk or owner are of one owner on one disk
-pub session-run : (owner : Owner) (apart : Bool) (runs : List Run) (lives : List (Life PlayDisk)) (stage : Stage) → IsSession owner apart runs lives stage → AreOnOneDisk lives
+pub session-run : (owner : Owner) (apart : Bool) (runs : List Run) (lives : List (Life PlayDisk)) (stage : SessionStage) → IsSession owner apart runs lives stage → AreOnOneDisk lives
 session-run owner apart runs lives Bare h = rw h.now (record { owner = owner; lives_are = tt {0}; mine = All-nil IsOfOne })
 session-run owner true runs lives (Idle disk) h = h.now
 session-run owner false runs lives (Idle disk) h = on_one_disk owner lives disk h.now
@@ -30,13 +30,13 @@ session-held owner true runs lives d h same some = absurd (cc)
 session-held owner false runs lives d h same some = leads-held owner lives d h.now some
 
 module _ (owner : Owner) (runs : List Run) (lives : List (Life PlayDisk)) where
-  pub session-named : (next : Owner) (apart : Bool) (stage : Stage) → IsSession owner apart runs lives stage → IsSession next true runs lives stage
+  pub session-named : (next : Owner) (apart : Bool) (stage : SessionStage) → IsSession owner apart runs lives stage → IsSession next true runs lives stage
   session-named next apart Bare h = record { ended = h.ended; now = h.now }
   session-named next true (Idle disk) h = record { ended = h.ended; now = h.now }
   session-named next false (Idle disk) h = record { ended = h.ended; now = on_one_disk owner lives disk h.now }
   session-named next apart (Open life) h = record { ended = h.ended; now = (h.now.0, λ never. absurd (cc)) }
 
-  pub session-put : (apart : Bool) (stage : Stage) (disk : PlayDisk) → IsSession owner apart runs lives stage → IsSession owner true runs lives (Idle disk)
+  pub session-put : (apart : Bool) (stage : SessionStage) (disk : PlayDisk) → IsSession owner apart runs lives stage → IsSession owner true runs lives (Idle disk)
   session-put apart stage disk h = record { ended = h.ended; now = session-run owner apart runs lives stage h }
 
   pub session-crashed : (apart : Bool) (d e : PlayDisk) → IsSession owner apart runs lives (Idle d) → (disk_state d).images (disk_state e).content → IsSettled (disk_state e) → IsSession owner apart runs lives (Idle e)

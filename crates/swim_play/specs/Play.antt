@@ -33,10 +33,10 @@ use Rattle.swim_script.specs.declared.command.Failure.TheVariants as failure
 use Rattle.swim_script.specs.declared.command.Setting.{Setting}
 use Rattle.swim_script.specs.declared.command.Setting.TheVariants as setting
 use Rattle.swim_play.specs.declared.setup.Setup.{Setup}
-use Rattle.swim_play.specs.declared.session.Opening.{Opening}
-use Rattle.swim_play.specs.declared.session.Opening.TheVariants.{Begun, Refused}
-use Rattle.swim_play.specs.declared.session.Refusal.{Refusal}
-use Rattle.swim_play.specs.declared.session.Refusal.TheVariants as refusal
+use Rattle.swim_play.specs.declared.session.OpeningOutcome.{OpeningOutcome}
+use Rattle.swim_play.specs.declared.session.OpeningOutcome.TheVariants.{Begun, Refused}
+use Rattle.swim_play.specs.declared.session.OpeningRefusal.{OpeningRefusal}
+use Rattle.swim_play.specs.declared.session.OpeningRefusal.TheVariants as refusal
 use Rattle.swim_play.specs.declared.session.Run.{Run}
 use Rattle.swim_play.specs.Life.{PlayDisk, disk_state, AreOnOneDisk}
 use Rattle.swim_wire.specs.declared.update.TheConstants.{NUMBER_MAX}
@@ -184,7 +184,7 @@ pub record Begins (old : PlayDisk) (first : ℕ) (p q : Playing) : Type 0 where
 
 -- when an opening is refused, and what that leaves of
 -- the disk; where memory is wanting the script ends
-abbrev pub IsRefused : Setup → PlayDisk → Refusal → PlayDisk → Type 0
+abbrev pub IsRefused : Setup → PlayDisk → OpeningRefusal → PlayDisk → Type 0
 IsRefused s old (refusal.Settings fault) new = (fault_of s.settings ≡ Some fault) × (new ≡ old)
 IsRefused s old (refusal.Open node.Limit) new =
     ((s.limit ≡ 0) ⊎ (LIMIT_MAX < s.limit)) × (new ≡ old)
@@ -197,7 +197,7 @@ IsRefused s old (refusal.Open (node.Refused fault)) new =
 
 -- what may refuse an opening after lives of this owner on this
 -- disk: the setup, a failed call, or that no number is left
-abbrev pub ComesAfterLives : Refusal → Type 0
+abbrev pub ComesAfterLives : OpeningRefusal → Type 0
 ComesAfterLives (refusal.Settings fault) = Unit {0}
 ComesAfterLives (refusal.Open node.Limit) = Unit {0}
 ComesAfterLives (refusal.Open node.NoMemory) = Unit {0}
@@ -206,20 +206,20 @@ ComesAfterLives (refusal.Open (node.Refused recover.Exhausted)) = Unit {0}
 ComesAfterLives (refusal.Open (node.Refused fault)) = ⊥
 
 -- an opening on this disk is refused
-pub record Refuses (old : PlayDisk) (refusal : Refusal) (p q : Playing) : Type 0 where
+pub record Refuses (old : PlayDisk) (refusal : OpeningRefusal) (p q : Playing) : Type 0 where
   pub disk : PlayDisk
   pub cause : IsRefused p.setup old refusal disk
   pub lived : p.apart ≡ false → 0 < length p.lives → ComesAfterLives refusal
   pub is : q ≡ record p { disk = Some disk }
 
 -- what comes of an opening on this disk
-abbrev pub IsOpening : PlayDisk → Opening → Playing → Playing → Type 0
+abbrev pub IsOpening : PlayDisk → OpeningOutcome → Playing → Playing → Type 0
 IsOpening disk (Begun first) p q = Begins disk first p q
 IsOpening disk (Refused refusal) p q = Refuses disk refusal p q
 
 -- a life is opened on this disk, or refused
 abbrev pub Opens : PlayDisk → Playing → Playing → Type 0
-Opens disk p q = (opening : Opening) × IsOpening disk opening p q
+Opens disk p q = (opening : OpeningOutcome) × IsOpening disk opening p q
 
 -- there is a new disk with a state file below this number, and a life begins
 -- with it, or is refused; where there is no state file nothing is opened

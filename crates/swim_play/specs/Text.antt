@@ -9,8 +9,8 @@ use Rattle.swim_node.specs.declared.entry.Save.{Save}
 use Rattle.swim_node.specs.declared.entry.Save.TheVariants.{Kept, Done, Failed}
 use Rattle.swim_node.specs.declared.entry.Status.{Status}
 use Rattle.swim_member.specs.Texts.{phase_word}
-use Rattle.swim_play.specs.declared.session.Refusal.{Refusal}
-use Rattle.swim_play.specs.declared.session.Refusal.TheVariants.{Settings, Open}
+use Rattle.swim_play.specs.declared.session.OpeningRefusal.{OpeningRefusal}
+use Rattle.swim_play.specs.declared.session.OpeningRefusal.TheVariants.{Settings, Open}
 
 -- the word of a transcript for what became of a save
 abbrev pub save_word : Save → List ℕ
@@ -30,6 +30,6 @@ event_text status save =
     ++ decimal status.number ++ codes " phase " ++ phase_word status.phase
 
 -- the line of a refused opening, without its end
-abbrev pub refusal_text : Refusal → List ℕ
+abbrev pub refusal_text : OpeningRefusal → List ℕ
 refusal_text (Settings fault) = codes "settings refused " ++ setting_text fault
 refusal_text (Open fault) = codes "open refused " ++ text_of_open fault

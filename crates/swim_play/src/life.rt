@@ -15,7 +15,7 @@ ghost use Rattle.swim_node.specs.Peers.{known_peers};
 ghost use Rattle.swim_node.specs.Sending.{HasTexts};
 ghost use Rattle.swim_node.specs.declared.entry.Entry.{Entry as Entries};
 ghost use Rattle.swim_node.specs.declared.fault.OpenFault.TheVariants as faults;
-ghost use Rattle.swim_play.specs.declared.session.Refusal.TheVariants as refusals;
+ghost use Rattle.swim_play.specs.declared.session.OpeningRefusal.TheVariants as refusals;
 ghost use Rattle.swim_play.specs.Life.{disk_state, IsOfOne, Spares, Adds, IsDeclined, era_now};
 ghost use Rattle.swim_play.specs.Play.{IsRefused};
 

@@ -30,21 +30,21 @@ pub struct Transcript {
 
 /// A new disk, the plan of what it is to fail, and what came of making a state file there.
 #[derive(Drop)]
-struct Made {
+struct MadeDisk {
     disk: PlayDisk,
     plan: Plan,
     answer: Result<(), InitFault>,
 }
 
 /// A new disk with a state file of this ceiling.
-fn make_disk(alloc: Global, owner: Owner, ceiling: u64) -> Result<Made, AllocError>
+fn make_disk(alloc: Global, owner: Owner, ceiling: u64) -> Result<MadeDisk, AllocError>
     ensures { IfOk result (λ made. IsMade owner ceiling made.disk made.answer) }
 {
     let Ok((mut disk, plan)) = FaultDisk::new(alloc, MemDisk::new(alloc, 0, Vec::new(alloc))) else {
         return Err(AllocError);
     };
     let answer = init(&mut disk, owner, ceiling);
-    Ok(Made { disk, plan, answer })
+    Ok(MadeDisk { disk, plan, answer })
 }
 
 /// Plans a failure of the link.

@@ -31,7 +31,7 @@ pub struct Run {
 
 /// What there is now.
 #[derive(Drop)]
-pub(crate) enum Stage {
+pub(crate) enum SessionStage {
     /// No disk.
     Bare,
     /// A disk, and no member.
@@ -42,14 +42,14 @@ pub(crate) enum Stage {
 
 /// Why an opening was refused. It prints the line of a transcript.
 #[derive(Clone, Copy, Debug, PartialEq, Eq)]
-pub(crate) enum Refusal {
+pub(crate) enum OpeningRefusal {
     /// The settings were not sound.
     Settings(SettingsFault),
     /// The node was not opened.
     Open(OpenFault),
 }
 
-impl fmt::Display for Refusal {
+impl fmt::Display for OpeningRefusal {
     ghost use Rattle.std.specs.Prelude.{Some};
     ghost use Rattle.swim_play.specs.Text.{refusal_text};
 
@@ -57,19 +57,19 @@ impl fmt::Display for Refusal {
 
     fn fmt<W: fmt::Write>(&self, f: &mut fmt::Formatter<W>) -> fmt::Result {
         match self {
-            Refusal::Settings(fault) => write!(f, "settings refused {fault}"),
-            Refusal::Open(fault) => write!(f, "open refused {fault}"),
+            OpeningRefusal::Settings(fault) => write!(f, "settings refused {fault}"),
+            OpeningRefusal::Open(fault) => write!(f, "open refused {fault}"),
         }
     }
 }
 
 /// What came of an opening.
 #[derive(Clone, Copy, Debug, PartialEq, Eq)]
-pub(crate) enum Opening {
+pub(crate) enum OpeningOutcome {
     /// A life began with this number.
     Begun(u64),
     /// Nothing was opened.
-    Refused(Refusal),
+    Refused(OpeningRefusal),
 }
 
 /// The setup of the next opening, what there is now, and the lives that ended before.
@@ -79,7 +79,7 @@ pub(crate) struct Session {
     apart: bool,
     runs: Vec<Run>,
     lives: Vec<Life>,
-    stage: Stage,
+    stage: SessionStage,
 }
 
 impl Model for Session {
@@ -130,13 +130,14 @@ fn crash_disk(alloc: Global, disk: &mut PlayDisk, choice: Choice)
 }
 
 /// What an opening that the node refused comes to: want of memory is the whole script's.
-fn refused(fault: OpenFault) -> Result<Opening, AllocError>
-    ensures ok { IfOk result (λ opening. opening ≡ Opening.Refused (Refusal.Open fault)) }
+fn refused(fault: OpenFault) -> Result<OpeningOutcome, AllocError>
+    ensures ok { IfOk result (λ opening. opening
+        ≡ OpeningOutcome.Refused (OpeningRefusal.Open fault)) }
     ensures memory { OnOk result (fault ≢ OpenFault.NoMemory) }
 {
     match fault {
         OpenFault::NoMemory => Err(AllocError),
-        _ => Ok(Opening::Refused(Refusal::Open(fault))),
+        _ => Ok(OpeningOutcome::Refused(OpeningRefusal::Open(fault))),
     }
 }
 
@@ -150,7 +151,7 @@ impl Session {
             apart: false,
             runs: Vec::new(alloc),
             lives: Vec::new(alloc),
-            stage: Stage::Bare,
+            stage: SessionStage::Bare,
         }
     }
 
@@ -192,14 +193,14 @@ impl Session {
     pub(crate) fn is_open(&self) -> bool
         ensures { result ≡ is_some self.now.life }
     {
-        matches!(self.stage, Stage::Open(_))
+        matches!(self.stage, SessionStage::Open(_))
     }
 
     /// Whether there is a disk.
     pub(crate) fn has_disk(&self) -> bool
         ensures { result ≡ is_some self.now.disk }
     {
-        !matches!(self.stage, Stage::Bare)
+        !matches!(self.stage, SessionStage::Bare)
     }
 
     /// The disk, if there is one.
@@ -208,9 +209,9 @@ impl Session {
         ensures none { result ≡ None → self.now.disk ≡ None }
     {
         match &self.stage {
-            Stage::Bare => None,
-            Stage::Idle(disk) => Some(disk),
-            Stage::Open(living) => Some(living.disk()),
+            SessionStage::Bare => None,
+            SessionStage::Idle(disk) => Some(disk),
+            SessionStage::Open(living) => Some(living.disk()),
         }
     }
 
@@ -235,7 +236,7 @@ impl Session {
         ensures none { result ≡ None → events_in self.now.life ≡ [] }
     {
         match &self.stage {
-            Stage::Open(living) => living.last(),
+            SessionStage::Open(living) => living.last(),
             _ => None,
         }
     }
@@ -246,21 +247,21 @@ impl Session {
         ensures { self.new ≡ with_disk disk self.old }
     {
         self.apart = true;
-        self.stage = Stage::Idle(disk);
+        self.stage = SessionStage::Idle(disk);
     }
 
     /// Opens a member on the disk, if its settings are sound. Err: the node, or the list of runs, found no memory.
-    pub(crate) fn open(&mut self, alloc: Global) -> Result<Opening, AllocError>
+    pub(crate) fn open(&mut self, alloc: Global) -> Result<OpeningOutcome, AllocError>
         requires closed { is_some self.old.life ≡ false }
         requires disk { is_some self.old.disk ≡ true }
         ensures { IfOk result (λ opening. IfDisk self.old.disk self.old self.new
             (λ disk. IsOpening disk opening self.old self.new)) }
     {
         if let Err(fault) = self.setup.settings.check() {
-            return Ok(Opening::Refused(Refusal::Settings(fault)));
+            return Ok(OpeningOutcome::Refused(OpeningRefusal::Settings(fault)));
         }
         self.runs.reserve(1)?;
-        let Stage::Idle(disk) = mem::replace(&mut self.stage, Stage::Bare) else {
+        let SessionStage::Idle(disk) = mem::replace(&mut self.stage, SessionStage::Bare) else {
             unreachable!()
         };
         match OpenLife::open(alloc, disk, self.setup) {
@@ -270,11 +271,11 @@ impl Session {
                     close_run(&mut self.runs, &mut self.lives);
                 }
                 self.apart = false;
-                self.stage = Stage::Open(living);
-                Ok(Opening::Begun(first))
+                self.stage = SessionStage::Open(living);
+                Ok(OpeningOutcome::Begun(first))
             }
             Err((disk, fault)) => {
-                self.stage = Stage::Idle(disk);
+                self.stage = SessionStage::Idle(disk);
                 refused(fault)
             }
         }
@@ -286,7 +287,7 @@ impl Session {
         ensures { IsAnswered event self.old.life self.old self.new result }
     {
         match &mut self.stage {
-            Stage::Open(living) => living.happen(link, event),
+            SessionStage::Open(living) => living.happen(link, event),
             _ => unreachable!(),
         }
     }
@@ -297,7 +298,7 @@ impl Session {
         ensures { OnOk result (self.new ≡ record self.old { life = with_new_era self.old.life }) }
     {
         match &mut self.stage {
-            Stage::Open(living) => living.rebase(),
+            SessionStage::Open(living) => living.rebase(),
             _ => unreachable!(),
         }
     }
@@ -309,7 +310,7 @@ impl Session {
         ensures { WritesState self.old self.new }
     {
         match &mut self.stage {
-            Stage::Open(living) => living.keep_peers(),
+            SessionStage::Open(living) => living.keep_peers(),
             _ => unreachable!(),
         }
     }
@@ -319,7 +320,7 @@ impl Session {
         ensures none { result ≡ None → self.now.life ≡ None }
     {
         match &self.stage {
-            Stage::Open(living) => Some(living.peers()),
+            SessionStage::Open(living) => Some(living.peers()),
             _ => None,
         }
     }
@@ -332,12 +333,12 @@ impl Session {
         ensures disk { OnOk result (is_some self.new.disk ≡ true) }
     {
         self.lives.reserve(1)?;
-        let Stage::Open(living) = mem::replace(&mut self.stage, Stage::Bare) else {
+        let SessionStage::Open(living) = mem::replace(&mut self.stage, SessionStage::Bare) else {
             unreachable!()
         };
         let (life, disk) = living.end();
         self.lives.push_reserved(life);
-        self.stage = Stage::Idle(disk);
+        self.stage = SessionStage::Idle(disk);
         Ok(())
     }
 
@@ -349,7 +350,7 @@ impl Session {
             (λ disk. Becomes (IsCrashed choice disk) self.old self.new) }
     {
         match &mut self.stage {
-            Stage::Idle(disk) => crash_disk(alloc, disk, choice),
+            SessionStage::Idle(disk) => crash_disk(alloc, disk, choice),
             _ => unreachable!(),
         }
     }
@@ -363,7 +364,7 @@ impl Session {
             (inner_of disk) (inner_of new)) (record self.old { apart = true }) self.new)) }
     {
         match &mut self.stage {
-            Stage::Idle(disk) => {
+            SessionStage::Idle(disk) => {
                 let inner = patch.over(disk.inner())?;
                 disk.replace(inner);
                 self.apart = true;

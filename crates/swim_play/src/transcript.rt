@@ -5,7 +5,7 @@ ghost use Rattle.swim_wire.specs.Spelling.{HasText};
 ghost use Rattle.swim_node.specs.Sending.{HasTexts};
 ghost use Rattle.swim_play.specs.Text.{outcome_word, save_word};
 
-use crate::session::Opening;
+use crate::session::OpeningOutcome;
 use std::alloc::{AllocError, Global};
 use std::fmt;
 use std::fmt::Write;
@@ -112,11 +112,11 @@ pub(crate) fn write_entry(alloc: Global, text: &mut String, entry: &Entry) -> Re
 pub(crate) fn write_opening(
     text: &mut String,
     word: &str,
-    opening: Opening,
+    opening: OpeningOutcome,
 ) -> Result<(), AllocError> {
     match opening {
-        Opening::Begun(number) => writeln!(text, "{word} ok number {number}"),
-        Opening::Refused(refusal) => writeln!(text, "{refusal}"),
+        OpeningOutcome::Begun(number) => writeln!(text, "{word} ok number {number}"),
+        OpeningOutcome::Refused(refusal) => writeln!(text, "{refusal}"),
     }
 }
 

@@ -77,7 +77,7 @@ fn enter(era: &mut Replay, met: &Met, event: Event) -> Result<(), RecordingReaso
 
 /// What is to be read next: the text that is left, the ceiling that stood last, and the number of the next line.
 #[derive(Clone, Copy)]
-struct Left<'a> {
+struct LeftText<'a> {
     text: &'a [u8],
     granted: u64,
     line: usize,
@@ -87,8 +87,8 @@ struct Left<'a> {
 fn enter_next<'a>(
     alloc: Global,
     era: &mut Replay,
-    left: Left<'a>,
-) -> Result<Left<'a>, RecordingFault>
+    left: LeftText<'a>,
+) -> Result<LeftText<'a>, RecordingFault>
     ensures base { era.new.base ≡ era.old.base }
     ensures shorter { IfOk result (λ next.
         length next.text.now < length left.entry.text.now) }
@@ -114,7 +114,7 @@ fn enter_next<'a>(
     } = call;
     let line = left.line.saturating_add(before);
     match enter(era, &met, event) {
-        Ok(()) => Ok(Left {
+        Ok(()) => Ok(LeftText {
             text: rest,
             granted: met.granted,
             line: line.saturating_add(1),
@@ -124,7 +124,7 @@ fn enter_next<'a>(
 }
 
 /// Enters the calls that are left.
-fn enter_calls(alloc: Global, era: &mut Replay, first: Left<'_>) -> Result<(), RecordingFault>
+fn enter_calls(alloc: Global, era: &mut Replay, first: LeftText<'_>) -> Result<(), RecordingFault>
     ensures base { era.new.base ≡ era.old.base }
     ensures back { (entries : List Entries)
         → IsToCome era.old first.entry.text.now first.entry.granted entries
@@ -141,22 +141,22 @@ fn enter_calls(alloc: Global, era: &mut Replay, first: Left<'_>) -> Result<(), R
 
 /// An era that began, where it began, and its calls that are left.
 #[derive(Drop)]
-struct Opened<'a> {
+struct OpenedEra<'a> {
     beginning: Beginning,
     era: Replay,
-    left: Left<'a>,
+    left: LeftText<'a>,
 }
 
 /// The front of a recording: where the era begins, the number of the last line that says it, and what follows.
 #[derive(Drop)]
-struct Front<'a> {
+struct RecordingFront<'a> {
     beginning: Beginning,
     line: usize,
     rest: &'a [u8],
 }
 
 /// Reads the front of a recording after its first line.
-fn read_front(alloc: Global, text: &[u8]) -> Result<Front<'_>, RecordingFault>
+fn read_front(alloc: Global, text: &[u8]) -> Result<RecordingFront<'_>, RecordingFault>
     ensures sound { IfOk result (λ front. AreSound front.beginning.state.settings) }
     ensures back { (b : Bases) (entries : List Entries) → IsRecorded b entries
         → text.now ≡ lines_text (base_lines b) ++ calls_text b.granted entries
@@ -174,7 +174,7 @@ fn read_front(alloc: Global, text: &[u8]) -> Result<Front<'_>, RecordingFault>
     let begun = read_beginning(&lines)?;
     let line = begun.lines.saturating_add(1);
     match after_lines(text, begun.lines) {
-        Some(rest) => Ok(Front {
+        Some(rest) => Ok(RecordingFront {
             beginning: begun.beginning,
             line,
             rest,
@@ -187,7 +187,7 @@ fn read_front(alloc: Global, text: &[u8]) -> Result<Front<'_>, RecordingFault>
 }
 
 /// Begins an era with what stands after the first line of its recording.
-fn open(alloc: Global, text: &[u8]) -> Result<Opened<'_>, RecordingFault>
+fn open(alloc: Global, text: &[u8]) -> Result<OpenedEra<'_>, RecordingFault>
     ensures base { IfOk result (λ opened. opened.era.base ≡ opened.beginning) }
     ensures sound { IfOk result (λ opened. AreSound opened.beginning.state.settings) }
     ensures back { (b : Bases) (entries : List Entries) → IsRecorded b entries
@@ -197,18 +197,18 @@ fn open(alloc: Global, text: &[u8]) -> Result<Opened<'_>, RecordingFault>
         × IsToCome opened.era opened.left.text.now opened.left.granted entries)
         (λ fault. fault.reason ≡ NoMemory) }
 {
-    let Front {
+    let RecordingFront {
         beginning,
         line,
         rest,
     } = read_front(alloc, text)?;
-    let left = Left {
+    let left = LeftText {
         text: rest,
         granted: beginning.granted,
         line: line.saturating_add(1),
     };
     match Replay::begin(alloc, beginning.copy()) {
-        Ok(era) => Ok(Opened {
+        Ok(era) => Ok(OpenedEra {
             beginning,
             era,
             left,
@@ -291,7 +291,7 @@ fn play_body(alloc: Global, body: &[u8]) -> Result<Body, RecordingFault>
         (λ played. (played.beginning ≡ b) × (played.era.entries ≡ entries))
         (λ fault. fault.reason ≡ NoMemory) }
 {
-    let Opened {
+    let OpenedEra {
         beginning,
         mut era,
         left,

@@ -10,13 +10,13 @@ use swim_wire::{Endpoint, copied};
 pub(crate) type Places = ArrayVec<Place, JOIN_MAX>;
 
 /// The address of each place, in their order; none of a host that was not found.
-pub(crate) type Addresses = ArrayVec<Option<Endpoint>, JOIN_MAX>;
+pub(crate) type PlaceAddresses = ArrayVec<Option<Endpoint>, JOIN_MAX>;
 
 /// The places that a file names, with the addresses that are known of them. The member's host and its doors share it.
 #[derive(Drop)]
 pub(crate) struct JoinList {
     places: Places,
-    addresses: Addresses,
+    addresses: PlaceAddresses,
     /// Whether the joiner does not know them yet.
     is_new: bool,
     /// Whether a host is among them, which is to be looked up.

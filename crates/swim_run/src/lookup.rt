@@ -1,7 +1,7 @@
 //! Lookups of hosts, beside the member.
 
 use crate::errand::{Beside, Errand};
-use crate::listing::{Addresses, Places};
+use crate::listing::{PlaceAddresses, Places};
 use arrayvec::ArrayVec;
 use std::thread::Threads;
 use swim_net::first_address;
@@ -12,7 +12,7 @@ use swim_wire::Endpoint;
 #[derive(Drop)]
 pub(crate) struct Found {
     pub(crate) places: Places,
-    pub(crate) addresses: Addresses,
+    pub(crate) addresses: PlaceAddresses,
 }
 
 /// Places to be looked up.

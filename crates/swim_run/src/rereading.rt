@@ -10,12 +10,12 @@ pub(crate) type Read = Result<CheckedSettings, Failure>;
 
 /// The settings file at a path, to be read.
 #[derive(Drop)]
-struct Reading {
+struct Rereading {
     rt: HostRuntime,
     config: String,
 }
 
-impl Beside for Reading {
+impl Beside for Rereading {
     type Outcome = Read;
 
     fn run(self) -> Read {
@@ -30,5 +30,5 @@ pub(crate) fn start_reading<T: Threads>(
     config: &str,
 ) -> Option<Errand<Read>> {
     let config = String::from_str(rt.alloc(), config).ok()?;
-    Errand::start(threads, rt.alloc(), Reading { rt, config })
+    Errand::start(threads, rt.alloc(), Rereading { rt, config })
 }

@@ -106,7 +106,7 @@ fn tell_nobody<T: Log + Wait>(logged: &T, handed: &HandedOver, joins: &Joins) {
 
 /// What a start has taken hold of: the key of its generators, its state file, and its sockets.
 #[derive(Drop)]
-struct Start<'a, T: Clock + Log> {
+struct StartParts<'a, T: Clock + Log> {
     key: [u8; 32],
     file: StateFile,
     sockets: Sockets<'a, T>,
@@ -117,7 +117,7 @@ fn live<'a, T: Threads + Wait + Log + Clock + Send + Sync + Copy + Drop>(
     around: Surroundings<'a, T>,
     told: RunSettings,
     handed: &'a HandedOver,
-    start: Start<'a, T>,
+    start: StartParts<'a, T>,
 ) -> Result<(), Failure>
     requires { AreInRange told }
 {
@@ -127,7 +127,7 @@ fn live<'a, T: Threads + Wait + Log + Clock + Send + Sync + Copy + Drop>(
         config,
         ..
     } = around;
-    let Start { key, file, sockets } = start;
+    let StartParts { key, file, sockets } = start;
     let settings = told.settings;
     let node = match open_node(rt.alloc(), file.opened, file.watched, settings, told.limit) {
         Ok(node) => node,
@@ -193,6 +193,6 @@ pub fn run<T: Threads + Wait + Log + Clock + Send + Sync + Copy + Drop>(
         level,
         config,
     };
-    let start = Start { key, file, sockets };
+    let start = StartParts { key, file, sockets };
     live(around, told, &handed, start)
 }

@@ -42,14 +42,14 @@ pub const WATCHES: u8 = 1;
 type Share<'x, N, D, R> = Handle<'x, N, D, Outbox, R, R>;
 
 /// One that is shown the status.
-type Shown<'x, N, D, R> = StatusCaller<'x, N, D, Outbox, R, R>;
+type ShownCaller<'x, N, D, R> = StatusCaller<'x, N, D, Outbox, R, R>;
 
 /// What the workers of a shared member call by.
 type Callers<'x, N, D, R> = Crew<
     Share<'x, N, D, R>,
     Share<'x, N, D, R>,
     Share<'x, N, D, R>,
-    Shown<'x, N, D, R>,
+    ShownCaller<'x, N, D, R>,
 >;
 
 /// The passes of an era's workers.

@@ -8,7 +8,7 @@ use Rattle.std.specs.declared.io.ErrorKind.{ErrorKind}
 use Rattle.std.proofs.lemmas.List.{append-nil, drop-drop, take-append-drop, take_rest}
 use Rattle.swim_wire.specs.declared.update.Update.{Update}
 use Rattle.swim_shell.specs.Answers.{Gives, row_text, rows_text}
-use Rattle.swim_shell.specs.declared.answer_writer.Sent.{Sent}
+use Rattle.swim_shell.specs.declared.answer_writer.WriteOutcome.{WriteOutcome}
 use Rattle.swim_shell.specs.Writes.{sent_by, WritesOn}
 use Rattle.std.proofs.lemmas.List.{append_assoc}
 
@@ -66,5 +66,5 @@ row_written old text new rows more row so_far is next = is ∙ (ap (λ w. w ++ r
 pub on_more : (step : Result Bool Error) → step ≡ Ok false → WritesOn step
 on_more step is = subst WritesOn (sym is) tt
 
-pub on_fault : (step : Result Bool Error) (e : Error) (kind : ErrorKind) (found : Option Sent) → step ≡ Err e → found ≡ sent_by kind → kind ≡ error_kind e → found ≡ None → WritesOn step
+pub on_fault : (step : Result Bool Error) (e : Error) (kind : ErrorKind) (found : Option WriteOutcome) → step ≡ Err e → found ≡ sent_by kind → kind ≡ error_kind e → found ≡ None → WritesOn step
 on_fault step e kind found failed is k none = subst WritesOn (sym failed) (sym (is ∙ ap sent_by k) ∙ none)

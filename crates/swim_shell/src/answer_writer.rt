@@ -13,7 +13,7 @@ const WRITES_MAX: u32 = 4096;
 
 /// What came of writing an answer.
 #[derive(Clone, Copy, Debug, PartialEq, Eq)]
-pub(crate) enum Sent {
+pub(crate) enum WriteOutcome {
     /// All is written and flushed.
     Out,
     /// The writer takes no more just now.
@@ -23,13 +23,13 @@ pub(crate) enum Sent {
 }
 
 /// What came of writing after a write or a flush that failed so; none if it is tried again.
-fn sent_by(kind: ErrorKind) -> Option<Sent>
+fn sent_by(kind: ErrorKind) -> Option<WriteOutcome>
     ensures { result ≡ sent_by kind }
 {
     match kind {
         ErrorKind::Interrupted => None,
-        ErrorKind::WouldBlock => Some(Sent::NotYet),
-        _ => Some(Sent::Failed),
+        ErrorKind::WouldBlock => Some(WriteOutcome::NotYet),
+        _ => Some(WriteOutcome::Failed),
     }
 }
 
@@ -137,12 +137,12 @@ impl<Wr: Write + Drop> AnswerWriter<Wr> {
 
     /// Writes what is left, as far as the writer takes it. A write that a signal interrupts is tried again.
     #[tactic(auto, using(crate::proofs::Writing::gives_nothing, crate::proofs::Writing::gives_on, crate::proofs::Trying::trying_none))]
-    pub(crate) fn send(&mut self) -> Sent
+    pub(crate) fn send(&mut self) -> WriteOutcome
         ensures gives { Gives (Wr.contents self.old.writer) (Wr.contents self.new.writer)
             (left_of self.old) (left_of self.new) [] }
-        ensures out { result ≡ Sent.Out → left_of self.new ≡ [] }
-        ensures flushed { result ≡ Sent.Out → IsFlushed self.new }
-        ensures why { Tried WritesOn (EndsWith result) WRITES_MAX (result ≡ Sent.NotYet)
+        ensures out { result ≡ WriteOutcome.Out → left_of self.new ≡ [] }
+        ensures flushed { result ≡ WriteOutcome.Out → IsFlushed self.new }
+        ensures why { Tried WritesOn (EndsWith result) WRITES_MAX (result ≡ WriteOutcome.NotYet)
             self.old.steps self.new.steps }
     {
         for _ in 0..WRITES_MAX {
@@ -153,7 +153,7 @@ impl<Wr: Write + Drop> AnswerWriter<Wr> {
             };
             self.steps = self.steps.and(&step);
             match step {
-                Ok(true) => return Sent::Out,
+                Ok(true) => return WriteOutcome::Out,
                 Ok(false) => {}
                 Err(error) => {
                     if let Some(sent) = sent_by(error.kind()) {
@@ -162,6 +162,6 @@ impl<Wr: Write + Drop> AnswerWriter<Wr> {
                 }
             }
         }
-        Sent::NotYet
+        WriteOutcome::NotYet
     }
 }

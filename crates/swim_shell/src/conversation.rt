@@ -5,7 +5,7 @@ ghost use Rattle.swim_shell.specs.Answers.{Answers, ShowsAbout, ShowsCounters, S
 ghost use Rattle.swim_shell.specs.Control.{carried};
 
 use crate::about::add_about;
-use crate::answer_writer::{AnswerWriter, Sent};
+use crate::answer_writer::{AnswerWriter, WriteOutcome};
 use crate::answers::{add_refusal, add_reply, add_status};
 use crate::caller::{Observer, Refusal};
 use crate::counters::add_counters;
@@ -302,14 +302,14 @@ impl<Rd: Read + Drop, Wr: Write + Drop> Conversation<Rd, Wr> {
     {
         self.is_silent = false;
         match self.answers.send() {
-            Sent::Out => match self.due.take()? {
+            WriteOutcome::Out => match self.due.take()? {
                 LineEnd::Asked => Some(ControlEnd::Asked),
                 LineEnd::EraAsked => Some(ControlEnd::EraAsked),
                 LineEnd::Reloading => Some(ControlEnd::Reloading),
                 LineEnd::Refused(why) => Some(ControlEnd::Refused(why)),
             },
-            Sent::NotYet => None,
-            Sent::Failed => Some(ControlEnd::WriteFault),
+            WriteOutcome::NotYet => None,
+            WriteOutcome::Failed => Some(ControlEnd::WriteFault),
         }
     }
 }

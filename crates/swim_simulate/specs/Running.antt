@@ -10,7 +10,7 @@ use Rattle.swim_simulate.specs.declared.flight.Flight.{Flight}
 use Rattle.swim_plan.specs.declared.key.PlanKey.TheVariants.{Members, OddClocks, ClockRate}
 use Rattle.swim_simulate.specs.declared.network.Fate.{Fate}
 use Rattle.swim_simulate.specs.declared.network.Fate.TheVariants.{Lost, Comes, ComesTwice}
-use Rattle.swim_simulate.specs.declared.place.Place.{Place}
+use Rattle.swim_simulate.specs.declared.place.MemberPlace.{MemberPlace}
 use Rattle.swim_simulate.specs.Laws.{LawView}
 use Rattle.swim_plan.specs.Plan.{number_at}
 
@@ -53,11 +53,11 @@ rate_of plan who =
     (number_at ClockRate plan) 100
 
 -- it runs, and is not paused
-abbrev pub is_awake : ℕ → Place → Bool
+abbrev pub is_awake : ℕ → MemberPlace → Bool
 is_awake now place = place.is_up && nat_le place.sleeps_until now
 
 -- how many ticks the clock of a member makes now
-abbrev pub beats_of : List ℕ → ℕ → ℕ → Option Place → ℕ
+abbrev pub beats_of : List ℕ → ℕ → ℕ → Option MemberPlace → ℕ
 beats_of plan now who None = 0
 beats_of plan now who (Some place) =
     cond (is_awake now place) ((place.clock + rate_of plan who) / 100) 0
@@ -78,21 +78,21 @@ flight_by (ComesTwice first second) now to =
     record { to = to; due = later now first; again = Some second; is_lost = false }
 
 -- a member that there is hears what comes to it now
-abbrev pub hears : ℕ → Option Place → Bool
+abbrev pub hears : ℕ → Option MemberPlace → Bool
 hears now None = false
 hears now (Some place) = is_awake now place
 
 -- the datagram of this flight comes now: it is due, it is not lost, and whom it goes to hears it
-abbrev pub comes : ℕ → List Place → Flight → Bool
+abbrev pub comes : ℕ → List MemberPlace → Flight → Bool
 comes now places flight =
     nat_le flight.due now && not flight.is_lost && hears now (slice_get places flight.to)
 
 -- the one that is kept in this place comes, if its flight says so
-abbrev pub arrival_by : ℕ → ℕ → List Place → Flight → List Handed
+abbrev pub arrival_by : ℕ → ℕ → List MemberPlace → Flight → List Handed
 arrival_by now index places flight =
     cond (comes now places flight) (Datagram now flight.to index ∷ []) []
 
 -- and none, where none is kept
-abbrev pub arrival_at : ℕ → ℕ → List Place → Option Flight → List Handed
+abbrev pub arrival_at : ℕ → ℕ → List MemberPlace → Option Flight → List Handed
 arrival_at now index places None = []
 arrival_at now index places (Some flight) = arrival_by now index places flight

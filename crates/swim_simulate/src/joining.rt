@@ -6,7 +6,7 @@ ghost use Rattle.swim_node.specs.History.{calls_by};
 ghost use Rattle.swim_simulate.specs.Joining.{HasTurn, joined_after, last_joined};
 
 use crate::place::endpoint_of;
-use crate::views::Views;
+use crate::views::GroupViews;
 use arrayvec::{ArrayString, ArrayVec};
 use rand_chacha::ChaCha20Rng;
 use swim_join::{Intervals, Joiner, LIST_MAX};
@@ -29,10 +29,10 @@ fn joined_after(peer: Option<Endpoint>, event: &Event) -> Option<Endpoint>
 
 /// A member that its joiner asks: it shows its rows, and whom it is to join is kept.
 #[derive(Drop)]
-pub(crate) struct Asked<'a> {
+pub(crate) struct AskedMember<'a> {
     who: usize,
     status: Status,
-    views: &'a Views,
+    views: &'a GroupViews,
     /// Whom it is to join.
     peer: Option<Endpoint>,
     /// What it was asked, for proofs.
@@ -43,12 +43,12 @@ pub(crate) struct Asked<'a> {
     ghost answered: { length (calls_by 0 entries) ≡ length asked },
 }
 
-impl Asked<'_> {
+impl AskedMember<'_> {
     /// The member with this place, which shows this status, before it is asked.
-    pub(crate) fn new(who: usize, status: Status, views: &Views) -> Asked<'_>
+    pub(crate) fn new(who: usize, status: Status, views: &GroupViews) -> AskedMember<'_>
         ensures { result.asked ≡ [] }
     {
-        Asked {
+        AskedMember {
             who,
             status,
             views,
@@ -67,7 +67,7 @@ impl Asked<'_> {
     }
 }
 
-impl Caller for Asked<'_> {
+impl Caller for AskedMember<'_> {
     ghost use Rattle.std.specs.Prelude.{ℕ, false};
 
     ghost known = { λ a. record { caller = 0; seen = a.entries; spent = false; asked = a.asked } };
@@ -99,7 +99,7 @@ impl Caller for Asked<'_> {
     }
 }
 
-impl Observer for Asked<'_> {
+impl Observer for AskedMember<'_> {
     fn status(&mut self) -> Option<Status> {
         Some(self.status)
     }
@@ -127,7 +127,7 @@ impl Observer for Asked<'_> {
 pub(crate) fn turn(
     joiner: &mut Joiner,
     clock: &QuietClock,
-    mut asked: Asked<'_>,
+    mut asked: AskedMember<'_>,
 ) -> Option<Endpoint>
     requires { asked.asked ≡ [] }
     ensures { HasTurn joiner.old joiner.new result }

@@ -50,7 +50,7 @@ pub(crate) fn settings_of(plan: &Plan, place: usize) -> Settings
 
 /// What is known of a member beside its node.
 #[derive(Clone, Copy, Drop)]
-pub(crate) struct Place {
+pub(crate) struct MemberPlace {
     /// Whether it runs.
     pub(crate) is_up: bool,
     /// When it begins, or begins again if it was killed; none if it does not.
@@ -69,10 +69,10 @@ pub(crate) struct Place {
     pub(crate) rows: [usize; 3],
 }
 
-impl Place {
+impl MemberPlace {
     /// A member that does not run yet.
-    pub(crate) fn new(begins: u64) -> Place {
-        Place {
+    pub(crate) fn new(begins: u64) -> MemberPlace {
+        MemberPlace {
             is_up: false,
             begins: Some(begins),
             sleeps_until: 0,

@@ -14,11 +14,11 @@ use crate::flight::Flight;
 use crate::handed::{Clock, Handed};
 use crate::law::LawBreak;
 use crate::measures::{Measures, count};
-use crate::place::{Place, place_of, settings_of};
+use crate::place::{MemberPlace, place_of, settings_of};
 use crate::scene::{Scene, joiners_of, shadows_of};
 use crate::script::{Given, Script};
-use crate::views::Views;
-use crate::watched::Watched;
+use crate::views::GroupViews;
+use crate::watched::WatchedNodes;
 use std::alloc::Global;
 use swim_charts::Tally;
 use swim_group::{Failure, Nodes, NodesFault};
@@ -34,7 +34,7 @@ const PAGES_MAX: usize = 10;
 /// A run: its nodes, and what there is beside them.
 #[derive(Drop)]
 pub(crate) struct Run {
-    watched: Watched,
+    watched: WatchedNodes,
     scene: Scene,
 }
 
@@ -51,10 +51,10 @@ impl Run {
         for place in 0..members {
             settings.push(settings_of(plan, place))?;
             let begins = dice.below(plan.get(PlanKey::BeginWithin) as usize);
-            places.push(Place::new(begins as u64))?;
+            places.push(MemberPlace::new(begins as u64))?;
         }
         let limit = plan.get(PlanKey::Limit) as u32;
-        let watched = Watched::new(alloc, settings.as_slice(), limit)?;
+        let watched = WatchedNodes::new(alloc, settings.as_slice(), limit)?;
         let shadows = shadows_of(alloc, watched.nodes().seats())?;
         let joiners = joiners_of(alloc, plan, &mut dice, watched.nodes().seats())?;
         let scene = Scene {
@@ -64,7 +64,7 @@ impl Run {
             places,
             shadows,
             joiners,
-            views: Views::new(alloc, members)?,
+            views: GroupViews::new(alloc, members)?,
             measures: Measures::new(alloc),
             history: Vec::new(alloc),
             script: Script::none(alloc),

@@ -6,13 +6,13 @@ ghost use Rattle.swim_simulate.specs.Running.{beats_of, comes, hears, rate_of};
 use crate::dice::Dice;
 use crate::fault::SimulateFault;
 use crate::flight::Flight;
-use crate::joining::{Asked, joiner_of, turn};
+use crate::joining::{AskedMember, joiner_of, turn};
 use crate::measures::{Awaited, Measures, count};
 use crate::network::{fate_by, is_cut, size_of_datagram};
-use crate::place::{Place, place_of};
+use crate::place::{MemberPlace, place_of};
 use crate::script::Script;
 use crate::shadow::{Lapse, Shadow};
-use crate::views::{View, Views};
+use crate::views::{GroupViews, View};
 use std::alloc::Global;
 use swim_charts::Tally;
 use swim_disk::Choice;
@@ -64,10 +64,10 @@ pub(crate) struct Scene {
     pub(crate) plan: Plan,
     pub(crate) dice: Dice,
     pub(crate) flights: Vec<Flight>,
-    pub(crate) places: Vec<Place>,
+    pub(crate) places: Vec<MemberPlace>,
     pub(crate) shadows: Vec<Option<Shadow>>,
     pub(crate) joiners: Vec<Option<Joiner>>,
-    pub(crate) views: Views,
+    pub(crate) views: GroupViews,
     pub(crate) measures: Measures,
     pub(crate) history: Vec<Tally>,
     pub(crate) script: Script,
@@ -317,7 +317,7 @@ impl Scene {
     /// Whom a member with this status joins now: its joiner has a turn.
     pub(crate) fn peer(&mut self, who: usize, status: &Status) -> Option<Endpoint> {
         let clock = self.clock(who);
-        let asked = Asked::new(who, *status, &self.views);
+        let asked = AskedMember::new(who, *status, &self.views);
         match self.joiners.get_mut(who) {
             Some(Some(joiner)) => turn(joiner, &clock, asked),
             _ => None,
@@ -410,7 +410,7 @@ impl Scene {
         self.shadow_again(who, seat)?;
         self.join_again(who, seat);
         if let Some(place) = self.places.get_mut(who) {
-            *place = Place::new(0);
+            *place = MemberPlace::new(0);
             place.begins = None;
             place.is_up = true;
         }

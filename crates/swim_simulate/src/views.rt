@@ -44,7 +44,7 @@ impl View {
 
 /// The views of a group.
 #[derive(Drop)]
-pub(crate) struct Views {
+pub(crate) struct GroupViews {
     count: usize,
     /// How many views of others are that they are there.
     alive: usize,
@@ -52,12 +52,12 @@ pub(crate) struct Views {
     cells: Vec<View>,
 }
 
-impl Views {
+impl GroupViews {
     /// Nobody knows anybody.
-    pub(crate) fn new(alloc: Global, count: usize) -> Result<Views, SimulateFault> {
+    pub(crate) fn new(alloc: Global, count: usize) -> Result<GroupViews, SimulateFault> {
         let mut cells = Vec::new(alloc);
         cells.resize(count.saturating_mul(count), View::Unknown)?;
-        Ok(Views {
+        Ok(GroupViews {
             count,
             alive: 0,
             cells,

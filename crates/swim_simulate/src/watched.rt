@@ -27,7 +27,7 @@ const ROOM: usize = 1 << 20;
 /// The nodes of a run. Only a tick, a join, a look at the rows and a datagram come to them, and each datagram that they send is
 /// held against the law.
 #[derive(Drop)]
-pub(crate) struct Watched {
+pub(crate) struct WatchedNodes {
     nodes: Nodes,
     law: LawRecord,
     tick: u64,
@@ -35,7 +35,7 @@ pub(crate) struct Watched {
     handed: Trace<Handed>,
 }
 
-impl Model for Watched {
+impl Model for WatchedNodes {
     ghost use Rattle.std.specs.Prelude.{◌≡◌};
     ghost use Rattle.swim_simulate.specs.declared.watched.TheConstants.{ROOM};
     ghost use Rattle.swim_simulate.specs.Laws.{SeesAll, IsLawful};
@@ -84,20 +84,20 @@ fn look_at_last(
     look_on(law, now, kept, before)
 }
 
-impl Watched {
+impl WatchedNodes {
     /// New nodes with these settings, each on a disk that is made for it, which have sent nothing.
     pub(crate) fn new(
         alloc: Global,
         settings: &[Settings],
         limit: u32,
-    ) -> Result<Watched, SimulateFault>
+    ) -> Result<WatchedNodes, SimulateFault>
         ensures seats { IfOk result (λ new. AreNewNodes limit settings.now new.nodes.seats) }
         ensures now { IfOk result (λ new. new.tick ≡ 0) }
         ensures clocks { IfOk result (λ new. new.clocks ≡ []) }
         ensures handed { IfOk result (λ new. new.handed ≡ []) }
     {
         let nodes = Nodes::new(alloc, settings, limit, ROOM)?;
-        Ok(Watched {
+        Ok(WatchedNodes {
             nodes,
             law: LawRecord::new(alloc),
             tick: 0,
@@ -271,7 +271,7 @@ impl Watched {
     pub(crate) fn done(self) -> (Nodes, Trace<Clock>, Trace<Handed>)
         ensures { result ≡ (self.nodes, self.clocks, self.handed) }
     {
-        let Watched {
+        let WatchedNodes {
             nodes,
             law: _,
             tick: _,

@@ -30,7 +30,7 @@ fn is_missing(kind: ErrorKind) -> bool
 
 /// What all have seen who watch the same file. What one of them reads here is not known to proofs.
 #[derive(Drop)]
-struct Seen {
+struct SeenFile {
     /// The greatest length, in bytes.
     longest: AtomicU64,
     is_lost: AtomicBool,
@@ -45,7 +45,7 @@ pub struct OwnFile<R> {
     /// The greatest length that it has seen itself, in bytes.
     longest: u64,
     is_lost: bool,
-    seen: Arc<Seen, Global>,
+    seen: Arc<SeenFile, Global>,
     asked: Trace<bool>,
 }
 
@@ -56,7 +56,7 @@ impl<R: Files<File = File> + Copy> OwnFile<R> {
             × (own.is_lost ≡ false) × (own.named.looks ≡ [])) }
     {
         let opened = Found::of(opened.file())?;
-        let seen = Seen {
+        let seen = SeenFile {
             longest: AtomicU64::new(opened.length),
             is_lost: AtomicBool::new(false),
         };

@@ -92,10 +92,10 @@ fn settings() -> Settings
 }
 
 /// What is sent in a row: to whom, and the datagram.
-type Sent = (u8, Text);
+type SentText = (u8, Text);
 
 /// Whether this is what is wanted, byte by byte.
-fn is_this(out: &Out, wanted: &Sent) -> bool {
+fn is_this(out: &Out, wanted: &SentText) -> bool {
     let (to, text) = wanted;
     if !out.datagram.is_encodable() {
         return false;
@@ -106,7 +106,7 @@ fn is_this(out: &Out, wanted: &Sent) -> bool {
 
 /// Takes an event with the ceiling that it wants, and says whether it sends just this, and no more
 /// than one datagram.
-fn sends(member: &mut Member, event: &Event, wanted: Option<&Sent>) -> bool {
+fn sends(member: &mut Member, event: &Event, wanted: Option<&SentText>) -> bool {
     let granted = member.number().max(member.plan(event).unwrap_or(0));
     let answer = member.step(event, granted);
     match (answer.outs.as_slice(), wanted) {
@@ -169,7 +169,7 @@ fn tick(first: u8) -> Event {
 }
 
 /// So many ticks, after which the last one sends what is wanted and the others nothing.
-fn ticks(member: &mut Member, count: usize, wanted: &Sent) -> bool {
+fn ticks(member: &mut Member, count: usize, wanted: &SentText) -> bool {
     let mut as_wanted = true;
     for number in 1..=count {
         let sent = if number == count { Some(wanted) } else { None };
@@ -194,7 +194,7 @@ fn a_probe(rt: HostRuntime) {
         sends(&mut member, &received(P, &ping), Some(&(P, ack))),
     );
     // The probe of P, the ping-req about it, and the next probe, after which P is suspected.
-    let rows: [(usize, Sent); 3] = [
+    let rows: [(usize, SentText); 3] = [
         (
             4,
             (
@@ -294,7 +294,7 @@ fn deals(rt: HostRuntime) {
 fn asked_and_asking(rt: HostRuntime) {
     // A relay, and its ack only once.
     let mut member = Member::new(settings(), 1);
-    let rows: [(u8, Text, Option<Sent>); 3] = [
+    let rows: [(u8, Text, Option<SentText>); 3] = [
         (
             P,
             (2, 9, P, Q, &[(ALIVE, Q, 1)]),
@@ -316,7 +316,7 @@ fn asked_and_asking(rt: HostRuntime) {
     }
     // A join, its page, and a leave.
     let mut member = Member::new(settings(), 1);
-    let rows: [(Event, Option<Sent>); 3] = [
+    let rows: [(Event, Option<SentText>); 3] = [
         (
             Event::Join { peer: endpoint(P) },
             Some((P, (4, 1, ME, 0, &[(ALIVE, ME, 1)]))),
@@ -369,10 +369,10 @@ fn refused_and_shown(rt: HostRuntime) {
 }
 
 /// Changes of settings: each of the setting whose fault has this number, to this value.
-type Changes = &'static [(u8, u32)];
+type SettingChanges = &'static [(u8, u32)];
 
 /// The settings with these changes.
-fn settings_with(changes: Changes) -> Settings {
+fn settings_with(changes: SettingChanges) -> Settings {
     let mut settings = settings();
     for (number, value) in changes {
         match number {
@@ -391,7 +391,7 @@ fn settings_with(changes: Changes) -> Settings {
 
 #[test]
 fn checked(rt: HostRuntime) -> Result<(), Fail> {
-    let rows: [(Changes, &str); 13] = [
+    let rows: [(SettingChanges, &str); 13] = [
         (&[], ""),
         (&[(1, 17), (2, 1)], "1 Lambda"),
         (&[(2, 1001)], "2 Period"),

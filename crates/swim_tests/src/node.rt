@@ -9,10 +9,9 @@ use std::process::Abort;
 use swim_disk::{FaultDisk, MemDisk, Plan};
 use swim_member::{Deal, Event, Settings};
 use swim_node::{ApplyFault, MemoryLink, Node, OpenFault, Save, Tag, listed_are_probed_once, run};
+use swim_scenes::Device;
 use swim_state::{Owner, RecoverFault, init};
 use swim_wire::{Cursor, Datagram, Endpoint, Kind, NUMBER_MAX, Rules, Update, UpdateKind, encode};
-
-type Device = FaultDisk<MemDisk>;
 
 /// The endpoint 10.0.0.LAST:7000.
 fn endpoint(rt: &impl Abort, last: u32) -> Endpoint {

@@ -8,13 +8,12 @@ use std::fs;
 use std::process::Abort;
 use std::test::Fail;
 use swim_disk::{Choice, Disk, DiskFault, FaultDisk, FileDisk, MemDisk, Plan};
+use swim_scenes::Device;
 use swim_state::{
     InitFault, Owner, Peers, Reading, RecoverFault, SPARE_MAX, SaveFault, Saved, Slots, init,
     recover, slots_in,
 };
 use swim_wire::{Endpoint, NUMBER_MAX};
-
-type Device = FaultDisk<MemDisk>;
 
 /// The member of group 7 at 10.0.0.LAST:7000.
 fn member(rt: &impl Abort, last: u32) -> Owner {
@@ -131,15 +130,15 @@ type Call = (u8, u64);
 
 /// A disk in memory that keeps its first 32 calls.
 #[derive(Drop)]
-struct Recorded {
+struct RecordingDisk {
     disk: MemDisk,
     calls: [Call; 32],
     count: usize,
 }
 
-impl Recorded {
-    fn new(alloc: Global) -> Recorded {
-        Recorded {
+impl RecordingDisk {
+    fn new(alloc: Global) -> RecordingDisk {
+        RecordingDisk {
             disk: MemDisk::new(alloc, 1, Vec::new(alloc)),
             calls: [(0, 0); 32],
             count: 0,
@@ -156,7 +155,7 @@ impl Recorded {
     }
 }
 
-impl Disk for Recorded {
+impl Disk for RecordingDisk {
     ghost use Rattle.swim_disk.specs.MemDisk.{state_of};
 
     ghost state = { λ r. state_of r.disk };
@@ -185,13 +184,13 @@ impl Disk for Recorded {
 }
 
 /// Whether the calls from this one on are these, and no more.
-fn are_calls(disk: &Recorded, from: usize, want: &[Call]) -> bool {
+fn are_calls(disk: &RecordingDisk, from: usize, want: &[Call]) -> bool {
     disk.calls.get(from..disk.count) == Some(want)
 }
 
 /// A disk after `init` with this ceiling, whose calls are forgotten.
-fn made_recorded(rt: &impl Abort, alloc: Global, ceiling: u64) -> Recorded {
-    let mut disk = Recorded::new(alloc);
+fn made_recorded(rt: &impl Abort, alloc: Global, ceiling: u64) -> RecordingDisk {
+    let mut disk = RecordingDisk::new(alloc);
     holds(rt, init(&mut disk, member(rt, 1), ceiling).is_ok());
     disk.count = 0;
     disk
@@ -209,7 +208,7 @@ const INIT: [Call; 7] = [
 
 #[test]
 fn init_calls_the_device(rt: HostRuntime) -> Result<(), Fail> {
-    let mut disk = Recorded::new(rt.alloc());
+    let mut disk = RecordingDisk::new(rt.alloc());
     given(&rt, init(&mut disk, member(&rt, 1), 0));
     holds(&rt, are_calls(&disk, 0, &INIT));
     Ok(())

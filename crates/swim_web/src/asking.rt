@@ -1,6 +1,6 @@
 //! Who is asked, and for what.
 
-use crate::known::Shared;
+use crate::known::SharedKnown;
 use std::alloc::{AllocError, Global};
 use std::net::{Net, TcpStream};
 use std::sync::{Wait, WaitMethods};
@@ -159,7 +159,7 @@ impl<'a> Asking<'a> {
         rt: &R,
         wait: &T,
         place: usize,
-        known: &Shared,
+        known: &SharedKnown,
     ) {
         let Some((group, at)) = self.groups.get(place).copied() else {
             return;
@@ -179,7 +179,7 @@ impl<'a> Asking<'a> {
         &mut self,
         rt: &R,
         wait: &T,
-        known: &Shared,
+        known: &SharedKnown,
     ) {
         if self.words.len() > 1 {
             self.meet_some(rt);
@@ -200,7 +200,7 @@ pub(crate) fn follow<R: Net<Stream = TcpStream> + Clock + AllocGlobal, T: Wait>(
     rt: &R,
     wait: &T,
     mut asking: Asking<'_>,
-    known: &Shared,
+    known: &SharedKnown,
 ) {
     for _ in wait.forever() {
         asking.ask_all(rt, wait, known);

@@ -22,7 +22,7 @@ const DRIFT_SECONDS: u64 = 2;
 
 /// Since when what is known of a member is so, and when it was asked last.
 #[derive(Clone, Copy)]
-struct Times {
+struct KnownTimes {
     since: Option<Instant>,
     asked: Option<Instant>,
 }
@@ -31,14 +31,14 @@ struct Times {
 #[derive(Drop)]
 pub(crate) struct Known {
     one: Seen,
-    times: Times,
+    times: KnownTimes,
     groups: Vec<SeenGroup>,
     /// Those of the groups, at their places.
-    times_of: Vec<Times>,
+    times_of: Vec<KnownTimes>,
 }
 
 /// What is known by both threads: by that which asks, and by that which answers.
-pub(crate) type Shared = Mutex<Known>;
+pub(crate) type SharedKnown = Mutex<Known>;
 
 /// Nothing, of a member that was not asked yet.
 fn unseen() -> Seen {
@@ -129,10 +129,10 @@ fn take_look<C: Clock>(seen: &mut Seen, clock: &C, look: Option<MemberReport>, i
     }
 }
 
-impl Times {
+impl KnownTimes {
     /// Of a member that was not asked yet.
-    fn new() -> Times {
-        Times {
+    fn new() -> KnownTimes {
+        KnownTimes {
             since: None,
             asked: None,
         }
@@ -170,7 +170,7 @@ impl Known {
     pub(crate) fn new(alloc: Global) -> Known {
         Known {
             one: unseen(),
-            times: Times::new(),
+            times: KnownTimes::new(),
             groups: Vec::new(alloc),
             times_of: Vec::new(alloc),
         }
@@ -186,7 +186,7 @@ impl Known {
         if let Some(place) = self.groups.iter().position(|group| group.number == number) {
             return Ok(place);
         }
-        self.times_of.push(Times::new())?;
+        self.times_of.push(KnownTimes::new())?;
         let seen = unseen();
         self.groups.push(SeenGroup { number, seen })?;
         Ok(self.groups.len().saturating_sub(1))

@@ -2,7 +2,7 @@
 
 ghost use Rattle.std.specs.Prelude.{◌≡◌, ◌+◌, ◌<◌};
 
-use crate::known::Shared;
+use crate::known::SharedKnown;
 use crate::peer::Peer;
 use mio::net::{TcpListener as Listener, TcpStream as Stream};
 use mio::{Events, Interest, Poll, Token};
@@ -72,7 +72,7 @@ fn turn<C: Clock, T: Wait>(
     alloc: Global,
     clock: &C,
     wait: &T,
-    known: &Shared,
+    known: &SharedKnown,
     peer: &mut Peer,
 ) -> io::Result<bool> {
     if let Some(reading) = peer.listen()? {
@@ -174,7 +174,7 @@ impl Server {
     }
 
     /// Gives each connection a turn. One that has ended leaves its place.
-    fn turns<C: Clock, T: Wait>(&mut self, clock: &C, wait: &T, known: &Shared) {
+    fn turns<C: Clock, T: Wait>(&mut self, clock: &C, wait: &T, known: &SharedKnown) {
         for place in self.peers.iter_mut() {
             let has_ended = match place {
                 Some(peer) => turn(self.alloc, clock, wait, known, peer).unwrap_or(true),
@@ -187,7 +187,7 @@ impl Server {
     }
 
     /// Serves what is known until the process is ended.
-    pub(crate) fn serve<C: Clock, T: Wait>(mut self, clock: &C, wait: &T, known: &Shared) {
+    pub(crate) fn serve<C: Clock, T: Wait>(mut self, clock: &C, wait: &T, known: &SharedKnown) {
         for _ in wait.forever() {
             self.wait(clock);
             self.take_some(clock);

@@ -5,7 +5,7 @@ use Rattle.swim_member.specs.State.{State}
 use Rattle.swim_member.specs.Turn.{next_listed, passed_over, eligible_names, dealt}
 
 -- the turn list, and how many of its members were probed or passed over
-pub record TurnList : Type 0 where
+pub record TurnListView : Type 0 where
   pub listed : List ℕ
   pub place : ℕ
 

@@ -8,19 +8,19 @@ use Rattle.swim_node.specs.declared.fault.ApplyFault.TheVariants.{NoMemory, EraF
 use Rattle.swim_node.specs.Lives.{Life, AreLives}
 use Rattle.swim_node.specs.Node.{owner_of}
 use Rattle.swim_play.specs.declared.session.Run.{Run}
-use Rattle.swim_play.specs.declared.session.Stage.{Stage}
-use Rattle.swim_play.specs.declared.session.Stage.TheVariants.{Bare, Idle, Open}
+use Rattle.swim_play.specs.declared.session.SessionStage.{SessionStage}
+use Rattle.swim_play.specs.declared.session.SessionStage.TheVariants.{Bare, Idle, Open}
 use Rattle.swim_play.specs.Life.{PlayDisk, disk_state, IsOfOne, IsOnto, AreOnOneDisk}
 use Rattle.swim_play.specs.Play.{Playing, ScriptedLife, asked_of, IsRun, Takes}
 
 -- the disk that there is at a stage
-abbrev pub disk_in : Stage → Option PlayDisk
+abbrev pub disk_in : SessionStage → Option PlayDisk
 disk_in Bare = None
 disk_in (Idle disk) = Some disk
 disk_in (Open life) = Some life.left
 
 -- the life that is open at a stage, as the script asks for it
-abbrev pub life_in : Stage → Option ScriptedLife
+abbrev pub life_in : SessionStage → Option ScriptedLife
 life_in Bare = None
 life_in (Idle disk) = None
 life_in (Open life) = Some (asked_of life)
@@ -37,7 +37,7 @@ pub record Leads (owner : Owner) (lives : List (Life PlayDisk)) (disk : PlayDisk
   pub onto : IsOnto disk_state owner lives disk
 
 -- what the lives since the last other disk or owner are to what there is now
-abbrev pub Stands : Owner → Bool → List (Life PlayDisk) → Stage → Type 0
+abbrev pub Stands : Owner → Bool → List (Life PlayDisk) → SessionStage → Type 0
 Stands owner apart lives Bare = lives ≡ []
 Stands owner true lives (Idle disk) = AreOnOneDisk lives
 Stands owner false lives (Idle disk) = Leads owner lives disk
@@ -47,7 +47,7 @@ Stands owner apart lives (Open life) = Leads (owner_of life.settings) lives life
 -- what holds between two lines of a script: the ended runs
 -- are runs, and the lives since then are lives on one disk
 pub record IsSession (owner : Owner) (apart : Bool) (runs : List Run) (lives : List (Life PlayDisk))
-    (stage : Stage) : Type 0 where
+    (stage : SessionStage) : Type 0 where
   pub ended : All IsRun runs
   pub now : Stands owner apart lives stage
 

@@ -1,6 +1,6 @@
 //! Control connections.
 
-use super::scene::{ENDED_MILLIS, Host, address, long, ring_later, sleep};
+use super::scene::{ENDED_MILLIS, TestRuntime, address, long, ring_later, sleep};
 use crate::same::{given, holds, same};
 use std::io::{ErrorKind, Read, Write};
 use std::net::{TcpListener, TcpStream, UdpSocket};
@@ -107,7 +107,7 @@ fn last_failure<D: Doors, R: Read>(doors: &mut D, reader: &mut R) -> Option<Erro
 }
 
 /// Says one byte after the other of a line that does not end, until the connection is ended.
-fn drip<R: Host>(rt: &R, mut stream: TcpStream) {
+fn drip<R: TestRuntime>(rt: &R, mut stream: TcpStream) {
     for _ in 0..80 {
         if stream.write_all(b"x").is_err() {
             return;
@@ -190,7 +190,7 @@ fn read_whole<D: Doors, R: Read>(doors: &mut D, reader: &mut R, bytes: &mut [u8]
 }
 
 /// Says a line in two parts, and rings between them.
-fn say_slowly<R: Host>(rt: &R, stream: &mut TcpStream, alarm: &SocketAlarm) -> bool {
+fn say_slowly<R: TestRuntime>(rt: &R, stream: &mut TcpStream, alarm: &SocketAlarm) -> bool {
     let first = stream.write_all(b"sta").is_ok();
     sleep(rt, 30);
     alarm.ring();
@@ -270,7 +270,7 @@ fn write_much<W: Write>(writer: &mut W) -> bool {
 }
 
 /// How many bytes come until the end.
-fn count_bytes<R: Host>(rt: &R, stream: &mut TcpStream) -> usize {
+fn count_bytes<R: TestRuntime>(rt: &R, stream: &mut TcpStream) -> usize {
     let mut count = 0usize;
     let mut bytes = [0u8; 5000];
     sleep(rt, 30);
@@ -311,7 +311,7 @@ fn late_peer(rt: HostRuntime) -> Result<(), Fail> {
 }
 
 /// The number that the system gives the next descriptor.
-fn next_descriptor<R: Host>(rt: &R) -> RawFd {
+fn next_descriptor<R: TestRuntime>(rt: &R) -> RawFd {
     let socket = UdpSocket::bind(rt, address(0)).ok().expect(rt, "a socket");
     socket.as_raw_fd()
 }

@@ -1,6 +1,6 @@
 //! Datagrams between two sockets.
 
-use super::scene::{ENDED_MILLIS, Host, address, long, ring_later, sleep};
+use super::scene::{ENDED_MILLIS, TestRuntime, address, long, ring_later, sleep};
 use crate::same::{given, holds, same};
 use arrayvec::ArrayVec;
 use log::Log;
@@ -30,7 +30,7 @@ fn bound<'a, R: Net + Clock + Log>(
 }
 
 /// The endpoint of this machine with this port.
-fn endpoint<R: Host>(rt: &R, port: u16) -> Endpoint {
+fn endpoint<R: TestRuntime>(rt: &R, port: u16) -> Endpoint {
     Endpoint::new(0x7f00_0001, port).expect(rt, "a port")
 }
 
@@ -111,7 +111,7 @@ fn datagram_ends_receive(rt: HostRuntime) -> Result<(), Fail> {
 }
 
 /// Waits until so many were received.
-fn catch_up<R: Host>(rt: &R, received: &AtomicU32, wanted: u32) {
+fn catch_up<R: TestRuntime>(rt: &R, received: &AtomicU32, wanted: u32) {
     for _ in 0..20_000 {
         if received.load(Ordering::SeqCst) >= wanted {
             return;
@@ -121,7 +121,7 @@ fn catch_up<R: Host>(rt: &R, received: &AtomicU32, wanted: u32) {
 }
 
 /// Sends numbers in order, a few at a time: then the other side has them all, and has come to wait again.
-fn send_numbers<R: Host>(
+fn send_numbers<R: TestRuntime>(
     rt: &R,
     link: &mut UdpLink<'_, R>,
     to: Endpoint,
@@ -139,7 +139,11 @@ fn send_numbers<R: Host>(
 }
 
 /// Receives numbers, up to the first that is not the next one.
-fn receive_numbers<R: Host>(inbound: &mut UdpInbound<'_, R>, from: Endpoint, received: &AtomicU32) {
+fn receive_numbers<R: TestRuntime>(
+    inbound: &mut UdpInbound<'_, R>,
+    from: Endpoint,
+    received: &AtomicU32,
+) {
     let mut into = ArrayVec::new();
     for number in 0..SENT {
         received.store(number, Ordering::SeqCst);

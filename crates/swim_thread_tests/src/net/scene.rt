@@ -9,9 +9,9 @@ use swim_net::SocketAlarm;
 use swim_shell::Alarm;
 
 /// What a test runs on.
-pub(super) trait Host: Threads + Abort + Clock + Log + Net + Sync {}
+pub(super) trait TestRuntime: Threads + Abort + Clock + Log + Net + Sync {}
 
-impl<R: Threads + Abort + Clock + Log + Net + Sync> Host for R {}
+impl<R: Threads + Abort + Clock + Log + Net + Sync> TestRuntime for R {}
 
 /// A waiting time that no test waits for.
 pub(super) fn long() -> Duration {

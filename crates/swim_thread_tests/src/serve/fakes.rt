@@ -75,12 +75,12 @@ impl Alarm for Socket {
 
 /// A worker that waits at a socket, at which nothing comes.
 #[derive(Drop)]
-pub(super) struct Waiting<'a, R: Wait> {
+pub(super) struct SocketWaiter<'a, R: Wait> {
     pub(super) rt: &'a R,
     pub(super) socket: &'a Socket,
 }
 
-impl<'a, C: Caller, R: Wait> Worker<C> for Waiting<'a, R> {
+impl<'a, C: Caller, R: Wait> Worker<C> for SocketWaiter<'a, R> {
     ghost use Rattle.std.specs.Prelude.{⊤};
 
     type End = Refusal;

@@ -18,12 +18,12 @@ use swim_wire::{Rules, WireFault};
 
 /// A clock that stands, beside a log in memory.
 #[derive(Drop)]
-pub(super) struct Desk {
+pub(super) struct StandingClock {
     pub(super) second: u64,
     pub(super) lines: Memory,
 }
 
-impl Clock for Desk {
+impl Clock for StandingClock {
     fn monotonic(&self) -> io::Result<Duration> {
         Ok(Duration::from_secs(self.second))
     }
@@ -33,7 +33,7 @@ impl Clock for Desk {
     }
 }
 
-impl Log for Desk {
+impl Log for StandingClock {
     fn enabled(&self, metadata: &Metadata<'_>) -> bool {
         self.lines.enabled(metadata)
     }
@@ -80,19 +80,19 @@ pub(super) fn replied(note: Option<Note>, phase: Phase, number: u64) -> Reply {
 /// kind is logged at once.
 #[test]
 fn left_out_notes(rt: HostRuntime) -> Result<(), Fail> {
-    let mut desk = Desk {
+    let mut clock = StandingClock {
         second: 5,
         lines: Memory::new(rt.alloc()),
     };
     let mut notes = NoteLog::new(Rules::Two);
     let from = endpoint(2);
     for _ in 0..LOGGED_MAX + 2 {
-        notes.log(&desk, &noted(Note::OtherGroup), &from);
+        notes.log(&clock, &noted(Note::OtherGroup), &from);
     }
-    notes.log(&desk, &noted(Note::SendFailed(3)), &None);
-    desk.second = 60;
-    notes.log(&desk, &noted(Note::OtherGroup), &from);
-    let lines = desk.lines.into_lines();
+    notes.log(&clock, &noted(Note::SendFailed(3)), &None);
+    clock.second = 60;
+    notes.log(&clock, &noted(Note::OtherGroup), &from);
+    let lines = clock.lines.into_lines();
     let other =
         "10.0.0.2:7000 is of another group: it is ignored; look at its `group` and its `join` (note 2 OtherGroup)";
     let want = [
@@ -147,15 +147,15 @@ const USUAL: [Note; 4] = [
 #[test]
 fn every_note(rt: HostRuntime) -> Result<(), Fail> {
     for from in [None, endpoint(2)] {
-        let desk = Desk {
+        let clock = StandingClock {
             second: 5,
             lines: Memory::new(rt.alloc()),
         };
         let mut notes = NoteLog::new(Rules::Two);
         for note in NOTES {
-            notes.log(&desk, &noted(note), &from);
+            notes.log(&clock, &noted(note), &from);
         }
-        let lines = desk.lines.into_lines();
+        let lines = clock.lines.into_lines();
         same(&rt, lines.len(), NOTES.len());
         for (line, note) in lines.as_slice().iter().zip(NOTES) {
             let end = given(&rt, format!(in rt.alloc(); " (note {note})"));
@@ -192,13 +192,13 @@ fn other_rules(rt: HostRuntime) -> Result<(), Fail> {
         ),
     ];
     for (rules, want) in rows {
-        let desk = Desk {
+        let clock = StandingClock {
             second: 5,
             lines: Memory::new(rt.alloc()),
         };
         let mut notes = NoteLog::new(rules);
-        notes.log(&desk, &noted(Note::OtherVersion), &endpoint(2));
-        let lines = desk.lines.into_lines();
+        notes.log(&clock, &noted(Note::OtherVersion), &endpoint(2));
+        let lines = clock.lines.into_lines();
         same(&rt, lines.len(), 1);
         for line in lines.as_slice() {
             holds(&rt, line.as_str().ends_with(want));
@@ -210,17 +210,17 @@ fn other_rules(rt: HostRuntime) -> Result<(), Fail> {
 /// One note that was left out is said too, at a later turn that has no note of its own.
 #[test]
 fn one_left_out_note(rt: HostRuntime) -> Result<(), Fail> {
-    let mut desk = Desk {
+    let mut clock = StandingClock {
         second: 5,
         lines: Memory::new(rt.alloc()),
     };
     let mut notes = NoteLog::new(Rules::Two);
     for _ in 0..LOGGED_MAX + 1 {
-        notes.log(&desk, &noted(Note::NotSender), &None);
+        notes.log(&clock, &noted(Note::NotSender), &None);
     }
-    desk.second = 60;
-    notes.log(&desk, &replied(None, Phase::Running, 1), &None);
-    let lines = desk.lines.into_lines();
+    clock.second = 60;
+    notes.log(&clock, &replied(None, Phase::Running, 1), &None);
+    let lines = clock.lines.into_lines();
     same(&rt, lines.len(), usize::from(LOGGED_MAX) + 1);
     let last = lines.as_slice().last().expect(&rt, "a line");
     holds(
@@ -233,16 +233,16 @@ fn one_left_out_note(rt: HostRuntime) -> Result<(), Fail> {
 /// A member that takes no part any more notes it at each tick; that is logged once, in whatever minute.
 #[test]
 fn stopped_once(rt: HostRuntime) -> Result<(), Fail> {
-    let mut desk = Desk {
+    let mut clock = StandingClock {
         second: 5,
         lines: Memory::new(rt.alloc()),
     };
     let mut notes = NoteLog::new(Rules::Two);
     for minute in 5..8 {
-        desk.second = minute * 60;
-        notes.log(&desk, &noted(Note::Stopped), &None);
+        clock.second = minute * 60;
+        notes.log(&clock, &noted(Note::Stopped), &None);
     }
-    let lines = desk.lines.into_lines();
+    let lines = clock.lines.into_lines();
     same(&rt, lines.len(), 1);
     for line in lines.as_slice() {
         holds(&rt, line.as_str().ends_with("(note 14 Stopped)"));

@@ -1,6 +1,6 @@
 //! What is logged of the own number.
 
-use super::notes::{Desk, replied};
+use super::notes::{StandingClock, replied};
 use crate::same::{holds, same};
 use arrayvec::ArrayVec;
 use log::sink::Memory;
@@ -89,7 +89,7 @@ fn calls() -> [Call; 15] {
 /// Each call logs the line that is wanted of it, or none.
 #[test]
 fn number_lines(rt: HostRuntime) -> Result<(), Fail> {
-    let desk = Desk {
+    let clock = StandingClock {
         second: 5,
         lines: Memory::new(rt.alloc()),
     };
@@ -97,12 +97,12 @@ fn number_lines(rt: HostRuntime) -> Result<(), Fail> {
     let all = calls();
     for call in &all {
         numbers.log(
-            &desk,
+            &clock,
             call.said,
             &replied(call.note, call.phase, call.number),
         );
     }
-    let lines = desk.lines.into_lines();
+    let lines = clock.lines.into_lines();
     let mut lines = lines.as_slice().iter();
     for want in all.iter().filter_map(|call| call.logged) {
         let line = lines.next().expect(&rt, "a line");
@@ -115,15 +115,15 @@ fn number_lines(rt: HostRuntime) -> Result<(), Fail> {
 /// Of seven greater and greater numbers of other lives, which a stranger may have made up, five are logged.
 #[test]
 fn numbers_without_end(rt: HostRuntime) -> Result<(), Fail> {
-    let desk = Desk {
+    let clock = StandingClock {
         second: 5,
         lines: Memory::new(rt.alloc()),
     };
     let mut numbers = numbers(&rt);
     for said in 2..9 {
-        numbers.log(&desk, said, &replied(None, Phase::Running, 1));
+        numbers.log(&clock, said, &replied(None, Phase::Running, 1));
     }
-    same(&rt, desk.lines.into_lines().len(), 5);
+    same(&rt, clock.lines.into_lines().len(), 5);
     Ok(())
 }
 

@@ -1,6 +1,6 @@
 //! The end of an era, wherever its workers wait.
 
-use super::fakes::{Idle, Nobody, Socket, Waiting, ends_third};
+use super::fakes::{Idle, Nobody, Socket, SocketWaiter, ends_third};
 use crate::same::holds;
 use std::sync::Wait;
 use std::test::Fail;
@@ -29,7 +29,7 @@ fn ended_by_control<'x, T: Threads + Wait + Clock + Sync>(
     let mut timer = TickTimer::new(Duration::from_secs(TICK_SECS), u64::MAX);
     let receiver = Job {
         rt,
-        worker: Waiting { rt, socket },
+        worker: SocketWaiter { rt, socket },
         caller: Nobody::new(),
         gate: Notifying::new(pace),
         shutdown,

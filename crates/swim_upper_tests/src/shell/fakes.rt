@@ -54,7 +54,7 @@ pub(super) enum Said {
 
 /// What the status of a scripted member is, but for its calls, and how many others it has to join.
 #[derive(Clone, Copy, Debug, PartialEq, Eq)]
-pub(super) struct Shown {
+pub(super) struct ShownStatus {
     pub(super) phase: Phase,
     pub(super) alive: usize,
     pub(super) suspect: usize,
@@ -82,7 +82,7 @@ pub(super) struct Scripted<const LIMIT: usize> {
     /// How many calls were answered.
     count: usize,
     is_spent: bool,
-    shows: Shown,
+    shows: ShownStatus,
     ghost counted: { length seen ≡ count },
     ghost fits: { count ≤ LIMIT },
 }
@@ -119,7 +119,7 @@ impl<const LIMIT: usize> Scripted<LIMIT> {
             asked: Trace::new(),
             count: 0,
             is_spent: false,
-            shows: Shown {
+            shows: ShownStatus {
                 phase: Phase::Running,
                 alive: 3,
                 suspect: 1,
@@ -129,7 +129,7 @@ impl<const LIMIT: usize> Scripted<LIMIT> {
     }
 
     /// Such a caller of a member that shows this.
-    pub(super) fn showing(shows: Shown) -> Self {
+    pub(super) fn showing(shows: ShownStatus) -> Self {
         let mut caller = Scripted::new(&[]);
         caller.shows = shows;
         caller

@@ -1,6 +1,6 @@
 //! Control lines by their bytes.
 
-use super::fakes::{Goes, MOST, Pieces, Said, Scripted, Shown, Slow};
+use super::fakes::{Goes, MOST, Pieces, Said, Scripted, ShownStatus, Slow};
 use crate::same::same;
 use arrayvec::ArrayString;
 use std::io::ErrorKind;
@@ -180,7 +180,7 @@ const ALONE: [(Phase, usize, usize, usize, bool); 7] = [
 fn alone(rt: HostRuntime) -> Result<(), Fail> {
     for (phase, alive, suspect, listed, is_alone) in ALONE {
         let mut writer = Slow::new(MOST, MOST, &[]);
-        let mut caller = Scripted::<1>::showing(Shown {
+        let mut caller = Scripted::<1>::showing(ShownStatus {
             phase,
             alive,
             suspect,

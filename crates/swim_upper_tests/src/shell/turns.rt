@@ -26,14 +26,14 @@ use swim_wire::{Endpoint, Rules};
 
 /// A clock that a test sets, beside a log in memory.
 #[derive(Drop)]
-struct Desk {
+struct SetClock {
     /// What the clock reads; none where it cannot be read.
     millis: Option<u64>,
     is_shown: bool,
     lines: Memory,
 }
 
-impl Clock for Desk {
+impl Clock for SetClock {
     fn monotonic(&self) -> io::Result<Duration> {
         match self.millis {
             Some(millis) => Ok(Duration::from_millis(millis)),
@@ -46,7 +46,7 @@ impl Clock for Desk {
     }
 }
 
-impl Log for Desk {
+impl Log for SetClock {
     fn enabled(&self, metadata: &Metadata<'_>) -> bool {
         self.is_shown && self.lines.enabled(metadata)
     }
@@ -105,12 +105,12 @@ const LINES: [&str; 3] = [
 
 /// One turn at a time of the clock. Says how many pages it read, and which member it then joined.
 fn turn<const LIMIT: u32>(
-    desk: &Desk,
+    clock: &SetClock,
     joiner: &mut Joiner,
     caller: &mut Direct<LIMIT>,
 ) -> Result<(usize, Option<Endpoint>), Fail> {
     let before = caller.node().len();
-    joiner.turn(desk, caller).map_err(|_| "a turn")?;
+    joiner.turn(clock, caller).map_err(|_| "a turn")?;
     let mut pages = 0usize;
     let mut joined = None;
     for entry in caller.node().journal().iter().skip(before) {
@@ -147,22 +147,22 @@ fn turns_by_the_clock(rt: HostRuntime) -> Result<(), Fail> {
     }
     let mut joiner = joiner_of(peers, 0)?;
     let mut caller = Direct::<64>::new(rt.alloc())?;
-    let mut desk = Desk {
+    let mut clock = SetClock {
         millis: None,
         is_shown: true,
         lines: Memory::new(rt.alloc()),
     };
     for steps in [LONE.as_slice(), KNOWN.as_slice()] {
         for (millis, is_shown, pages, joined) in steps {
-            desk.millis = *millis;
-            desk.is_shown = *is_shown;
-            let did = turn(&desk, &mut joiner, &mut caller)?;
+            clock.millis = *millis;
+            clock.is_shown = *is_shown;
+            let did = turn(&clock, &mut joiner, &mut caller)?;
             same(&rt, did, (*pages, joined.and_then(endpoint)));
         }
         let mut receiver = Receiver::new(Listed::new(&[Given::Ping(1)]));
         run(&rt, &mut receiver, &mut caller, &mut Goes { left: 1 });
     }
-    let lines = desk.lines.into_lines();
+    let lines = clock.lines.into_lines();
     same(&rt, lines.len(), LINES.len());
     for (line, want) in lines.as_slice().iter().zip(LINES) {
         holds(&rt, line.as_str().ends_with(want));
@@ -183,19 +183,19 @@ fn silences(alloc: Global, seconds: u64) -> Result<usize, Fail> {
     }
     let mut joiner = joiner_of(peers, 0)?;
     let mut caller = Direct::<64>::new(alloc)?;
-    let mut desk = Desk {
+    let mut clock = SetClock {
         millis: None,
         is_shown: true,
         lines: Memory::new(alloc),
     };
     for second in 0..seconds.saturating_add(1) {
-        desk.millis = Some(second.saturating_mul(1000));
+        clock.millis = Some(second.saturating_mul(1000));
         caller.begin_era();
-        let _ = turn(&desk, &mut joiner, &mut caller)?;
+        let _ = turn(&clock, &mut joiner, &mut caller)?;
     }
     let first =
         "alone: none of 10.0.0.2:7000, 10.0.0.5:7000 has answered 8 joins: are they up, reachable over UDP, of the same group, and with rules 1? They are asked on";
-    let lines = desk.lines.into_lines();
+    let lines = clock.lines.into_lines();
     let mut told = 0usize;
     for line in lines.as_slice() {
         if line.as_str().contains("alone: ") {
@@ -228,12 +228,12 @@ fn introduced_at<R: Wait>(
     let _ = peers.try_push(endpoint(2).ok_or("an endpoint")?);
     let mut joiner = joiner_of(peers, introduce)?;
     let mut caller = Direct::<64>::new(alloc)?;
-    let mut desk = Desk {
+    let mut clock = SetClock {
         millis: Some(0),
         is_shown: false,
         lines: Memory::new(alloc),
     };
-    let first = turn(&desk, &mut joiner, &mut caller)?;
+    let first = turn(&clock, &mut joiner, &mut caller)?;
     if first != (0, endpoint(2)) {
         return Err("the peer of the list first".into());
     }
@@ -241,8 +241,8 @@ fn introduced_at<R: Wait>(
     run(rt, &mut receiver, &mut caller, &mut Goes { left: 1 });
     let mut joined = ArrayVec::new();
     for millis in millis {
-        desk.millis = Some(*millis);
-        let _ = joined.try_push(turn(&desk, &mut joiner, &mut caller)?.1);
+        clock.millis = Some(*millis);
+        let _ = joined.try_push(turn(&clock, &mut joiner, &mut caller)?.1);
     }
     Ok(joined)
 }
@@ -288,20 +288,20 @@ fn introductions_by_the_clock(rt: HostRuntime) -> Result<(), Fail> {
 fn draws_again_in_the_next_era(rt: HostRuntime) -> Result<(), Fail> {
     let mut joiner = joiner_of(ArrayVec::new(), 0)?;
     let mut caller = Direct::<2>::new(rt.alloc())?;
-    let mut desk = Desk {
+    let mut clock = SetClock {
         millis: Some(0),
         is_shown: false,
         lines: Memory::new(rt.alloc()),
     };
     let mut receiver = Receiver::new(Listed::new(&[Given::Ping(1)]));
     run(&rt, &mut receiver, &mut caller, &mut Goes { left: 1 });
-    same(&rt, turn(&desk, &mut joiner, &mut caller)?, (0, None));
-    desk.millis = Some(10_000);
-    same(&rt, joiner.turn(&desk, &mut caller), Err(Refusal::EraFull));
+    same(&rt, turn(&clock, &mut joiner, &mut caller)?, (0, None));
+    clock.millis = Some(10_000);
+    same(&rt, joiner.turn(&clock, &mut caller), Err(Refusal::EraFull));
     caller.begin_era();
     same(
         &rt,
-        turn(&desk, &mut joiner, &mut caller)?,
+        turn(&clock, &mut joiner, &mut caller)?,
         (0, endpoint(3)),
     );
     Ok(())

@@ -1,6 +1,6 @@
 use Rattle.std.proofs.Common.{◌≡◌, ◌-◌, ◌<◌, ◌≤◌, ap, inl, inr, ◌∙◌, arith, get_or, length}
 use Rattle.std.proofs.lemmas.Bool.{cases_lt}
-use Rattle.swim_gossip.specs.declared.slots.Slot.{Slot}
+use Rattle.swim_gossip.specs.declared.slots.BufferSlot.{BufferSlot}
 use Rattle.swim_gossip.specs.Buckets.{at}
 use Rattle.swim_gossip.proofs.Raised.{at-read}
 use Rattle.swim_gossip.proofs.Falling.{falling-at}
@@ -9,7 +9,7 @@ use Rattle.swim_gossip.proofs.buckets.begin_of.Goals as goal
 pub returns-clause-same : goal.returns-clause-same
 returns-clause-same c = λ x l m w.
     let within : c.args.end - 1 < length c.args.slots.now = omega (arith, c.requires.some, c.requires.end) in
-    let read : (get_or c.args.slots.now (c.args.end - 1) c.index-slots-end.result).count ≡ (at c.args.slots.now (c.args.end - 1)).count = ap (λ (s : Slot). s.count) (at-read c.args.slots.now (c.args.end - 1) c.index-slots-end.result within) in
+    let read : (get_or c.args.slots.now (c.args.end - 1) c.index-slots-end.result).count ≡ (at c.args.slots.now (c.args.end - 1)).count = ap (λ (s : BufferSlot). s.count) (at-read c.args.slots.now (c.args.end - 1) c.index-slots-end.result within) in
     elim (cases_lt x c.stride_back-near.result) [
       | inl o ↦ c.step_back.ensures.same x l o w ∙ read
       | inr o ↦

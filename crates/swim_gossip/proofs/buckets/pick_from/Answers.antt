@@ -1,7 +1,7 @@
 use Rattle.std.proofs.Common.{◌≡◌, true, ℕ, List, map, sym, subst, ◌∙◌, ap}
 use Rattle.std.specs.List.{All}
 use Rattle.swim_wire.specs.declared.update.Update.{Update}
-use Rattle.swim_gossip.specs.declared.slots.Slot.{Slot}
+use Rattle.swim_gossip.specs.declared.slots.BufferSlot.{BufferSlot}
 use Rattle.swim_gossip.specs.Queue.{raise_all, NeverRise}
 use Rattle.swim_gossip.specs.Buckets.{at, raised_at, queue_in}
 use Rattle.swim_gossip.proofs.Falling.{falling-raised}
@@ -28,5 +28,5 @@ returns-clause-counted c =
 
 pub returns-clause-falling : goal.returns-clause-falling
 returns-clause-falling c =
-    subst (λ (slots : List Slot). NeverRise (queue_in slots)) (sym (c.send_at.ensures.slots ∙ ap (λ (xs : List ℕ). raised_at xs c.args.slots.now) (c.deref.ensures.0 ∙ c.next_places-places.ensures.places)))
+    subst (λ (slots : List BufferSlot). NeverRise (queue_in slots)) (sym (c.send_at.ensures.slots ∙ ap (λ (xs : List ℕ). raised_at xs c.args.slots.now) (c.deref.ensures.0 ∙ c.next_places-places.ensures.places)))
     (falling-raised c.args.limit c.args.room c.args.slots.now c.requires.few c.requires.falling)

@@ -1,6 +1,6 @@
 use Rattle.std.proofs.Common.{◌≡◌, ◌++◌, ◌∷◌, [], List, refl, ap, ◌∙◌}
 use Rattle.swim_gossip.specs.declared.buffer.Waiting.{Waiting}
-use Rattle.swim_gossip.specs.declared.slots.Slot.{Slot}
+use Rattle.swim_gossip.specs.declared.slots.BufferSlot.{BufferSlot}
 use Rattle.swim_gossip.specs.Buckets.{queue_in}
 use Rattle.swim_gossip.proofs.Places.{waiting-append}
 use Rattle.swim_gossip.proofs.slots.put.Goals as goal
@@ -13,5 +13,5 @@ returns-clause-queue c =
     ] in
     ap queue_in c.push.ensures.items
     ∙ waiting-append c.if-is_full.slots.items _
-    ∙ ap (λ (s : Slot). queue_in c.if-is_full.slots.items ++ queue_in (s ∷ [])) c.new.ensures
+    ∙ ap (λ (s : BufferSlot). queue_in c.if-is_full.slots.items ++ queue_in (s ∷ [])) c.new.ensures
     ∙ ap (λ (ws : List Waiting). ws ++ record { update = c.args.update; count = 0 } ∷ []) same

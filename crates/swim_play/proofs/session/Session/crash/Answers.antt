@@ -1,8 +1,8 @@
 use Rattle.std.proofs.Common.{◌≡◌, Some, refl, sym, ap, ◌∙◌, subst}
 use Rattle.swim_node.specs.Node.{owner_of}
 use Rattle.swim_play.specs.contracts.session.Session.{the_view}
-use Rattle.swim_play.specs.declared.session.Stage.{Stage}
-use Rattle.swim_play.specs.declared.session.Stage.TheVariants.{Idle}
+use Rattle.swim_play.specs.declared.session.SessionStage.{SessionStage}
+use Rattle.swim_play.specs.declared.session.SessionStage.TheVariants.{Idle}
 use Rattle.swim_play.specs.Life.{PlayDisk}
 use Rattle.swim_play.specs.Play.{Playing, Becomes, IsCrashed}
 use Rattle.swim_play.specs.Machinery.Session.{IsSession, disk_in}
@@ -14,7 +14,7 @@ pub invariant_of-self : goal.invariant_of-self
 invariant_of-self c =
     let session = c.self.inside in
     let owner = owner_of session.setup.settings in
-    let idle = subst (λ (s : Stage). IsSession owner session.apart session.runs.items session.lives.items s) c.in-Idle.is c.self.invariant in
+    let idle = subst (λ (s : SessionStage). IsSession owner session.apart session.runs.items session.lives.items s) c.in-Idle.is c.self.invariant in
     session-crashed owner session.runs.items session.lives.items session.apart c.in-Idle.disk c.crash_disk.new.disk idle c.crash_disk.ensures.image c.crash_disk.ensures.settled
 
 pub returns : goal.returns

@@ -1,6 +1,6 @@
 use Rattle.std.proofs.Common.{ap, subst}
 use Rattle.swim_play.specs.contracts.session.Session.{the_view}
-use Rattle.swim_play.specs.declared.session.Stage.TheVariants.{Open}
+use Rattle.swim_play.specs.declared.session.SessionStage.TheVariants.{Open}
 use Rattle.swim_play.specs.Play.{Playing}
 use Rattle.swim_play.specs.Machinery.Session.{IsAnswered, disk_in, life_in}
 use Rattle.swim_play.proofs.Openings.{answered-is}

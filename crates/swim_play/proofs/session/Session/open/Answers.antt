@@ -4,9 +4,9 @@ use Rattle.swim_state.specs.Recovery.{fault_of as shown}
 use Rattle.swim_member.specs.Checks.{fault_of}
 use Rattle.swim_node.specs.Node.{owner_of}
 use Rattle.swim_play.specs.contracts.session.Session.{the_view}
-use Rattle.swim_play.specs.declared.session.Refusal.TheVariants as refusal
-use Rattle.swim_play.specs.declared.session.Stage.{Stage}
-use Rattle.swim_play.specs.declared.session.Stage.TheVariants.{Idle, Open}
+use Rattle.swim_play.specs.declared.session.OpeningRefusal.TheVariants as refusal
+use Rattle.swim_play.specs.declared.session.SessionStage.{SessionStage}
+use Rattle.swim_play.specs.declared.session.SessionStage.TheVariants.{Idle, Open}
 use Rattle.swim_play.specs.Life.{disk_state}
 use Rattle.swim_play.specs.Play.{Playing, CanOpen, ComesAfterLives, IsRefused, asked_of, with_life}
 use Rattle.swim_play.specs.Machinery.Session.{IsSession, disk_in}
@@ -25,7 +25,7 @@ invariant_of-self-in-Ok c =
     let owner = owner_of session.setup.settings in
     let life = c.in-Ok.living in
     let named = ap owner_of (sym c.in-Ok.ensures.setup.0) in
-    let idle = subst (λ (s : Stage). IsSession owner session.apart session.runs.items session.lives.items s) (sym c.replace.ensures.value ∙ c.in-Idle.is) c.self.invariant in
+    let idle = subst (λ (s : SessionStage). IsSession owner session.apart session.runs.items session.lives.items s) (sym c.replace.ensures.value ∙ c.in-Idle.is) c.self.invariant in
     elim c.if-self.branch [
       | then-self w ↦ rw w.self-inside-is (session-begun-apart owner _ _ life
           (w.close_run.ensures.kept (rw c.reserve.ensures.items c.self.invariant.ended) (session-run owner session.apart session.runs.items session.lives.items session.stage c.self.invariant))
@@ -37,7 +37,7 @@ pub invariant_of-self-in-Err-open : goal.invariant_of-self-in-Err-open
 invariant_of-self-in-Err-open c =
     let session = c.self.inside in
     let owner = owner_of session.setup.settings in
-    let idle = subst (λ (s : Stage). IsSession owner session.apart session.runs.items session.lives.items s) (sym c.replace.ensures.value ∙ c.in-Idle.is) c.self.invariant in
+    let idle = subst (λ (s : SessionStage). IsSession owner session.apart session.runs.items session.lives.items s) (sym c.replace.ensures.value ∙ c.in-Idle.is) c.self.invariant in
     rw c.reserve.ensures.items (session-refused owner session.runs.items session.lives.items session.apart c.in-Idle.disk c.in-Err-open.disk idle c.in-Err-open.ensures.spared)
 
 pub returns-in-Err-open : goal.returns-in-Err-open
@@ -49,7 +49,7 @@ returns-in-Err-open c =
     subst (λ (p : Playing). the_view (record c.self.inside { runs = c.reserve.new.self; stage = Idle c.in-Err-open.disk }) ≡ record p { disk = Some c.in-Err-open.disk }) c.self.view_is (rw (c.reserve.ensures.items, idle) refl) in
     let session = c.self.inside in
     let owner = owner_of session.setup.settings in
-    let stands = subst (λ (s : Stage). IsSession owner session.apart session.runs.items session.lives.items s) idle c.self.invariant in
+    let stands = subst (λ (s : SessionStage). IsSession owner session.apart session.runs.items session.lives.items s) idle c.self.invariant in
     let lived : session.apart ≡ false → 0 < length (map asked_of session.lives.items) → ComesAfterLives (refusal.Open c.in-Err-open.fault) = λ same some.
     let held = session-held owner session.apart session.runs.items session.lives.items c.in-Idle.disk stands same (rw (length-map session.lives.items asked_of) at some) in
     after_lives c.in-Err-open.fault (c.in-Err-open.ensures.lived held.0 held.1) in

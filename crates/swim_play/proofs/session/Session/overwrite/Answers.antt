@@ -4,7 +4,7 @@ use Rattle.swim_disk.specs.declared.mem.MemDisk.{MemDisk}
 use Rattle.swim_node.specs.Node.{owner_of}
 use Rattle.swim_script.specs.Patches.{IsPatched}
 use Rattle.swim_play.specs.contracts.session.Session.{the_view}
-use Rattle.swim_play.specs.declared.session.Stage.TheVariants.{Idle}
+use Rattle.swim_play.specs.declared.session.SessionStage.TheVariants.{Idle}
 use Rattle.swim_play.specs.Life.{PlayDisk}
 use Rattle.swim_play.specs.Play.{Playing, Becomes}
 use Rattle.swim_play.specs.Machinery.Session.{disk_in}

@@ -1,7 +1,7 @@
 use Rattle.std.proofs.Common.{subst, sym}
 use Rattle.swim_simulate.specs.Laws.{IsLawful}
 use Rattle.swim_simulate.proofs.Watching.{new-watched}
-use Rattle.swim_simulate.proofs.watched.Watched.new.Goals as goal
+use Rattle.swim_simulate.proofs.watched.WatchedNodes.new.Goals as goal
 
 pub invariant_of-result : goal.invariant_of-result
 invariant_of-result c = (

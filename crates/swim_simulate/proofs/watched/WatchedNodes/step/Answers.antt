@@ -2,7 +2,7 @@ use Rattle.std.proofs.Common.{ap, sym, subst}
 use Rattle.swim_group.specs.Network.{IsNotInvented}
 use Rattle.swim_simulate.specs.Running.{WatchedView}
 use Rattle.swim_simulate.proofs.Watching.{heard-looked}
-use Rattle.swim_simulate.proofs.watched.Watched.step.Goals as goal
+use Rattle.swim_simulate.proofs.watched.WatchedNodes.step.Goals as goal
 
 pub invariant_of-self-in_err-look_at_last : goal.invariant_of-self-in_err-look_at_last
 invariant_of-self-in_err-look_at_last c =

@@ -1,8 +1,8 @@
 use Rattle.std.proofs.Common.{◌∙◌, sym, ap, arith, slice_get}
 use Rattle.std.specs.Option.{is_some}
 use Rattle.swim_member.proofs.Dealing.{distinct-dealt, distinct-names, first-within}
-use Rattle.swim_member.proofs.turn.Turn.begin.Goals.{then-is_some, else-is_some}
-use Rattle.swim_member.proofs.turn.Turn.begin.Goals as goal
+use Rattle.swim_member.proofs.turn.TurnList.begin.Goals.{then-is_some, else-is_some}
+use Rattle.swim_member.proofs.turn.TurnList.begin.Goals as goal
 
 pub invariant_of-self : goal.invariant_of-self
 invariant_of-self c = record {

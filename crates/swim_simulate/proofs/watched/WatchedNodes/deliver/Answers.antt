@@ -1,5 +1,5 @@
 use Rattle.swim_simulate.proofs.Watching.{delivered-looked}
-use Rattle.swim_simulate.proofs.watched.Watched.deliver.Goals as goal
+use Rattle.swim_simulate.proofs.watched.WatchedNodes.deliver.Goals as goal
 
 pub invariant_of-self-in_err-look_at_last : goal.invariant_of-self-in_err-look_at_last
 invariant_of-self-in_err-look_at_last c =
