@@ -9,7 +9,7 @@ use Rattle.swim_state.specs.Machinery.Saving.{Put}
 use Rattle.swim_state.specs.declared.layout.Slot.{Slot}
 use Rattle.swim_state.specs.declared.layout.Slot.TheVariants.{A, B}
 use Rattle.swim_state.specs.declared.slots.Slots.{Slots}
-use Rattle.swim_state.proofs.Moments.{weaker, goes_on}
+use Rattle.swim_state.proofs.Moments.{elapses_through, goes_on, weaker}
 
 keeps_all : (P : ℕ → Type 0) (xs : List ℕ) → Keeps P xs xs
 keeps_all P xs = record { no_shorter = omega arith; same = λ i less at. refl }
@@ -43,14 +43,7 @@ alone_on P old mid new first second = record {
 }
 
 elapses_alone : (P : ℕ → Type 0) (old new : DiskState) → Keeps P old.content new.content → Elapses old new → ((c : List ℕ) → new.images c → KeepsImage P old c) → LeavesAlone P old new
-elapses_alone P old new read time images = record {
-  read = read;
-  images = images;
-  moments = record {
-    later = time.later;
-    each = λ t c le left. ⊎_elim (λ was. inl was) (λ now. inr (images c now)) (time.only t c le left);
-  };
-}
+elapses_alone P old new read time images = record { read = read; images = images; moments = elapses_through (KeepsImage P old) old new time images }
 
 -- a call that writes nothing
 pub rests_alone : (P : ℕ → Type 0) (old new : DiskState) → Rests old new → LeavesAlone P old new
@@ -124,3 +117,7 @@ mark_alone bytes result old new one = put_alone IsEarlier 2048 bytes result old 
 pub target_read : (image : List ℕ) (slots : Slots) → AreOf version_2 image slots → target_by slots.a slots.b ≡ target_in image
 unfolding target_in
 target_read image slots are = λ i. target_by (are.a i) (are.b i)
+
+-- beside the slot that is the target
+pub alone_at : {slot target : Slot} {old new : DiskState} → slot ≡ target → LeavesAlone (IsBeside slot) old new → LeavesAlone (IsBeside target) old new
+alone_at {old = old} {new = new} is alone = subst (λ slot. LeavesAlone (IsBeside slot) old new) is alone

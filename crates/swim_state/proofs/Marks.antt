@@ -86,18 +86,3 @@ stands_covers owner front slot kept n image begins mark is stands =
 -- a torn write past the mark leaves the version
 pub version_kept : (at n : ℕ) (old new : List ℕ) → Torn at n old new → 2048 < at → 2048 < length old → version_in new ≡ version_in old
 version_kept at n old new torn past long = ap version_by (byte_kept at n old new 2048 torn long (inl (omega (arith, past))))
-
--- a reading, from what its body says
-pub reads_some : (layout : Layout) (bytes : List ℕ) (saved : Saved) → Some saved ≡ said layout bytes → Holds saved ≡ slot_reading layout 0xA5 bytes
-reads_some layout bytes saved is = some_by (layout.is_good bytes) saved (layout.saved_in bytes) is
-  where
-    some_by : (t : Bool) (s m : Saved) → Some s ≡ (if t then Some m else None) → Holds s ≡ (if t then Holds m else Damaged)
-    some_by true s m is = let same : s ≡ m = cc in ap Holds same
-    some_by false s m is = cc
-
-pub reads_none : (layout : Layout) (bytes : List ℕ) → None ≡ said layout bytes → Damaged ≡ slot_reading layout 0xA5 bytes
-reads_none layout bytes is = none_by (layout.is_good bytes) (layout.saved_in bytes) is
-  where
-    none_by : (t : Bool) (m : Saved) → None ≡ (if t then Some m else None) → Damaged ≡ (if t then Holds m else Damaged)
-    none_by true m is = cc
-    none_by false m is = refl
