@@ -1,11 +1,11 @@
 -- The version of an image, and what a slot of it says.
-use Rattle.std.proofs.Common.{◌≡◌, ◌≢◌, ◌⊎◌, inl, inr, ℕ, ◌≤◌, ◌<◌, Bool, true, false, ◌==◌, if◌then◌else◌, List, length, take, slice_index, Some, None, refl, sym, ◌∙◌, ap, subst, arith}
+use Rattle.std.proofs.Common.{◌≡◌, ◌≢◌, ◌⊎◌, inl, inr, ℕ, ◌≤◌, ◌<◌, Bool, true, false, ◌==◌, if◌then◌else◌, List, length, take, slice_index, refl, sym, ◌∙◌, ap, subst, arith}
 use Rattle.std.proofs.lemmas.Bool.{eqb-true}
 use Rattle.std.proofs.lemmas.List.{get_or-take, take-take}
 use Rattle.swim_disk.specs.Disk.{Torn}
-use Rattle.swim_state.specs.Layout.{Layout, other_slot}
+use Rattle.swim_state.specs.Layout.{other_slot}
 use Rattle.swim_state.specs.Second.{version_2}
-use Rattle.swim_state.specs.File.{head, slot_reading, reading_at, said, says, version_by, version_in, layout_of, IsOpen, IsSound, ceiling_of, floor}
+use Rattle.swim_state.specs.File.{head, reading_at, says, version_by, version_in, layout_of, IsOpen, IsSound, ceiling_of, floor}
 use Rattle.swim_state.specs.Held.{Covers}
 use Rattle.swim_state.specs.Machinery.Saving.{Stands}
 use Rattle.swim_state.specs.declared.owner.Owner.{Owner}

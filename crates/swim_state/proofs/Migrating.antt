@@ -6,7 +6,7 @@ use Rattle.swim_disk.specs.Machinery.Torn.{overlaid_torn}
 use Rattle.swim_state.specs.Layout.{bytes_from}
 use Rattle.swim_state.specs.First.{version_1}
 use Rattle.swim_state.specs.Second.{body, may_be_saved, version_2}
-use Rattle.swim_state.specs.File.{slot_reading, reading_at, says, version_by, version_in, layout_of, floor, ceiling_of, IsOpen, IsSound, AreOf}
+use Rattle.swim_state.specs.File.{slot_reading, reading_at, says, version_by, version_in, layout_of, floor, ceiling_of, IsOpen, IsSound}
 use Rattle.swim_state.specs.Held.{Covers}
 use Rattle.swim_state.specs.Machinery.Saving.{IsLaid, IsOld, Leaves, Put, Migrates}
 use Rattle.swim_state.specs.declared.owner.Owner.{Owner}
@@ -142,15 +142,12 @@ mark_lies saved old lies =
       b = twos_kept old _ torn lies.long B ∙ lies.b;
     }
 
--- once the mark is written, the file is sound
-pub laid_same : (saved : Saved) (image : List ℕ) → IsLaid saved image → AreOf version_2 image (record { a = Holds saved; b = Shut })
-laid_same saved image lies = record { a = sym lies.a; b = sym lies.b }
-
 pub settled_old : (owner : Owner) (disk : DiskState) → version_in disk.content ≡ One → IsSound owner disk.content → IsSettled disk → (c : List ℕ) → disk.images c → IsOld owner (floor disk.content) c
 settled_old owner disk one sound settled c left = subst (IsOld owner (floor disk.content)) (sym (settled c left)) (record { one = one; covers = record { sound = sound; covered = omega arith } })
 
 pub stopped_migrating : {E : Type 0} (owner : Owner) (m : ℕ) (e : E) (old new : DiskState) → Leaves (Covers owner m) old new → Migrates owner m (Err e) old new
 stopped_migrating owner m e old new leaves = assumption
 
+-- once the mark is written, the file is sound
 pub migrated : {E : Type 0} (owner : Owner) (m : ℕ) (saved : Saved) (old new : DiskState) → Leaves (Covers owner m) old new → IsSettled new → version_in new.content ≡ Two → IsLaid saved new.content → Migrates {E = E} owner m (Ok (record { a = Holds saved; b = Shut })) old new
-migrated owner m saved old new leaves settled two lies = assumption (laid_same saved new.content lies, (leaves.images new.content new.reads).sound)
+migrated owner m saved old new leaves settled two lies = assumption (sym lies.a, sym lies.b, (leaves.images new.content new.reads).sound)

@@ -2,8 +2,7 @@
 use Rattle.std.proofs.Common.{◌≡◌, ◌⊎◌, inl, inr, ℕ, ◌+◌, ◌<◌, ◌≤◌, Bool, true, false, List, Result, Ok, Err, refl, sym, ap, ◌∙◌, subst, arith}
 use Rattle.std.specs.Prelude.{OnOk, OnErr, IsErrOf}
 use Rattle.std.proofs.lemmas.Result.{on_ok_weaker, on_err_weaker}
-use Rattle.swim_disk.specs.Disk.{Counts, DiskState, IsSettled, Rests}
-use Rattle.swim_disk.specs.declared.disk.DiskFault.{DiskFault}
+use Rattle.swim_disk.specs.Disk.{DiskState, IsSettled, Rests}
 use Rattle.swim_state.specs.Alone.{IsBeside, LeavesAlone, target_by, target_in}
 use Rattle.swim_state.specs.File.{floor_of, peers_in, version_in, AreOf, IsSound}
 use Rattle.swim_state.specs.Held.{Covers, HasPeers, Held, Through}
@@ -12,7 +11,7 @@ use Rattle.swim_state.specs.Machinery.Saving.{Saves}
 use Rattle.swim_state.specs.Second.{version_2}
 use Rattle.swim_state.specs.Store.{IsStore, StoreView, reserved}
 use Rattle.swim_state.specs.declared.fault.SaveFault.{SaveFault}
-use Rattle.swim_state.specs.declared.fault.SaveFault.TheVariants.{Device, Changed, Exhausted}
+use Rattle.swim_state.specs.declared.fault.SaveFault.TheVariants.{Changed, Exhausted}
 use Rattle.swim_state.specs.declared.layout.Version.TheVariants.{Two}
 use Rattle.swim_state.specs.declared.owner.Owner.{Owner}
 use Rattle.swim_state.specs.declared.slots.Slots.{Slots}

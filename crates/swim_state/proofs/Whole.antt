@@ -1,6 +1,6 @@
 -- A whole save, from its three steps.
 use Rattle.std.proofs.lemmas.Bool.{cases_Bool, le-leb, lt-leb}
-use Rattle.std.proofs.Common.{Bool, false, nat_le, if◌then◌else◌, slice_index, ◌≡◌, ◌≢◌, inl, inr, ℕ, ◌==◌, [], ◌^◌, ◌<◌, ◌≤◌, true, List, take, Result, OnOk, Ok, Err, refl, subst, sym, ◌∙◌, ap, arith}
+use Rattle.std.proofs.Common.{Bool, false, nat_le, if◌then◌else◌, slice_index, ◌≡◌, ◌≢◌, inl, inr, ℕ, ◌==◌, [], ◌^◌, ◌<◌, ◌≤◌, true, List, take, Result, OnOk, refl, subst, sym, ◌∙◌, ap, arith}
 use Rattle.swim_disk.specs.Disk.{DiskState, IsSettled}
 use Rattle.swim_state.specs.Layout.{other_slot, bytes_from}
 use Rattle.swim_state.specs.First.{alone, version_1}
@@ -8,7 +8,7 @@ use Rattle.swim_state.specs.declared.layout.Reading.{Reading}
 use Rattle.swim_state.specs.Second.{is_good, version_2}
 use Rattle.swim_state.specs.File.{head, reading_at, reading_in, floor, floor_of, floor_peers, says, peers_by, peers_of, peers_in, version_in, layout_of, ceiling_of, IsOpen, IsSound, AreUsable, AreOf}
 use Rattle.swim_state.specs.Held.{Covers, Through}
-use Rattle.swim_state.specs.Machinery.Saving.{Stands, Saves, Migrates}
+use Rattle.swim_state.specs.Machinery.Saving.{Stands, Saves}
 use Rattle.swim_state.specs.declared.owner.Owner.{Owner}
 use Rattle.swim_state.specs.declared.layout.Saved.{Saved}
 use Rattle.swim_state.specs.declared.layout.Slot.{Slot}
