@@ -9,7 +9,6 @@ use Rattle.swim_node.specs.declared.beginning.BeginFault.{BeginFault}
 use Rattle.swim_node.specs.declared.beginning.BeginFault.TheVariants as fault
 use Rattle.swim_node.specs.declared.opening.TheConstants.{LIMIT_MAX}
 use Rattle.swim_node.specs.History.{Base}
-use Rattle.swim_node.specs.Node.{granted_base}
 use Rattle.swim_node.specs.Owns.{AreAtMost}
 use Rattle.swim_node.specs.Replaying.{begin_fault, bounds_fault, is_above, or_state}
 
@@ -55,13 +54,3 @@ begins-bounds b h =
 pub at_most-past : (g : ℕ) (past : Option ℕ) → AreAtMost g (option_to_list past) → is_above g past ≡ false
 at_most-past g None h = refl
 at_most-past g (Some n) h = le-ltb g n h.0
-
-past-more : (granted g : ℕ) (past : Option ℕ) → granted ≤ g → is_above granted past ≡ false → is_above g past ≡ false
-past-more granted g None le h = refl
-past-more granted g (Some n) le h = le-ltb g n (omega (arith, ltb-false granted n h))
-
--- a greater ceiling refuses no more
-pub begins-granted : (b : Base) (g : ℕ) → begin_fault b ≡ None → b.granted ≤ g → begin_fault (granted_base b g) ≡ None
-begins-granted b g h le =
-    let begun = begun-bounds b h in
-    begins-bounds (granted_base b g) (record { some = begun.some; short = begun.short; low = omega (arith, begun.low); past = past-more b.granted g b.past le begun.past; resumes = begun.resumes })

@@ -1,11 +1,10 @@
 -- The first members of a table in order ascend.
-use Rattle.std.proofs.Common.{◌≡◌, ℕ, zero, suc, ◌+◌, ◌%◌, ◌<◌, ◌≤◌, Bool, true, List, [], ◌∷◌, ◌++◌, length, map, take, refl, ap, sym, ◌∙◌, arith, All, Some, None, get_or, inl, inr, ⊎_elim}
-use Rattle.std.specs.List.{slice_get}
-use Rattle.std.proofs.lemmas.Option.{slice_get_cases, slice_get_within, get_or_from_slice_get}
-use Rattle.std.proofs.lemmas.List.{map-append, take_all, take_more}
+use Rattle.std.proofs.Common.{◌≡◌, ℕ, zero, suc, ◌+◌, ◌%◌, ◌<◌, ◌≤◌, Bool, true, List, [], ◌∷◌, ◌++◌, length, map, take, refl, ap, ◌∙◌, arith, All, Some, get_or, inl, inr}
+use Rattle.std.proofs.lemmas.Option.{slice_get_within, get_or_from_slice_get}
+use Rattle.std.proofs.lemmas.List.{length-map, length-take, map-append, take_more}
 use Rattle.std.proofs.lemmas.Bool.{and_from, cases_Bool, lt-ltb}
 use Rattle.std.proofs.lemmas.List.Elements.{All-head, All-tail}
-use Rattle.std.specs.List.{filter}
+use Rattle.std.specs.List.{filter, slice_get}
 use Rattle.swim_rules.specs.declared.table.Row.{Row}
 use Rattle.swim_rules.specs.Rows.{AreAbove, AreInOrder}
 use Rattle.swim_rules.proofs.Tables.{above-weaken, order-above}
@@ -38,26 +37,20 @@ ascend-above low (r ∷ rows) above ports =
     and_from _ _ (and_from _ _ (lt-ltb low who above.0) (lt-ltb 0 (who % 65536) (All-head (λ w. 0 < w % 65536) who (map row_name rows) ports)))
     (ascend-above who rows above.1 (All-tail (λ w. 0 < w % 65536) who (map row_name rows) ports))
 
-positive : (n : ℕ) → 0 < n % 65536 → 0 < n
-positive zero port = port
-positive (suc n) port = omega arith
-
 ascend-taken : (n : ℕ) (rows : List Row) → AreInOrder rows → All (λ who. 0 < who % 65536) (map row_name (take n rows)) → ascend 0 (map row_name (take n rows)) ≡ true
 ascend-taken zero rows order ports = refl
 ascend-taken (suc n) [] order ports = refl
 ascend-taken (suc n) (r ∷ rows) order ports =
     let who = r.update.who in
     let port = All-head (λ w. 0 < w % 65536) who (map row_name (take n rows)) ports in
-    ascend-above 0 (r ∷ take n rows) (positive who port, above-take n who rows order) ports
+    ascend-above 0 (r ∷ take n rows) (omega (arith, port), above-take n who rows order) ports
 
 -- of a table in order, the first that pass a test
 pub ascend-first : (test : Row → Bool) (n : ℕ) (rows : List Row) → AreInOrder rows → All (λ who. 0 < who % 65536) (map row_name (take n (filter test rows))) → ascend 0 (map row_name (take n (filter test rows))) ≡ true
 ascend-first test n rows order ports = ascend-taken n (filter test rows) (order-filter test rows order) ports
 
 pub few_first : (n : ℕ) (rows : List Row) → length (map row_name (take n rows)) ≤ n
-few_first zero rows = omega arith
-few_first (suc n) [] = omega arith
-few_first (suc n) (r ∷ rows) = let rest = few_first n rows in omega (arith, rest)
+few_first n rows = omega (arith, length-map (take n rows) row_name, length-take n rows)
 
 -- one member more
 pub first_more : (n : ℕ) (rows : List Row) (r : Row) → slice_get rows n ≡ Some r → map row_name (take (n + 1) rows) ≡ map row_name (take n rows) ++ row_name r ∷ []
@@ -65,10 +58,3 @@ first_more n rows r is =
     ap (λ (l : List Row). map row_name l) (take_more rows n r (slice_get_within rows n r is))
     ∙ map-append row_name (take n rows) (get_or rows n r ∷ [])
     ∙ ap (λ (d : Row). map row_name (take n rows) ++ row_name d ∷ []) (get_or_from_slice_get rows n r r is)
-
--- and none
-pub first_all : (n most : ℕ) (rows : List Row) → slice_get rows n ≡ None → n ≤ most → map row_name (take n rows) ≡ map row_name (take most rows)
-first_all n most rows is le = ⊎_elim
-    (λ some. absurd (let e : None ≡ Some some.0 = sym is ∙ some.2 in cc))
-    (λ past. ap (λ (l : List Row). map row_name l) (take_all n rows past.0 ∙ sym (take_all most rows (let long : length rows ≤ n = past.0 in omega arith))))
-    (slice_get_cases rows n).1

@@ -6,7 +6,6 @@ pub mod Nodes
 pub mod Lives
 pub mod Living
 mod KeptPeers
-mod Unopened
 pub mod Crosses
 pub mod Replaying
 mod Examples

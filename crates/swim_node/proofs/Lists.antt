@@ -1,5 +1,5 @@
 -- Lemmas on entries, datagrams and outcomes, one after another.
-use Rattle.std.proofs.Common.{◌≡◌, ℕ, zero, suc, ◌+◌, ◌-◌, slice_index_or, ◌==◌, ◌<◌, ◌≤◌, take, slice_set, List, [], ◌∷◌, ◌++◌, length, refl, ap, sym, ◌∙◌, arith, append_assoc, append-nil, length-append, Option, inl, inr}
+use Rattle.std.proofs.Common.{◌≡◌, ℕ, ◌+◌, ◌-◌, slice_index_or, ◌==◌, ◌≤◌, List, [], ◌∷◌, ◌++◌, length, refl, ap, sym, ◌∙◌, arith, append_assoc, append-nil, length-append, Option, inl, inr}
 use Rattle.std.proofs.Math.Seq.{get_or-append_seam}
 use Rattle.std.proofs.lemmas.Bool.{cases_Bool}
 use Rattle.std.proofs.lemmas.List.Elements.{filter-append}
@@ -105,20 +105,6 @@ sends_all-snoc tells t0 t1 t2 f0 f1 f2 xs e all one = record {
       ∙ ap (λ w. t0 ++ w) (sym (taken_of-append xs (e ∷ [])));
   failures = omega (arith, all.failures, one.failures, lost_of-append xs (e ∷ []));
 }
-
--- the places up to one that is filled
-pub take-set : (n : ℕ) (xs : List Entry) (e : Entry) → n < length xs → take (n + 1) (slice_set xs n e) ≡ take n xs ++ e ∷ []
-take-set n [] e h = absurd (omega arith)
-take-set zero (x ∷ xs) e h = refl
-take-set (suc n) (x ∷ xs) e h =
-    let one : suc n + 1 ≡ suc (n + 1) = omega arith in
-    ap (λ k. take k (x ∷ slice_set xs n e)) one ∙ ap (λ ys. x ∷ ys) (take-set n xs e (omega arith))
-
--- and up to one that is added
-pub take-more : (n : ℕ) (xs : List Entry) (e : Entry) → n ≤ length xs → take n (xs ++ e ∷ []) ≡ take n xs
-take-more zero xs e h = refl
-take-more (suc n) [] e h = absurd (omega arith)
-take-more (suc n) (x ∷ xs) e h = ap (λ ys. x ∷ ys) (take-more n xs e (omega arith))
 
 pub last-snoc : (xs : List Entry) (e d : Entry) → slice_index_or (xs ++ e ∷ []) (length (xs ++ e ∷ []) - 1) d ≡ e
 last-snoc xs e d =

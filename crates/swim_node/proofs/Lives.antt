@@ -12,15 +12,14 @@ use Rattle.swim_node.proofs.Lists.{at_most-append}
 
 -- Disks
 
+held-cut : (owner : Owner) (b : ℕ) (d f : DiskState) (c : List ℕ) → Held owner d b → Through (Covers owner b) d f → f.since d.clock c → Covers owner b c
+held-cut owner b d f c h t left = elim (t.each d.clock c (omega arith) left) [ inl old ↦ h c (d.only_now c old) | inr covers ↦ covers ]
+
 held-through : (owner : Owner) (b : ℕ) (d e : DiskState) → Held owner d b → Through (Covers owner b) d e → Held owner e b
-held-through owner b d e h t c image =
-    elim (t.each d.clock c (omega arith) (e.now d.clock c t.later image)) [ inl old ↦ h c (d.only_now c old) | inr covers ↦ covers ]
+held-through owner b d e h t c image = held-cut owner b d e c h t (e.now d.clock c t.later image)
 
 held-settled : (owner : Owner) (b : ℕ) (e : DiskState) → IsSettled e → Covers owner b e.content → Held owner e b
 held-settled owner b e settled covers c image = subst (λ (x : List ℕ). Covers owner b x) (sym (settled c image)) covers
-
-held-cut : (owner : Owner) (b : ℕ) (d f : DiskState) (c : List ℕ) → Held owner d b → Through (Covers owner b) d f → f.since d.clock c → Covers owner b c
-held-cut owner b d f c h t left = elim (t.each d.clock c (omega arith) left) [ inl old ↦ h c (d.only_now c old) | inr covers ↦ covers ]
 
 held-then : (D : Type 0) (state : D → DiskState) (owner : Owner) (b : ℕ) (d e : D) → Then D state owner b d e → Held owner (state d) b → Held owner (state e) b
 held-then D state owner b d _ (Killed _) h = h

@@ -29,23 +29,11 @@ at_least-parts : (f : ℕ) (ms ns : List ℕ) → AreAtLeast f (ms ++ ns) → Ar
 at_least-parts f [] ns h = (tt {0}, h)
 at_least-parts f (m ∷ ms) ns h = let rest = at_least-parts f ms ns h.1 in ((h.0, rest.0), rest.1)
 
-least-last : (f : ℕ) (ms ns : List ℕ) → AreAtLeast f (ms ++ ns) → AreAtLeast f ns
-least-last f ms ns h = (at_least-parts f ms ns h).1
-
 numbers-snoc : (f : ℕ) (eras : List Era) (era : Era) → AreAtLeast f (numbers_in eras) → AreAtLeast f (owns era.base era.entries) → AreAtLeast f (numbers_in (eras ++ era ∷ []))
-numbers-snoc f [] era h k = at_least-append f (owns_in era.base.state.settings.me era.entries) [] (least-last f (option_to_list era.base.past) _ k) (tt {0})
+numbers-snoc f [] era h k = at_least-append f (owns_in era.base.state.settings.me era.entries) [] (at_least-parts f (option_to_list era.base.past) _ k).1 (tt {0})
 numbers-snoc f (first ∷ eras) era h k =
     let parts = at_least-parts f (owns_in first.base.state.settings.me first.entries) (numbers_in eras) h in
     at_least-append f (owns_in first.base.state.settings.me first.entries) _ parts.0 (numbers-snoc f eras era parts.1 k)
-
--- a call that leaves base, owner and first number as they were
-pub goes_on : {D : Type 0} (state : D → DiskState) (old new : NodeView D) → new.base ≡ old.base → new.owner ≡ old.owner → new.first ≡ old.first → GoesOn state old new
-goes_on state old new base owner first settings limit opened eras h = record {
-  same_owner = rw owner h.same_owner;
-  joined = rw (base, first) h.joined;
-  above = rw (owner, first) h.above;
-  begun = rw first h.begun;
-}
 
 -- a call that raises the ceiling of the base
 pub goes_raised : {D : Type 0} (state : D → DiskState) (old new : NodeView D) → IsRaised old.base new.base → new.owner ≡ old.owner → new.first ≡ old.first → GoesOn state old new
@@ -55,6 +43,10 @@ goes_raised state old new raised owner first settings limit opened eras h = reco
   above = rw (owner, first) h.above;
   begun = rw first h.begun;
 }
+
+-- a call that leaves base, owner and first number as they were
+pub goes_on : {D : Type 0} (state : D → DiskState) (old new : NodeView D) → new.base ≡ old.base → new.owner ≡ old.owner → new.first ≡ old.first → GoesOn state old new
+goes_on state old new base owner first = goes_raised state old new (rw base (record { same = refl; grows = omega arith })) owner first
 
 -- a call that begins an era with what is now
 pub ends_era : {D : Type 0} (state : D → DiskState) (old new : NodeView D) → new.base ≡ next_base old.base old.entries → new.owner ≡ old.owner → new.first ≡ old.first → IsLegal old.base old.entries → AreAtLeast old.first (owns old.base old.entries) → EndsEra state old new
@@ -72,7 +64,7 @@ may_end state node member ceiling top n held settings limit opened eras h = reco
   joined = h.joined;
   legal = n.legal;
   above = h.above;
-  begun = at_least-append node.first (numbers_in eras) _ h.begun (least-last node.first (option_to_list node.base.past) _ n.begun);
+  begun = at_least-append node.first (numbers_in eras) _ h.begun (at_least-parts node.first (option_to_list node.base.past) _ n.begun).1;
   started = omega (arith, n.low, n.high, n.granted);
   covers = rw n.granted n.covers;
   held = rw n.granted held;

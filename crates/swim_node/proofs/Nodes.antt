@@ -12,15 +12,16 @@ use Rattle.swim_member.specs.Judge.{wanted, HasDeal}
 use Rattle.swim_member.specs.Fit.{AreAll, own_numbers_in}
 use Rattle.swim_node.specs.declared.entry.Entry.{Entry}
 use Rattle.swim_node.specs.declared.entry.Save.{Save}
+use Rattle.swim_node.specs.declared.opening.TheConstants.{LIMIT_MAX}
 use Rattle.swim_node.specs.declared.entry.Save.TheVariants.{Kept, Done, Failed}
 use Rattle.swim_node.specs.History.{Base, IsLegal, IsNext, AreNext, Saves, steps, granted_of, state_after, status_at, answer_in, taken_in, lost_in}
 use Rattle.swim_node.specs.Machinery.Entering.{Steps}
 use Rattle.swim_node.specs.Sending.{HasTexts}
 use Rattle.swim_node.specs.Owns.{owns, owns_in, AreAtMost, AreAtLeast, greatest_of, greatest_with, greater_of}
-use Rattle.swim_node.specs.Node.{HasCaller, IsNode, IsTurn, granted_base, next_base}
+use Rattle.swim_node.specs.Node.{HasCaller, IsNode, IsTurn, next_base}
 use Rattle.swim_node.specs.Probing.{IsStart}
 use Rattle.swim_node.specs.Replaying.{begin_fault}
-use Rattle.swim_node.proofs.Begins.{begins-bounds, begins-granted, begun-bounds, at_most-past}
+use Rattle.swim_node.proofs.Begins.{begins-bounds, begun-bounds, at_most-past}
 use Rattle.swim_node.proofs.Probing.{start-after}
 use Rattle.swim_node.proofs.Lists.{steps-append, granted_from-append, owns_in-append, at_most-append, at_most-more, at_least-append, all-at_most, all-at_least, greatest_with-append}
 
@@ -53,8 +54,7 @@ number-failed (Some w) low g n h =
     elim (cases_Bool (nat_le w g)) [ inl t ↦ absurd (let over : w ≤ g = leb-true w g t in omega arith) | inr f ↦ rw f refl ]
 
 saves-at : (s t : State) (event : Event) (g h : ℕ) (save : Save) (granted : ℕ) → s ≡ t → g ≡ h → Saves (wanted t event) h save granted → Saves (wanted s event) g save granted
-saves-at s t event g h save granted e f k =
-    subst (λ (x : State). Saves (wanted x event) g save granted) (sym e) (subst (λ (y : ℕ). Saves (wanted t event) y save granted) (sym f) k)
+saves-at s t event g h save granted e f k = rw (e, f) k
 
 -- what an entry is made of, after a history that left this state and this ceiling
 pub record Enters (xs : List Entry) (old new : State) (low high : ℕ) (e : Entry) : Type 0 where
@@ -76,18 +76,10 @@ module _ (base : Base) (xs : List Entry) (e : Entry) (first : ℕ) (old new : St
   state-snoc n h = ap (λ (s : List Step). state_of base.state s) (steps-append xs (e ∷ [])) ∙ h.steps.state base.state (steps xs) n.member
 
   pub next-entered : IsNode base xs first old low top → Enters xs old new low high e → IsNext base xs e
-  next-entered n h = record {
-    fits = record {
-      saved = saves-at (state_after base xs) old e.event (granted_of base xs) low e.save e.granted n.member n.granted h.saved;
-      outcomes = h.outcomes;
-    };
-    deal = h.deal;
-    answered = h.steps.answered base.state (steps xs) n.member;
-    status = h.status ∙ ap (λ (k : ℕ). status_at new k) (sym (length-append xs (e ∷ []))) ∙ ap (λ (s : State). status_at s (length (xs ++ e ∷ []))) (sym (state-snoc n h));
-    sent = h.sent;
-    lost = h.lost;
-    turn = h.turn;
-  }
+  next-entered n h =
+      let saved = saves-at (state_after base xs) old e.event (granted_of base xs) low e.save e.granted n.member n.granted h.saved in
+      let status = h.status ∙ ap (λ (k : ℕ). status_at new k) (sym (length-append xs (e ∷ []))) ∙ ap (λ (s : State). status_at s (length (xs ++ e ∷ []))) (sym (state-snoc n h)) in
+      assumption (saved, status, h.steps.answered base.state (steps xs) n.member)
 
   owns-snoc : owns base (xs ++ e ∷ []) ≡ owns base xs ++ own_numbers_in base.state.settings.me e.outs.items
   owns-snoc =
@@ -169,42 +161,28 @@ begins-now base xs first s ceiling top n resumes =
     let same : next_base base xs ≡ record { state = s; granted = ceiling; past = top; limit = base.limit } = rw (n.member, n.granted, n.most) refl in
     ap begin_fault same ∙ begins-next base xs first s ceiling top n resumes
 
--- a node whose era begins with what is now
-pub node-rebased : (base : Base) (xs : List Entry) (first : ℕ) (s : State) (ceiling : ℕ) (top : Option ℕ) → IsNode base xs first s ceiling top → state_of s [] ≡ s → resume_fault s ≡ None → IsNode (record { state = s; granted = ceiling; past = top; limit = base.limit }) [] first s ceiling top
-node-rebased base xs first s ceiling top n reads resumes = record {
+-- a node whose era begins with this state
+pub node-new : (s : State) (granted : ℕ) (past : Option ℕ) (limit first : ℕ) → state_of s [] ≡ s → begin_fault (record { state = s; granted = granted; past = past; limit = limit }) ≡ None → IsStart s → s.number ≤ granted → first ≤ s.number → AreAtMost granted (option_to_list past) → AreAtLeast first (option_to_list past) → limit ≤ LIMIT_MAX → IsNode (record { state = s; granted = granted; past = past; limit = limit }) [] first s granted past
+node-new s granted past limit first reads begins start low high most least short = record {
   legal = record { each = tt {0}; within = omega arith };
-  start = subst IsStart (n.member ∙ sym reads) (start-after base xs n.legal n.start);
+  start = subst IsStart (sym reads) start;
   reads = reads;
-  begins = begins-next base xs first s ceiling top n resumes;
+  begins = begins;
   member = reads;
   settings = refl;
   granted = refl;
-  low = n.low;
-  high = n.high;
-  covers = at_most-append ceiling (option_to_list top) [] (rw n.most at (greatest-at_most ceiling None (owns base xs) (tt {0}) n.covers)) (tt {0});
-  begun = at_least-append first (option_to_list top) [] (rw n.most at (greatest-at_least first None (owns base xs) (tt {0}) n.begun)) (tt {0});
-  most = greatest-one top;
+  low = low;
+  high = high;
+  covers = at_most-append granted (option_to_list past) [] most (tt {0});
+  begun = at_least-append first (option_to_list past) [] least (tt {0});
+  most = greatest-one past;
   texts = All-nil HasTexts;
   callers = All-nil HasCaller;
-  short = n.short;
+  short = short;
 }
 
--- before the first entry the ceiling may be raised
-pub node-granted : (base : Base) (entries : List Entry) (first ceiling g : ℕ) (s : State) (top : Option ℕ) → IsNode base entries first s ceiling top → entries ≡ [] → ceiling ≤ g → IsNode (granted_base base g) entries first s g top
-node-granted base entries first ceiling g s top n none le = record {
-  legal = rw none (record { each = tt {0}; within = omega arith });
-  start = n.start;
-  reads = n.reads;
-  begins = begins-granted base g n.begins (let stood : granted_of base entries ≡ ceiling = n.granted in let low : base.granted ≡ ceiling = rw none at stood in omega (arith, low, le));
-  member = n.member;
-  settings = n.settings;
-  granted = rw none refl;
-  low = omega (arith, n.low, le);
-  high = n.high;
-  covers = at_most-more ceiling g (owns base entries) le n.covers;
-  begun = n.begun;
-  most = n.most;
-  texts = n.texts;
-  callers = n.callers;
-  short = n.short;
-}
+-- and with what is now
+pub node-rebased : (base : Base) (xs : List Entry) (first : ℕ) (s : State) (ceiling : ℕ) (top : Option ℕ) → IsNode base xs first s ceiling top → state_of s [] ≡ s → resume_fault s ≡ None → IsNode (record { state = s; granted = ceiling; past = top; limit = base.limit }) [] first s ceiling top
+node-rebased base xs first s ceiling top n reads resumes =
+    node-new s ceiling top base.limit first reads (begins-next base xs first s ceiling top n resumes) (subst IsStart n.member (start-after base xs n.legal n.start)) n.low n.high
+    (rw n.most at (greatest-at_most ceiling None (owns base xs) (tt {0}) n.covers)) (rw n.most at (greatest-at_least first None (owns base xs) (tt {0}) n.begun)) n.short

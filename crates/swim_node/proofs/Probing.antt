@@ -1,7 +1,8 @@
 -- The law of turns, by induction over the entries of a turn: who is left in the list was not probed yet, and who is no longer left was probed once, or was not eligible at some look.
-use Rattle.std.proofs.Common.{◌≡◌, ℕ, ◌+◌, ◌==◌, Bool, true, false, ◌||◌, ◌&&◌, refl, sym, ◌∙◌, ap, subst, ◌≤◌, List, [], ◌∷◌, ◌++◌, length, drop, take, append_assoc, append-nil, arith}
+use Rattle.std.proofs.Common.{◌≡◌, ℕ, ◌+◌, ◌==◌, Bool, true, false, ◌||◌, refl, sym, ◌∙◌, ap, subst, ◌≤◌, List, [], ◌∷◌, ◌++◌, length, drop, take, append_assoc, append-nil, arith}
 use Rattle.std.specs.List.{filter, list_all}
-use Rattle.std.proofs.lemmas.Bool.{false≢true, eqb-true}
+use Rattle.std.proofs.Math.Bool.{or_assoc}
+use Rattle.std.proofs.lemmas.Bool.{and_parts, false≢true, eqb-true}
 use Rattle.swim_member.specs.declared.answer.Answer.{Answer}
 use Rattle.swim_member.specs.State.{State, Change}
 use Rattle.swim_member.specs.Events.{Step, log_of, outs, state_of, actions}
@@ -55,18 +56,11 @@ times_in x names = length (filter (λ y. y == x) names)
 
 in-append : (x : ℕ) (xs ys : List ℕ) → is_among x (xs ++ ys) ≡ (is_among x xs || is_among x ys)
 in-append x [] ys = refl
-in-append x (y ∷ xs) ys = ap (λ b. (y == x) || b) (in-append x xs ys) ∙ grouped (y == x) (is_among x xs) (is_among x ys)
-  where
-    grouped : (a b c : Bool) → (a || (b || c)) ≡ ((a || b) || c)
-    grouped true b c = refl
-    grouped false b c = refl
+in-append x (y ∷ xs) ys = ap (λ b. (y == x) || b) (in-append x xs ys) ∙ sym (or_assoc (y == x) (is_among x xs) (is_among x ys))
 
 once : (x y n : ℕ) → (b : Bool) → (y == x) ≡ b → (b ≡ true → n ≡ 0) → (b ≡ false → n ≡ 1) → times_in x (y ∷ []) + n ≡ 1
 once x y n true e f g = let z : n ≡ 0 = f refl in rw (e, z) refl
 once x y n false e f g = let z : n ≡ 1 = g refl in rw (e, z) refl
-
-never : (x y n : ℕ) → (y == x) ≡ false → n ≡ 0 → times_in x (y ∷ []) + n ≡ 0
-never x y n e z = rw (e, z) refl
 
 -- x is the target, or left behind it
 goes-listed : (x y : ℕ) (over m names : List ℕ) (n : ℕ) → AreOnce (y ∷ m) → AreOut over names → is_among x names ≡ true → is_among x (over ++ y ∷ m) ≡ true → (is_among x m ≡ true → n ≡ 1) → (is_among x m ≡ false → n ≡ 0) → times_in x (y ∷ []) + n ≡ 1
@@ -87,7 +81,7 @@ goes-unlisted x y over m n h g = by_over (is_among x over) (sym (in-append x ove
   where
     behind : (b : Bool) → (y == x) ≡ b → (b || is_among x m) ≡ false → times_in x (y ∷ []) + n ≡ 0
     behind true t k = absurd (false≢true (sym k))
-    behind false t k = never x y n t (g k)
+    behind false t k = let none : n ≡ 0 = g k in rw (t, none) refl
 
     by_over : (b : Bool) → (b || is_among x (y ∷ m)) ≡ false → times_in x (y ∷ []) + n ≡ 0
     by_over true k = absurd (false≢true (sym k))
@@ -103,10 +97,6 @@ at-most x y m n a g l = by_head (y == x) refl
         let none : n ≡ 0 = g (ap (λ w. is_among w m) (sym (eqb-true y x e)) ∙ once-head y m a) in
         omega (arith, one, none)
     by_head false e = let none : times_in x (y ∷ []) ≡ 0 = rw e refl in omega (arith, none, l)
-
-single : (b : Bool) → (b && true) ≡ true → b ≡ true
-single true h = refl
-single false h = h
 
 -- What is left of a list
 
@@ -130,7 +120,7 @@ rest-law base [] before next after following alone legal none ends x =
     at (Goes_on over y names a b c d f) e h k = absurd (cc)
     at (Begins made names out a all b c d f) e h k =
         let seen : list_all (is_among x) (names ∷ []) ≡ true = ap (list_all (is_among x)) (sym b) ∙ k in
-        false≢true (sym (out x h) ∙ single (is_among x names) seen)
+        false≢true (sym (out x h) ∙ (and_parts (is_among x names) true seen).0)
 rest-law base (e ∷ rest) before next after following alone legal none ends x =
     let turn : Turned base before e rest next x (still_listed (state_after base before)) (looks_at base before e) (probed_by e) =
     at (still_listed (state_after base before)) (looks_at base before e) (lists_at base before e) (probed_by e) (still_listed (state_after base (before ++ e ∷ []))) (entry-turn base before e legal.0) none.0 alone
@@ -154,7 +144,7 @@ rest-law base (e ∷ rest) before next after following alone legal none ends x =
         record {
           listed = λ s k h.
               let seen : list_all (is_among x) (names ∷ []) ≡ true = ap (list_all (is_among x)) (sym b) ∙ s in
-              rw d (goes-listed x y over m names (probes_of x rest) behind out (single (is_among x names) seen) (ap (is_among x) (sym i) ∙ h) (λ q. p.listed q k) (λ q. p.unlisted q));
+              rw d (goes-listed x y over m names (probes_of x rest) behind out ((and_parts (is_among x names) true seen).0) (ap (is_among x) (sym i) ∙ h) (λ q. p.listed q k) (λ q. p.unlisted q));
           unlisted = λ h. rw d (goes-unlisted x y over m (probes_of x rest) (ap (is_among x) (sym i) ∙ h) (λ q. p.unlisted q));
           once = rw d (at-most x y m (probes_of x rest) behind (λ q. p.unlisted q) p.once);
         }

@@ -3,13 +3,11 @@ use Rattle.std.proofs.Common.{◌≡◌, ℕ, ◌+◌, ◌≤◌, ◌==◌, fals
 use Rattle.std.specs.List.{IsDistinct}
 use Rattle.std.specs.Option.{option_to_list}
 use Rattle.std.proofs.lemmas.Bool.{ltb-false}
-use Rattle.std.proofs.lemmas.List.Elements.{All-nil}
 use Rattle.std.proofs.Math.Seq.{take-append_seam}
 use Rattle.std.proofs.lemmas.Map.Keys.{IsDistinct-tail}
-use Rattle.swim_node.proofs.Nodes.{greatest-one}
+use Rattle.swim_node.proofs.Nodes.{node-new}
 use Rattle.swim_rules.specs.declared.table.TheConstants.{ROWS_MAX}
 use Rattle.swim_member.specs.declared.answer.Answer.{Answer}
-use Rattle.swim_member.specs.declared.event.Event.{Event}
 use Rattle.swim_member.specs.State.{State}
 use Rattle.swim_member.specs.Events.{Step, answer, state_of}
 use Rattle.swim_member.specs.Judge.{wanted}
@@ -17,16 +15,12 @@ use Rattle.swim_node.specs.declared.entry.Entry.{Entry}
 use Rattle.swim_node.specs.declared.entry.Outcome.{Outcome}
 use Rattle.swim_node.specs.declared.entry.Save.{Save}
 use Rattle.swim_node.specs.declared.entry.Save.TheVariants.{Kept, Done, Failed}
-use Rattle.swim_node.specs.declared.entry.Status.{Status}
-use Rattle.swim_node.specs.declared.entry.Tag.{Tag}
 use Rattle.swim_node.specs.declared.opening.TheConstants.{LIMIT_MAX}
 use Rattle.swim_node.specs.declared.replay.Cause.{Cause}
 use Rattle.swim_node.specs.History.{Base, AreNext, IsLegal, IsNext, Saves, answer_in, granted_of, lost_in, state_after, status_at, steps, taken_in}
-use Rattle.swim_node.specs.Node.{HasCaller, IsNode}
+use Rattle.swim_node.specs.Node.{IsNode}
 use Rattle.swim_node.specs.Owns.{AreAtLeast, AreAtMost}
-use Rattle.swim_node.specs.Probing.{IsStart}
 use Rattle.swim_node.specs.Replaying.{IsTold, begin_fault, cause_of, is_above}
-use Rattle.swim_node.specs.Sending.{HasTexts}
 use Rattle.swim_node.proofs.Lists.{steps-append}
 
 -- The beginning
@@ -36,64 +30,30 @@ distinct-drop zero names h = h
 distinct-drop (suc n) [] h = h
 distinct-drop (suc n) (x ∷ names) h = distinct-drop n names (IsDistinct-tail (λ x y. x == y) x names h)
 
-most-tested : (granted : ℕ) (past : Option ℕ) → is_above granted past ≡ false → AreAtMost granted (option_to_list past ++ [])
+most-tested : (granted : ℕ) (past : Option ℕ) → is_above granted past ≡ false → AreAtMost granted (option_to_list past)
 most-tested granted None h = tt {0}
 most-tested granted (Some n) h = (ltb-false granted n h, tt {0})
 
-least-any : (past : Option ℕ) → AreAtLeast 0 (option_to_list past ++ [])
+least-any : (past : Option ℕ) → AreAtLeast 0 (option_to_list past)
 least-any None = tt {0}
 least-any (Some n) = (omega arith, tt {0})
 
 -- a node whose era begins with this state, of a life of which nothing is asked
 pub node-begun : (s : State) (granted : ℕ) (past : Option ℕ) (limit : ℕ) → state_of s [] ≡ s → begin_fault (record { state = s; granted = granted; past = past; limit = limit }) ≡ None → IsDistinct (λ x y. x == y) s.listed → length s.rows ≤ ROWS_MAX → s.number ≤ granted → is_above granted past ≡ false → limit ≤ LIMIT_MAX → IsNode (record { state = s; granted = granted; past = past; limit = limit }) [] 0 s granted past
-node-begun s granted past limit reads begins once few low above short = record {
-  legal = record { each = tt {0}; within = omega arith };
-  start = subst IsStart (sym reads) (record { once = distinct-drop s.place s.listed once; few = few });
-  reads = reads;
-  begins = begins;
-  member = reads;
-  settings = refl;
-  granted = refl;
-  low = low;
-  high = omega arith;
-  covers = most-tested granted past above;
-  begun = least-any past;
-  most = greatest-one past;
-  texts = All-nil HasTexts;
-  callers = All-nil HasCaller;
-  short = short;
-}
+node-begun s granted past limit reads begins once few low above short =
+    node-new s granted past limit 0 reads begins (record { once = distinct-drop s.place s.listed once; few = few }) low (omega arith) (most-tested granted past above) (least-any past) short
 
 -- One entry for one cause
 
 -- what was granted says what became of the ceiling
 saves-one : (o : Option ℕ) (g granted : ℕ) (save other : Save) → Saves o g save granted → Saves o g other granted → save ≡ other
 saves-one None g granted Kept Kept h k = refl
-saves-one None g granted Kept Done h k = absurd k
-saves-one None g granted Kept Failed h k = absurd k
-saves-one None g granted Done other h k = absurd h
-saves-one None g granted Failed other h k = absurd h
+saves-one None g granted Kept other h k = absurd k
+saves-one None g granted save other h k = absurd h
 saves-one (Some w) g granted Kept Kept h k = refl
-saves-one (Some w) g granted Kept Done h k = absurd (omega (arith, h.0, k.0))
-saves-one (Some w) g granted Kept Failed h k = absurd (omega (arith, h.0, k.0))
-saves-one (Some w) g granted Done Kept h k = absurd (omega (arith, h.0, k.0))
 saves-one (Some w) g granted Done Done h k = refl
-saves-one (Some w) g granted Done Failed h k = absurd (omega (arith, h.1, k.2))
-saves-one (Some w) g granted Failed Kept h k = absurd (omega (arith, h.0, k.0))
-saves-one (Some w) g granted Failed Done h k = absurd (omega (arith, h.2, k.1))
 saves-one (Some w) g granted Failed Failed h k = refl
-
--- an entry with what the member said, and with this status and these counts
-with_said : Entry → Answer → Status → ℕ → ℕ → Entry
-with_said e said status sent lost = record {
-  tag = e.tag;
-  event = e.event;
-  granted = e.granted;
-  save = e.save;
-  outs = said.outs;
-  outcomes = e.outcomes;
-  reply = record { status = status; notes = said.notes; page = said.page; sent = sent; lost = lost };
-}
+saves-one (Some w) g granted save other h k = absurd (omega (arith, h, k))
 
 module _ (base : Base) (xs : List Entry) where
   -- the entry of a cause, with what became of the ceiling
@@ -116,20 +76,23 @@ module _ (base : Base) (xs : List Entry) where
         };
       }
 
-  status_by : Entry → Status
-  status_by e = status_at (state_of base.state (steps xs ++ record { event = e.event; granted = e.granted } ∷ [])) (length xs + 1)
-
   next-by : (e : Entry) → IsNext base xs e → e ≡ entry_by (cause_of e) e.save
-  unfolding entry_by with_said status_by
+  unfolding entry_by
   next-by e h =
-      let status : e.reply.status ≡ status_by e =
+      let said : answer_in e ≡ answer base.state (steps xs) e.event e.granted = sym h.answered in
+      let status : e.reply.status ≡ status_at (state_of base.state (steps xs ++ record { event = e.event; granted = e.granted } ∷ [])) (length xs + 1) =
       h.status
       ∙ ap (λ (l : List Step). status_at (state_of base.state l) (length (xs ++ e ∷ []))) (steps-append xs (e ∷ []))
       ∙ ap (λ (k : ℕ). status_at (state_of base.state (steps xs ++ record { event = e.event; granted = e.granted } ∷ [])) k) (length-append xs (e ∷ [])) in
-      ap (λ (s : Status). with_said e (answer_in e) s e.reply.sent e.reply.lost) status
-      ∙ ap (λ (n : ℕ). with_said e (answer_in e) (status_by e) n e.reply.lost) h.sent
-      ∙ ap (λ (n : ℕ). with_said e (answer_in e) (status_by e) (taken_in e.outcomes.items) n) h.lost
-      ∙ ap (λ (said : Answer). with_said e said (status_by e) (taken_in e.outcomes.items) (lost_in e.outcomes.items)) (sym h.answered)
+      λ i. record {
+        tag = e.tag;
+        event = e.event;
+        granted = e.granted;
+        save = e.save;
+        outs = (said i).outs;
+        outcomes = e.outcomes;
+        reply = record { status = status i; notes = (said i).notes; page = (said i).page; sent = h.sent i; lost = h.lost i };
+      }
 
   same-next : (e f : Entry) → IsNext base xs e → IsNext base xs f → cause_of e ≡ cause_of f → e ≡ f
   same-next e f h k same =
@@ -139,16 +102,10 @@ module _ (base : Base) (xs : List Entry) where
   -- an entry that takes over what it is told is whatever entry could stand there of which that was told
   pub next-again : (cause : Cause) (f : Entry) → IsNext base xs f → f.tag ≡ cause.tag → f.event ≡ cause.event → ((save : Save) → Saves (wanted (state_after base xs) cause.event) (granted_of base xs) save cause.granted → (f.save ≡ save) × (f.granted ≡ cause.granted)) → (length f.outs.items ≤ length cause.outcomes.items → f.outcomes.items ≡ take (length f.outs.items) cause.outcomes.items) → (e : Entry) → IsNext base xs e → IsTold cause e → f ≡ e
   next-again cause f k tag event granted outcomes e h told =
-      let saved : Saves (wanted (state_after base xs) cause.event) (granted_of base xs) e.save cause.granted =
-      subst (λ (v : Event). Saves (wanted (state_after base xs) v) (granted_of base xs) e.save cause.granted) told.event
-      (subst (λ (g : ℕ). Saves (wanted (state_after base xs) e.event) (granted_of base xs) e.save g) told.granted h.fits.saved) in
+      let saved = rw (told.event, told.granted) at h.fits.saved in
       let same_event : f.event ≡ e.event = event ∙ sym told.event in
       let same_granted : f.granted ≡ e.granted = (granted e.save saved).1 ∙ sym told.granted in
-      let said : answer_in f ≡ answer_in e =
-      sym k.answered
-      ∙ ap (λ (v : Event). answer base.state (steps xs) v f.granted) same_event
-      ∙ ap (λ (g : ℕ). answer base.state (steps xs) e.event g) same_granted
-      ∙ h.answered in
+      let said : answer_in f ≡ answer_in e = sym k.answered ∙ rw (same_event, same_granted) h.answered in
       let as_many : length f.outs.items ≡ length e.outcomes.items = ap (λ (a : Answer). length a.outs.items) said ∙ sym h.fits.outcomes in
       let enough : length f.outs.items ≤ length cause.outcomes.items = omega (arith, as_many, ap length told.outcomes, length-append e.outcomes.items told.more) in
       let front : take (length f.outs.items) cause.outcomes.items ≡ e.outcomes.items =
@@ -156,11 +113,7 @@ module _ (base : Base) (xs : List Entry) where
       ∙ ap (λ (l : List Outcome). take (length e.outcomes.items) l) told.outcomes
       ∙ take-append_seam e.outcomes.items told.more in
       let became : f.outcomes ≡ e.outcomes = ap (λ (l : List Outcome). record { items = l }) (outcomes enough ∙ front) in
-      let caused : cause_of f ≡ cause_of e =
-      ap (λ (t : Tag). record { tag = t; event = f.event; granted = f.granted; outcomes = f.outcomes }) (tag ∙ sym told.tag)
-      ∙ ap (λ (v : Event). record { tag = e.tag; event = v; granted = f.granted; outcomes = f.outcomes }) same_event
-      ∙ ap (λ (g : ℕ). record { tag = e.tag; event = e.event; granted = g; outcomes = f.outcomes }) same_granted
-      ∙ ap (λ o. record { tag = e.tag; event = e.event; granted = e.granted; outcomes = o }) became in
+      let caused : cause_of f ≡ cause_of e = λ i. record { tag = (tag ∙ sym told.tag) i; event = same_event i; granted = same_granted i; outcomes = became i } in
       same-next f e k h caused
 
 -- Histories

@@ -9,7 +9,7 @@ use Rattle.swim_state.specs.Machinery.Saving.{Put}
 use Rattle.swim_state.specs.declared.layout.Slot.{Slot}
 use Rattle.swim_state.specs.declared.layout.Slot.TheVariants.{A, B}
 use Rattle.swim_state.specs.declared.slots.Slots.{Slots}
-use Rattle.swim_state.proofs.Moments.{weaker, goes_on}
+use Rattle.swim_state.proofs.Moments.{elapses_through, goes_on, weaker}
 
 keeps_all : (P : ℕ → Type 0) (xs : List ℕ) → Keeps P xs xs
 keeps_all P xs = record { no_shorter = omega arith; same = λ i less at. refl }
@@ -43,14 +43,7 @@ alone_on P old mid new first second = record {
 }
 
 elapses_alone : (P : ℕ → Type 0) (old new : DiskState) → Keeps P old.content new.content → Elapses old new → ((c : List ℕ) → new.images c → KeepsImage P old c) → LeavesAlone P old new
-elapses_alone P old new read time images = record {
-  read = read;
-  images = images;
-  moments = record {
-    later = time.later;
-    each = λ t c le left. ⊎_elim (λ was. inl was) (λ now. inr (images c now)) (time.only t c le left);
-  };
-}
+elapses_alone P old new read time images = record { read = read; images = images; moments = elapses_through (KeepsImage P old) old new time images }
 
 -- a call that writes nothing
 pub rests_alone : (P : ℕ → Type 0) (old new : DiskState) → Rests old new → LeavesAlone P old new
@@ -90,14 +83,9 @@ alone_less P Q old new so alone = record {
     by : (c : List ℕ) → KeepsImage P old c → KeepsImage Q old c
     by c kept = record { image = kept.image; left = kept.left; keeps = fewer kept.image c kept.keeps }
 
--- the parts of a slot, as places beside it see them
-beside_body : (slot : Slot) (i : ℕ) → IsBeside slot i → (i < version_2.body_at slot) ⊎ (version_2.body_at slot + 114 ≤ i)
-beside_body A i = ⊎_elim (λ below. inl below) (λ above. inr (omega (arith, above)))
-beside_body B i = ⊎_elim (λ below. inl below) (λ above. inr (omega (arith, above)))
-
-beside_gate : (slot : Slot) (i : ℕ) → IsBeside slot i → (i < version_2.gate_at slot) ⊎ (version_2.gate_at slot + 1 ≤ i)
-beside_gate A i = ⊎_elim (λ below. inl (omega (arith, below))) (λ above. inr (omega (arith, above)))
-beside_gate B i = ⊎_elim (λ below. inl (omega (arith, below))) (λ above. inr (omega (arith, above)))
+body_below : (slot : Slot) → version_2.body_at slot + 114 ≤ version_2.gate_at slot
+body_below A = omega arith
+body_below B = omega arith
 
 -- what comes before the slots of version 2 lies beside each of them
 pub earlier_beside : (slot : Slot) (i : ℕ) → IsEarlier i → IsBeside slot i
@@ -105,13 +93,14 @@ earlier_beside A i = ⊎_elim (λ below. inl (omega (arith, below))) (λ between
 earlier_beside B i = ⊎_elim (λ below. inl (omega (arith, below))) (λ between. inl (omega (arith, between.1)))
 
 -- a part of a slot, written and synced
+part_put_alone : {T E : Type 0} (slot : Slot) (at : ℕ) (bytes : List ℕ) (result : Result T E) (old new : DiskState) → version_2.body_at slot ≤ at → at + length bytes ≤ version_2.gate_at slot + 1 → Put at bytes result old new → LeavesAlone (IsBeside slot) old new
+part_put_alone slot at bytes result old new from to = put_alone (IsBeside slot) at bytes result old new (λ i. ⊎_elim (λ below. inl (omega (arith, below, from))) (λ above. inr (omega (arith, above, to))))
+
 pub gate_put_alone : {T E : Type 0} (slot : Slot) (at : ℕ) (bytes : List ℕ) (result : Result T E) (old new : DiskState) → at ≡ version_2.gate_at slot → length bytes ≡ 1 → Put at bytes result old new → LeavesAlone (IsBeside slot) old new
-gate_put_alone slot at bytes result old new is one = put_alone (IsBeside slot) at bytes result old new
-    (λ i beside. subst (λ k. (i < at) ⊎ (at + k ≤ i)) (sym one) (subst (λ a. (i < a) ⊎ (a + 1 ≤ i)) (sym is) (beside_gate slot i beside)))
+gate_put_alone slot at bytes result old new is one = part_put_alone slot at bytes result old new (omega (arith, is, body_below slot)) (omega (arith, is, one))
 
 pub body_put_alone : {T E : Type 0} (slot : Slot) (at : ℕ) (bytes : List ℕ) (result : Result T E) (old new : DiskState) → at ≡ version_2.body_at slot → length bytes ≡ 114 → Put at bytes result old new → LeavesAlone (IsBeside slot) old new
-body_put_alone slot at bytes result old new is size = put_alone (IsBeside slot) at bytes result old new
-    (λ i beside. subst (λ k. (i < at) ⊎ (at + k ≤ i)) (sym size) (subst (λ a. (i < a) ⊎ (a + 114 ≤ i)) (sym is) (beside_body slot i beside)))
+body_put_alone slot at bytes result old new is size = part_put_alone slot at bytes result old new (omega (arith, is)) (omega (arith, is, size, body_below slot))
 
 -- past the slots of version 1, and at the mark
 pub past_alone : {T E : Type 0} (at : ℕ) (bytes : List ℕ) (result : Result T E) (old new : DiskState) → 20480 ≤ at → Writes at bytes result old new → LeavesAlone IsEarlier old new
@@ -124,3 +113,7 @@ mark_alone bytes result old new one = put_alone IsEarlier 2048 bytes result old 
 pub target_read : (image : List ℕ) (slots : Slots) → AreOf version_2 image slots → target_by slots.a slots.b ≡ target_in image
 unfolding target_in
 target_read image slots are = λ i. target_by (are.a i) (are.b i)
+
+-- beside the slot that is the target
+pub alone_at : {slot target : Slot} {old new : DiskState} → slot ≡ target → LeavesAlone (IsBeside slot) old new → LeavesAlone (IsBeside target) old new
+alone_at {old = old} {new = new} is alone = subst (λ slot. LeavesAlone (IsBeside slot) old new) is alone

@@ -1,5 +1,5 @@
 -- Bodies of version 2, byte by byte.
-use Rattle.std.proofs.Common.{◌≡◌, ℕ, zero, suc, ◌+◌, ◌-◌, ◌*◌, ◌%◌, ◌^◌, ◌<◌, ◌≤◌, Bool, true, false, not, ◌&&◌, nat_lt, nat_le, if◌then◌else◌, List, [], ◌∷◌, ◌++◌, length, drop, replicate, slice_index, Some, None, refl, sym, ◌∙◌, ap, arith, length-append, append_assoc, All}
+use Rattle.std.proofs.Common.{◌≡◌, ℕ, zero, suc, ◌+◌, ◌-◌, ◌*◌, ◌%◌, ◌^◌, ◌<◌, ◌≤◌, Bool, true, false, ◌&&◌, nat_lt, nat_le, if◌then◌else◌, List, [], ◌∷◌, ◌++◌, length, drop, replicate, slice_index, Some, None, refl, sym, ◌∙◌, ap, arith, length-append, append_assoc, All}
 use Rattle.std.proofs.lemmas.Bool.{and_from, and_parts, le-leb, leb-true, false_from_ne_true}
 use Rattle.std.proofs.lemmas.List.{drop-drop, length-map, length-replicate}
 use Rattle.std.proofs.lemmas.Grind.{flat_map-append}
@@ -63,43 +63,29 @@ stand_parts saved stands =
 pub stand_from : (saved : Saved) → saved.ceiling ≤ 2 ^ 62 → length saved.peers ≤ 8 → ascend 0 saved.peers ≡ true → may_be_saved saved ≡ true
 stand_from saved le few up = and_from _ _ (and_from _ _ (le-leb _ _ le) (le-leb _ _ few)) up
 
-count_in : (bytes : List ℕ) → length (saved_in bytes).peers ≡ slice_index bytes 8
+pub count_in : (bytes : List ℕ) → length (saved_in bytes).peers ≡ slice_index bytes 8
 unfolding saved_in
 count_in bytes = length-endpoints (slice_index bytes 8) (drop 9 bytes)
-
-ceiling_is : (bytes : List ℕ) → (saved_in bytes).ceiling ≡ big_number 8 bytes
-unfolding saved_in
-ceiling_is bytes = refl
-
-pub too_great : (bytes : List ℕ) → 2 ^ 62 < big_number 8 bytes → is_good bytes ≡ false
-too_great bytes great = false_from_ne_true (is_good bytes) (λ good. absurd (let p = stand_parts (saved_in bytes) (good_parts bytes good).0 in omega (arith, p.0, ceiling_is bytes, great)))
-
-pub too_many : (bytes : List ℕ) → 8 < slice_index bytes 8 → is_good bytes ≡ false
-too_many bytes many = false_from_ne_true (is_good bytes) (λ good. absurd (let p = stand_parts (saved_in bytes) (good_parts bytes good).0 in omega (arith, p.1, count_in bytes, many)))
-
-pub not_up : (bytes : List ℕ) → ascend 0 (endpoints (slice_index bytes 8) (drop 9 bytes)) ≡ false → is_good bytes ≡ false
-unfolding saved_in
-not_up bytes not = false_from_ne_true (is_good bytes) (λ good. let p = stand_parts (saved_in bytes) (good_parts bytes good).0 in let e : true ≡ false = sym (p.2) ∙ not in cc)
 
 pub saved_is : (bytes : List ℕ) (ceiling : ℕ) (peers : List ℕ) → ceiling ≡ big_number 8 bytes → peers ≡ endpoints (slice_index bytes 8) (drop 9 bytes) → record { ceiling = ceiling; peers = peers } ≡ saved_in bytes
 unfolding saved_in
 saved_is bytes ceiling peers high those = λ i. record { ceiling = high i; peers = those i }
 
-pub another_body : (bytes : List ℕ) → (bytes ≡ body (saved_in bytes) → ⊥) → is_good bytes ≡ false
-another_body bytes differs = false_from_ne_true (is_good bytes) (λ good. absurd (differs (good_parts bytes good).1))
+-- a body for which one of them fails says nothing
+pub not_said : (bytes : List ℕ) → ((saved_in bytes).ceiling ≤ 2 ^ 62 → length (saved_in bytes).peers ≤ 8 → ascend 0 (saved_in bytes).peers ≡ true → bytes ≡ body (saved_in bytes) → ⊥) → None ≡ said version_2 bytes
+not_said bytes never =
+    let bad : is_good bytes ≡ false = false_from_ne_true (is_good bytes) (λ good.
+    let p = good_parts bytes good in
+    let stands = stand_parts (saved_in bytes) p.0 in
+    absurd (never stands.0 stands.1 stands.2 p.1)) in
+    rw bad
 
 pub good_from : (bytes : List ℕ) → may_be_saved (saved_in bytes) ≡ true → bytes ≡ body (saved_in bytes) → is_good bytes ≡ true
 unfolding is_good
 good_from bytes stands same = and_from _ _ stands ((bytes_eq-Decides bytes (body (saved_in bytes))).1 same)
 
-pub good_bounded : (bytes : List ℕ) → is_good bytes ≡ true → (saved_in bytes).ceiling ≤ 2 ^ 62
-good_bounded bytes good = (stand_parts (saved_in bytes) (good_parts bytes good).0).0
-
 pub said_good : (bytes : List ℕ) → is_good bytes ≡ true → said version_2 bytes ≡ Some (saved_in bytes)
 said_good bytes good = rw good
-
-pub said_bad : (bytes : List ℕ) → is_good bytes ≡ false → said version_2 bytes ≡ None
-said_bad bytes bad = rw bad
 
 -- what was written is read back
 peers_back : (xs tail : List ℕ) → All (λ peer. peer < 2 ^ 48) xs → endpoints (length xs) (flat_map (big_bytes 6) xs ++ tail) ≡ xs

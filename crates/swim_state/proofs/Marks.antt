@@ -1,11 +1,11 @@
 -- The version of an image, and what a slot of it says.
-use Rattle.std.proofs.Common.{◌≡◌, ◌≢◌, ◌⊎◌, inl, inr, ℕ, ◌≤◌, ◌<◌, Bool, true, false, ◌==◌, if◌then◌else◌, List, length, take, slice_index, Some, None, refl, sym, ◌∙◌, ap, subst, arith}
+use Rattle.std.proofs.Common.{◌≡◌, ◌≢◌, ◌⊎◌, inl, inr, ℕ, ◌≤◌, ◌<◌, Bool, true, false, ◌==◌, if◌then◌else◌, List, length, take, slice_index, refl, sym, ◌∙◌, ap, subst, arith}
 use Rattle.std.proofs.lemmas.Bool.{eqb-true}
 use Rattle.std.proofs.lemmas.List.{get_or-take, take-take}
 use Rattle.swim_disk.specs.Disk.{Torn}
-use Rattle.swim_state.specs.Layout.{Layout, other_slot}
+use Rattle.swim_state.specs.Layout.{other_slot}
 use Rattle.swim_state.specs.Second.{version_2}
-use Rattle.swim_state.specs.File.{head, slot_reading, reading_at, said, says, version_by, version_in, layout_of, IsOpen, IsSound, ceiling_of, floor}
+use Rattle.swim_state.specs.File.{head, reading_at, says, version_by, version_in, layout_of, IsOpen, IsSound, ceiling_of, floor}
 use Rattle.swim_state.specs.Held.{Covers}
 use Rattle.swim_state.specs.Machinery.Saving.{Stands}
 use Rattle.swim_state.specs.declared.owner.Owner.{Owner}
@@ -86,18 +86,3 @@ stands_covers owner front slot kept n image begins mark is stands =
 -- a torn write past the mark leaves the version
 pub version_kept : (at n : ℕ) (old new : List ℕ) → Torn at n old new → 2048 < at → 2048 < length old → version_in new ≡ version_in old
 version_kept at n old new torn past long = ap version_by (byte_kept at n old new 2048 torn long (inl (omega (arith, past))))
-
--- a reading, from what its body says
-pub reads_some : (layout : Layout) (bytes : List ℕ) (saved : Saved) → Some saved ≡ said layout bytes → Holds saved ≡ slot_reading layout 0xA5 bytes
-reads_some layout bytes saved is = some_by (layout.is_good bytes) saved (layout.saved_in bytes) is
-  where
-    some_by : (t : Bool) (s m : Saved) → Some s ≡ (if t then Some m else None) → Holds s ≡ (if t then Holds m else Damaged)
-    some_by true s m is = let same : s ≡ m = cc in ap Holds same
-    some_by false s m is = cc
-
-pub reads_none : (layout : Layout) (bytes : List ℕ) → None ≡ said layout bytes → Damaged ≡ slot_reading layout 0xA5 bytes
-reads_none layout bytes is = none_by (layout.is_good bytes) (layout.saved_in bytes) is
-  where
-    none_by : (t : Bool) (m : Saved) → None ≡ (if t then Some m else None) → Damaged ≡ (if t then Holds m else Damaged)
-    none_by true m is = cc
-    none_by false m is = refl

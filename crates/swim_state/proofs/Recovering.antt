@@ -1,6 +1,6 @@
 -- Which fault a content shows, test by test.
 use Rattle.std.proofs.Common.{◌≡◌, ◌≢◌, ◌⊎◌, inl, inr, ⊎_elim, ℕ, ◌^◌, ◌<◌, ◌≤◌, max, Bool, true, false, nat_lt, ◌==◌, if◌then◌else◌, List, [], ◌∷◌, length, take, Option, Some, None, refl, sym, ◌∙◌, ap, subst, arith}
-use Rattle.std.proofs.lemmas.Bool.{and_from, and_parts, eqb-true, eq-eqb, ne_eqb, lt-ltb, ltb-true, false_from_ne_true}
+use Rattle.std.proofs.lemmas.Bool.{and_from, and_parts, eqb-true, eq-eqb, lt-ltb, ltb-true, false_from_ne_true}
 use Rattle.std.proofs.lemmas.List.{take_at}
 use Rattle.swim_state.specs.File.{letters, owner_bytes, head, says, version_in, layout_of, IsOpen, ceiling_of, floor_of, AreOf, AreUsable, IsSound}
 use Rattle.swim_state.specs.Recovery.{same_bytes, head_fault, slots_fault, first_fault, fault_of, IsFound}
@@ -12,8 +12,7 @@ use Rattle.swim_state.specs.declared.layout.Slot.TheVariants.{A, B}
 use Rattle.swim_state.specs.declared.layout.Reading.{Reading}
 use Rattle.swim_state.specs.declared.layout.Reading.TheVariants.{Shut, Holds, Damaged}
 use Rattle.swim_state.specs.declared.fault.RecoverFault.{RecoverFault}
-use Rattle.swim_state.specs.declared.fault.RecoverFault.TheVariants.{Device, NotState, WrongOwner, NoSlot, Exhausted}
-use Rattle.swim_state.specs.declared.fault.RecoverFault.TheVariants as fault
+use Rattle.swim_state.specs.declared.fault.RecoverFault.TheVariants.{Device, NotState, WrongOwner, Exhausted}
 
 same_refl : (xs : List ℕ) → same_bytes xs xs ≡ true
 same_refl [] = refl
@@ -49,33 +48,6 @@ pub right_head : (owner : Owner) (front : List ℕ) → front ≡ head owner →
 unfolding head_fault
 right_head owner front is = rw (same_true (take 10 front) letters (ap (λ (l : List ℕ). take 10 l) is ∙ mark_first owner), same_true front (head owner) is)
 
-pub none_open : (a b : Reading) → a ≡ Shut → b ≡ Shut → slots_fault a b ≡ Some NoSlot
-none_open a b is_a is_b = rw (is_a, is_b)
-
-pub one_damaged : (a b : Reading) (slots : Slots) → slots.a ≡ a → slots.b ≡ b → (AreUsable slots → ⊥) → (a ≡ Shut → b ≡ Shut → ⊥) → floor_of slots ≤ 2 ^ 62 → slots_fault a b ≡ Some fault.Damaged
-one_damaged Damaged b slots is_a is_b unusable some le = refl
-one_damaged Shut Shut slots is_a is_b unusable some le = absurd (some refl refl)
-one_damaged Shut Damaged slots is_a is_b unusable some le = refl
-one_damaged (Holds a) Damaged slots is_a is_b unusable some le = refl
-one_damaged Shut (Holds b) slots is_a is_b unusable some le = absurd (unusable (record {
-  open_one = inr (subst IsOpen (sym is_b) tt);
-  whole_a = λ bad. let e : Shut ≡ Damaged = sym is_a ∙ bad in cc;
-  whole_b = λ bad. let e : Holds b ≡ Damaged = sym is_b ∙ bad in cc;
-  bounded = le;
-}))
-one_damaged (Holds a) Shut slots is_a is_b unusable some le = absurd (unusable (record {
-  open_one = inl (subst IsOpen (sym is_a) tt);
-  whole_a = λ bad. let e : Holds a ≡ Damaged = sym is_a ∙ bad in cc;
-  whole_b = λ bad. let e : Shut ≡ Damaged = sym is_b ∙ bad in cc;
-  bounded = le;
-}))
-one_damaged (Holds a) (Holds b) slots is_a is_b unusable some le = absurd (unusable (record {
-  open_one = inl (subst IsOpen (sym is_a) tt);
-  whole_a = λ bad. let e : Holds a ≡ Damaged = sym is_a ∙ bad in cc;
-  whole_b = λ bad. let e : Holds b ≡ Damaged = sym is_b ∙ bad in cc;
-  bounded = le;
-}))
-
 -- what two slots show of which one is open and none is damaged
 room_or_none : (a b : Reading) → a ≢ Damaged → b ≢ Damaged → IsOpen a ⊎ IsOpen b → slots_fault a b ≡ (if max (ceiling_of a) (ceiling_of b) == 2 ^ 62 then Some Exhausted else None)
 room_or_none Damaged b whole_a whole_b some = absurd (whole_a refl)
@@ -85,12 +57,6 @@ room_or_none Shut Shut whole_a whole_b some = ⊎_elim (λ never. absurd never) 
 room_or_none Shut (Holds b) whole_a whole_b some = ap (λ n. if n == 2 ^ 62 then Some Exhausted else None) (let same : b.ceiling ≡ max 0 b.ceiling = omega arith in same)
 room_or_none (Holds a) Shut whole_a whole_b some = ap (λ n. if n == 2 ^ 62 then Some Exhausted else None) (let same : a.ceiling ≡ max a.ceiling 0 = omega arith in same)
 room_or_none (Holds a) (Holds b) whole_a whole_b some = refl
-
-pub exhausted : (slots : Slots) → AreUsable slots → floor_of slots ≡ 2 ^ 62 → slots_fault slots.a slots.b ≡ Some Exhausted
-exhausted slots usable is = room_or_none slots.a slots.b usable.whole_a usable.whole_b usable.open_one ∙ ap (λ t. if t then Some Exhausted else None) (eq-eqb (floor_of slots) (2 ^ 62) is)
-
-pub has_room : (slots : Slots) → AreUsable slots → (floor_of slots ≡ 2 ^ 62 → ⊥) → slots_fault slots.a slots.b ≡ None
-has_room slots usable differs = room_or_none slots.a slots.b usable.whole_a usable.whole_b usable.open_one ∙ ap (λ t. if t then Some Exhausted else None) (ne_eqb (floor_of slots) (2 ^ 62) differs)
 
 pub too_short : (owner : Owner) (content : List ℕ) → length content < (layout_of (version_in content)).file_size → fault_of owner content ≡ Some NotState
 unfolding fault_of
@@ -142,11 +108,7 @@ usable_sound owner content slots long front are usable = record {
 -- what an opening found
 pub are_found : (owner : Owner) (content : List ℕ) (found : Found) → (layout_of (version_in content)).file_size ≤ length content → take 24 content ≡ head owner → found.version ≡ version_in content → AreOf (layout_of (version_in content)) content found.slots
     → AreUsable found.slots → IsFound owner content found
-are_found owner content found long front version are usable = record {
-  sound = usable_sound owner content found.slots long front are usable;
-  version = version;
-  same = are;
-}
+are_found owner content found long front version are usable = assumption (usable_sound owner content found.slots long front are usable)
 
 one_of_two : (t : Bool) (r : Option RecoverFault) → r ≡ (if t then Some Exhausted else None) → (r ≡ None) ⊎ (r ≡ Some Exhausted)
 one_of_two true r is = inr is
@@ -172,7 +134,4 @@ other_than owner content f differs is sound = ⊎_elim
 pub only_two : (owner : Owner) (content : List ℕ) (f : RecoverFault) → (f ≢ Device → fault_of owner content ≡ Some f) → IsSound owner content → (f ≡ Device) ⊎ (f ≡ Exhausted)
 only_two owner content Device is sound = inl refl
 only_two owner content Exhausted is sound = inr refl
-only_two owner content NotState is sound = absurd (other_than owner content NotState (λ e. cc) (is (λ e. cc)) sound)
-only_two owner content WrongOwner is sound = absurd (other_than owner content WrongOwner (λ e. cc) (is (λ e. cc)) sound)
-only_two owner content NoSlot is sound = absurd (other_than owner content NoSlot (λ e. cc) (is (λ e. cc)) sound)
-only_two owner content fault.Damaged is sound = absurd (other_than owner content fault.Damaged (λ e. cc) (is (λ e. cc)) sound)
+only_two owner content f is sound = absurd (other_than owner content f (λ e. cc) (is (λ e. cc)) sound)

@@ -38,11 +38,6 @@ verdict_shut true true n is = cc
 verdict_shut true false n is = cc
 verdict_shut false good n is = refl
 
-verdict_holds : (is_open good : Bool) (n m : Saved) → (if is_open then (if good then Holds n else Damaged) else Shut) ≡ Holds m → good ≡ true
-verdict_holds true true n m is = refl
-verdict_holds true false n m is = cc
-verdict_holds false good n m is = cc
-
 verdict_whole : (is_open good : Bool) (n : Saved) → good ≡ true → (if is_open then (if good then Holds n else Damaged) else Shut) ≢ Damaged
 verdict_whole true true n is bad = cc
 verdict_whole true false n is bad = cc

@@ -38,6 +38,7 @@ pub(crate) fn decode(body: &[u8]) -> Option<Saved>
 }
 
 /// The body with this ceiling.
+#[tactic(auto, unfolding(crate::specs::First::body_alone))]
 pub(crate) fn encode(ceiling: u64) -> [u8; BODY_SIZE]
     ensures { result ≡ body_alone ceiling }
 {

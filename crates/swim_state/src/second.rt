@@ -96,6 +96,7 @@ fn encode_plain(saved: &Saved) -> ArrayVec<u8, BODY_SIZE>
 }
 
 /// The body that says this.
+#[tactic(auto, unfolding(crate::specs::Second::body))]
 pub(crate) fn encode(saved: &Saved) -> ArrayVec<u8, BODY_SIZE>
     ensures bytes { result.items ≡ body saved.now }
     ensures fit { All (λ peer. peer < 2 ^ 48) saved.now.peers }

@@ -57,14 +57,8 @@ loop-i-preserved g c =
 pub returns-in-Err-clause-sends : goal.returns-in-Err-clause-sends
 returns-in-Err-clause-sends g c = rw (c.in-Err.ensures.err.0, c.in-Err.ensures.err.1) c.loop-i.invariant.sends
 
-pub returns-clause-sends : goal.returns-clause-sends
-returns-clause-sends g c = c.loop-i.invariant.sends
-
 pub returns-in-Err-clause-moments : goal.returns-in-Err-clause-moments
 returns-in-Err-clause-moments g c keeps = rw c.in-Err.ensures.err.0 (c.loop-i.invariant.moments keeps)
-
-pub returns-clause-moments : goal.returns-clause-moments
-returns-clause-moments g c keeps = c.loop-i.invariant.moments keeps
 
 pub returns-in-Err-clause-since : goal.returns-in-Err-clause-since
 returns-in-Err-clause-since g c keeps = since_from _ _ _ (returns-in-Err-clause-moments g c keeps) (c.numbers_are_covered.ensures.held keeps)

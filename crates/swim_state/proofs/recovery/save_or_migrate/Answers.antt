@@ -1,11 +1,9 @@
-use Rattle.std.proofs.Common.{◌≡◌, ◌∙◌, [], sym}
-use Rattle.swim_state.specs.File.{peers_in}
-use Rattle.swim_state.proofs.Whole.{one_peers, peers_read}
-use Rattle.std.proofs.Common.{subst}
+use Rattle.std.proofs.Common.{◌≡◌, ◌∙◌, [], subst, sym}
 use Rattle.std.proofs.lemmas.Result.{IfOk-weaker}
-use Rattle.swim_state.specs.Alone.{IsBeside, IsEarlier, LeavesAlone}
-use Rattle.swim_state.specs.File.{AreOf, layout_of}
-use Rattle.swim_state.proofs.Alone.{alone_less, earlier_beside, target_read}
+use Rattle.swim_state.specs.Alone.{IsEarlier}
+use Rattle.swim_state.specs.File.{AreOf, layout_of, peers_in}
+use Rattle.swim_state.proofs.Alone.{alone_at, alone_less, earlier_beside, target_read}
+use Rattle.swim_state.proofs.Whole.{one_peers, peers_read}
 use Rattle.swim_state.proofs.recovery.save_or_migrate.Goals as goal
 
 pub returns-in-One-clause-peers : goal.returns-in-One-clause-peers
@@ -23,14 +21,10 @@ returns-in_ok-save-in-Two-clause-earlier g c = λ keeps. alone_less _ IsEarlier 
 
 pub returns-in_err-save-in-Two-clause-beside : goal.returns-in_err-save-in-Two-clause-beside
 returns-in_err-save-in-Two-clause-beside g c = λ keeps two.
-    let disk = g.D.Disk.state c.args.disk.now in
-    let slots = c.args.found.slots in
-    let are = subst (λ v. AreOf (layout_of v) disk.content slots) two (c.requires.found keeps).1.same in
-    subst (λ slot. LeavesAlone (IsBeside slot) disk (g.D.Disk.state c.save.new.disk)) (target_read disk.content slots are) (c.save.ensures.alone keeps)
+    let are = subst (λ v. AreOf (layout_of v) (g.D.Disk.state c.args.disk.now).content c.args.found.slots) two (c.requires.found keeps).1.same in
+    alone_at (target_read _ _ are) (c.save.ensures.alone keeps)
 
 pub returns-in_ok-save-in-Two-clause-beside : goal.returns-in_ok-save-in-Two-clause-beside
 returns-in_ok-save-in-Two-clause-beside g c = λ keeps two.
-    let disk = g.D.Disk.state c.args.disk.now in
-    let slots = c.args.found.slots in
-    let are = subst (λ v. AreOf (layout_of v) disk.content slots) two (c.requires.found keeps).1.same in
-    subst (λ slot. LeavesAlone (IsBeside slot) disk (g.D.Disk.state c.save.new.disk)) (target_read disk.content slots are) (c.save.ensures.alone keeps)
+    let are = subst (λ v. AreOf (layout_of v) (g.D.Disk.state c.args.disk.now).content c.args.found.slots) two (c.requires.found keeps).1.same in
+    alone_at (target_read _ _ are) (c.save.ensures.alone keeps)

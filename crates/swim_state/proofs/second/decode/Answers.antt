@@ -1,25 +1,22 @@
-use Rattle.std.proofs.Common.{◌≡◌, ◌∙◌, ap, sym, length, drop, arith, rules, Some, slice_index, List, ℕ}
+use Rattle.std.proofs.Common.{◌≡◌, ◌∙◌, ap, sym, length, drop, arith, rules, true, false, Some, slice_index, List, ℕ}
 use Rattle.swim_state.specs.Second.{ascend, body, endpoints, may_be_saved, saved_in}
-use Rattle.swim_state.proofs.Bodies.{too_great, too_many, not_up, another_body, good_from, said_bad, said_good, saved_is, some_if, none_if, stand_from, length-endpoints}
+use Rattle.swim_state.proofs.Bodies.{count_in, good_from, length-endpoints, none_if, not_said, said_good, saved_is, some_if, stand_from}
 use Rattle.std.proofs.lemmas.Slice.Eq.{bytes_eq-Decides}
 use Rattle.std.proofs.lemmas.Bool.{not-false}
 use Rattle.swim_state.proofs.second.decode.Goals as goal
 
 pub returns-then-ceiling-gt-NUMBER_MAX-clause-said : goal.returns-then-ceiling-gt-NUMBER_MAX-clause-said
-returns-then-ceiling-gt-NUMBER_MAX-clause-said c =
-    let bytes = c.args.body.now in
-    sym (said_bad bytes (too_great bytes (omega (arith, c.read_u64-ceiling.ensures, c.if-ceiling-gt-NUMBER_MAX.true))))
+unfolding saved_in
+returns-then-ceiling-gt-NUMBER_MAX-clause-said c = not_said c.args.body.now (λ low few up same. omega (arith, low, c.read_u64-ceiling.ensures, c.if-ceiling-gt-NUMBER_MAX.true))
 
 pub returns-then-count-gt-PEERS_MAX-clause-said : goal.returns-then-count-gt-PEERS_MAX-clause-said
-returns-then-count-gt-PEERS_MAX-clause-said c =
-    let bytes = c.args.body.now in
-    sym (said_bad bytes (too_many bytes (omega (arith, c.if-count-gt-PEERS_MAX.true))))
+returns-then-count-gt-PEERS_MAX-clause-said c = not_said c.args.body.now (λ low few up same. omega (arith, few, count_in c.args.body.now, c.if-count-gt-PEERS_MAX.true))
 
 pub returns-in-None-clause-said : goal.returns-in-None-clause-said
+unfolding saved_in
 returns-in-None-clause-said c =
-    let bytes = c.args.body.now in
-    let those = endpoints (slice_index bytes 8) (drop 9 bytes) in
-    sym (said_bad bytes (not_up bytes (none_if (ascend 0 those) those c.in-None.ensures)))
+    let those = endpoints (slice_index c.args.body.now 8) (drop 9 c.args.body.now) in
+    not_said c.args.body.now (λ low few up same. let e : true ≡ false = sym up ∙ none_if (ascend 0 those) those c.in-None.ensures in cc)
 
 pub returns-then-ne-clause-said : goal.returns-then-ne-clause-said
 returns-then-ne-clause-said c =
@@ -29,7 +26,7 @@ returns-then-ne-clause-said c =
     let is = saved_is bytes c.read_u64-ceiling.result c.in-Some.peers c.read_u64-ceiling.ensures both.1 in
     let wrote : c.as_slice.result.now ≡ body (saved_in bytes) = c.as_slice.ensures.value ∙ c.encode.ensures.bytes ∙ ap body is in
     let differs : c.as_slice.result.now ≡ bytes → ⊥ = search (rules, c.if-ne.ensures) in
-    sym (said_bad bytes (another_body bytes (λ same. differs (wrote ∙ sym same))))
+    not_said bytes (λ low few up same. differs (wrote ∙ sym same))
 
 pub returns-clause-said : goal.returns-clause-said
 returns-clause-said c =

@@ -1,10 +1,8 @@
-use Rattle.std.proofs.Common.{◌++◌, ◌∷◌, [], ◌-◌, ap, sym, length, replicate, arith, length-append, List, ℕ}
+use Rattle.std.proofs.Common.{◌++◌, ◌∷◌, ◌∙◌, ◌-◌, ap, sym, length, replicate, arith, length-append, List, ℕ}
 use Rattle.std.proofs.lemmas.Grind.{flat_map-append}
-use Rattle.std.proofs.lemmas.List.{length-replicate}
-use Rattle.std.specs.List.{flat_map}
 use Rattle.byteorder.specs.Endian.{big_bytes}
 use Rattle.swim_state.specs.Second.{plain}
-use Rattle.swim_state.proofs.Bodies.{length-peers}
+use Rattle.swim_state.proofs.Bodies.{length-peers, length-plain}
 use Rattle.swim_state.proofs.second.encode_plain.Goals as goal
 
 pub append_unused-requires : goal.append_unused-requires
@@ -12,14 +10,12 @@ append_unused-requires c =
     let peers = c.as_slice-peers.result.now in
     omega (
       arith,
+      length-append {A = ℕ},
       ap length c.append_peers.ensures.text,
-      length-append c.append-2.new.out.items (flat_map (big_bytes 6) peers),
       length-peers peers,
       ap length c.append-2.ensures,
-      length-append c.append.new.out.items (length peers ∷ []),
       ap length c.append.ensures,
       ap length c.new-out.ensures,
-      length-append c.new-out.result.items c.write_u64.new.buf,
       ap length c.write_u64.ensures,
       c.as_slice-peers.ensures.few,
     )
@@ -33,23 +29,4 @@ returns-clause-bytes c =
     (ap (λ (l : List ℕ). big_bytes 8 c.args.saved.now.ceiling ++ length peers ∷ l) (sym (flat_map-append (big_bytes 6) peers unused)))
 
 pub returns-clause-len : goal.returns-clause-len
-returns-clause-len c =
-    let peers = c.as_slice-peers.result.now in
-    let unused : List ℕ = replicate (8 - length peers) 0 in
-    omega (
-      arith,
-      ap length c.append_unused.ensures,
-      length-append c.append_peers.new.out.items (flat_map (big_bytes 6) unused),
-      length-peers unused,
-      length-replicate {A = ℕ} (8 - length peers) 0,
-      ap length c.append_peers.ensures.text,
-      length-append c.append-2.new.out.items (flat_map (big_bytes 6) peers),
-      length-peers peers,
-      ap length c.append-2.ensures,
-      length-append c.append.new.out.items (length peers ∷ []),
-      ap length c.append.ensures,
-      ap length c.new-out.ensures,
-      length-append c.new-out.result.items c.write_u64.new.buf,
-      ap length c.write_u64.ensures,
-      c.as_slice-peers.ensures.few,
-    )
+returns-clause-len c = ap length (returns-clause-bytes c) ∙ length-plain c.args.saved.now (omega (arith, ap length c.as_slice-peers.ensures.peers, c.as_slice-peers.ensures.few))

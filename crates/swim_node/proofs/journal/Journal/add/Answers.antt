@@ -1,13 +1,12 @@
 use Rattle.std.proofs.Common.{arith, ◌≡◌, ℕ, ◌+◌, ◌<◌, ◌≤◌, ◌++◌, ◌∷◌, [], length, List, ap, ◌==◌, cond, Bool, true, false, slice_set, slice_index, take, subst, sym, ◌∙◌, append-nil, length-append, refl}
 use Rattle.std.proofs.lemmas.Bool.{eqb-true, eqb-false}
-use Rattle.std.proofs.lemmas.List.{get_or-set_other}
+use Rattle.std.proofs.lemmas.List.{get_or-set_other, length-set, length-take-le, take_more_set}
 use Rattle.std.proofs.lemmas.Grind.{get_or-set_at}
 use Rattle.swim_node.specs.declared.entry.Entry.{Entry}
-use Rattle.std.proofs.lemmas.List.{length-set, length-take-le}
 use Rattle.swim_node.specs.History.{calls_by}
 use Rattle.swim_node.specs.Node.{entry_with}
 use Rattle.swim_node.specs.Machinery.Turns.{JournalView, AreTurns}
-use Rattle.swim_node.proofs.Lists.{few_calls_by, calls_by-append, take-set}
+use Rattle.swim_node.proofs.Lists.{few_calls_by, calls_by-append}
 use Rattle.swim_node.proofs.journal.Journal.add.Goals as goal
 
 turn_at : (turns : List ℕ) (xs : List Entry) (e : Entry) (caller : ℕ) (b : Bool) → (e.tag.caller == caller) ≡ b → e.tag.caller < length turns → slice_index turns caller ≡ length (calls_by caller xs) → slice_index (slice_set turns e.tag.caller (slice_index turns e.tag.caller + 1)) caller ≡ length (calls_by caller xs ++ cond b (e ∷ []) [])
@@ -43,7 +42,7 @@ stands c =
 
 filled : (c : goal.After-self-3-1) → take (c.self.inside.len + 1) (slice_set c.self.inside.places.items c.self.inside.len c.fill.new.entry) ≡ take c.self.inside.len c.self.inside.places.items ++ entry_with c.args.tag c.args.event c.args.done c.args.answer.now c.args.status ∷ []
 filled c =
-    take-set c.self.inside.len c.self.inside.places.items c.fill.new.entry (stands c)
+    take_more_set c.self.inside.places.items c.self.inside.len c.fill.new.entry (stands c)
     ∙ ap (λ (e : Entry). take c.self.inside.len c.self.inside.places.items ++ e ∷ []) c.fill.ensures
 
 pub invariant_of-self : goal.invariant_of-self

@@ -1,11 +1,7 @@
-use Rattle.std.proofs.Common.{subst}
-use Rattle.swim_node.specs.Lives.{MayEnd}
-use Rattle.swim_node.proofs.Living.{may_end}
 use denote.Param.{param}
 use Rattle.swim_node.specs.contracts.node.Node.{the_view}
+use Rattle.swim_node.proofs.Living.{may_end}
 use Rattle.swim_node.proofs.node.Node.into_disk.Goals as goal
 
 pub returns-clause-lived : goal.returns-clause-lived
-returns-clause-lived g c keeps =
-    subst (λ v. MayEnd g.D.Disk.state v) c.self.view_is
-    (may_end g.D.Disk.state (the_view (param 0 g.row.D) g.D.Disk c.self.inside) c.self.inside.member c.self.inside.store.ceiling c.self.inside.most c.self.invariant.0 (c.self.invariant.1 keeps))
+returns-clause-lived g c keeps = rw (← c.self.view_is) (may_end g.D.Disk.state (the_view (param 0 g.row.D) g.D.Disk c.self.inside) c.self.inside.member c.self.inside.store.ceiling c.self.inside.most c.self.invariant.0 (c.self.invariant.1 keeps))

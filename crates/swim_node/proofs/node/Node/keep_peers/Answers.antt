@@ -1,8 +1,8 @@
-use Rattle.std.proofs.Common.{◌≡◌, ◌∙◌, ℕ, [], ap, sym, subst, refl, arith}
+use Rattle.std.proofs.Common.{◌≡◌, ◌∙◌, ℕ, ap, sym, subst, refl, arith}
 use Rattle.swim_state.specs.Store.{StoreView}
 use Rattle.swim_node.specs.History.{granted_of, state_after}
 use Rattle.swim_node.specs.Keeping.{KeepsGiven}
-use Rattle.swim_node.specs.Lives.{GoesOn, IsRaised}
+use Rattle.swim_node.specs.Lives.{IsRaised}
 use Rattle.swim_node.specs.Node.{base_of, store_of}
 use Rattle.swim_node.specs.Peers.{known_peers}
 use denote.Param.{param}
@@ -12,12 +12,9 @@ use Rattle.swim_node.proofs.node.Node.keep_peers.Given.{Over}
 use Rattle.swim_node.proofs.node.Node.keep_peers.Goals as goal
 
 module _ (g : Over) (c : goal.After-self-1 g) where
-  none : c.self.inside.journal.entries ≡ []
-  none = ap (λ v. v.entries) c.self.view_is ∙ c.requires.empty
-
   -- with no entry the ceiling is the base's, and the state too
   stood : c.self.inside.store.ceiling ≡ (base_of c.self.inside.base).granted
-  stood = sym c.self.invariant.0.granted ∙ ap (granted_of (base_of c.self.inside.base)) (none)
+  stood = sym c.self.invariant.0.granted ∙ ap (granted_of (base_of c.self.inside.base)) (ap (λ v. v.entries) c.self.view_is ∙ c.requires.empty)
 
   known : c.known_peers-peers.result ≡ known_peers (state_after (base_of c.self.inside.base) c.self.inside.journal.entries)
   known = c.known_peers-peers.ensures.value ∙ ap known_peers (sym c.self.invariant.0.member)
@@ -50,5 +47,4 @@ pub returns-clause-living : goal.returns-clause-living
 returns-clause-living g c =
     let new = record c.self.inside { base = record c.self.inside.base { granted = c.ceiling-self-inside.result }; store = c.keep-kept.new.store } in
     let raised : IsRaised (base_of c.self.inside.base) (base_of new.base) = record { same = refl; grows = omega (arith, stood g c, c.keep-kept.ensures.tries.grows, c.ceiling-self-inside.ensures.value) } in
-    subst (λ v. GoesOn g.D.Disk.state v (the_view (param 0 g.row.D) g.D.Disk new)) c.self.view_is
-    (goes_raised g.D.Disk.state (the_view (param 0 g.row.D) g.D.Disk c.self.inside) (the_view (param 0 g.row.D) g.D.Disk new) raised c.keep-kept.ensures.tries.owner refl)
+    rw (← c.self.view_is) (goes_raised g.D.Disk.state (the_view (param 0 g.row.D) g.D.Disk c.self.inside) (the_view (param 0 g.row.D) g.D.Disk new) raised c.keep-kept.ensures.tries.owner refl)

@@ -1,26 +1,23 @@
-use Rattle.std.proofs.Common.{◌≡◌, ◌⊎◌, Some, arith, rules, subst}
-use Rattle.swim_state.specs.declared.fault.RecoverFault.{RecoverFault}
-use Rattle.swim_state.specs.declared.fault.RecoverFault.TheVariants.{Device, Exhausted}
-use Rattle.swim_state.specs.Recovery.{fault_of}
+use Rattle.std.proofs.Common.{◌≡◌, ◌<◌, ℕ, arith, rules}
+use Rattle.swim_state.specs.declared.fault.RecoverFault.TheVariants.{Device}
+use Rattle.swim_state.specs.Held.{Held}
+use Rattle.swim_state.specs.declared.owner.Owner.{Owner}
 use Rattle.swim_node.specs.Node.{owner_of}
 use Rattle.swim_node.proofs.Lives.{begins_above}
 use Rattle.swim_node.proofs.node.Node.open.Goals as goal
 
 pub returns-in-Err-clause-file : goal.returns-in-Err-clause-file
-returns-in-Err-clause-file g c =
-    let said = c.in-Err.ensures in
-    record { name = said.name; moments = said.moments; since = said.since; earlier = said.earlier; beside = said.beside }
+returns-in-Err-clause-file g c = assumption c.in-Err.ensures
 
 pub returns-in-Ok-clause-file : goal.returns-in-Ok-clause-file
-returns-in-Ok-clause-file g c =
-    let said = c.in-Ok.ensures in
-    record { name = said.name; moments = said.moments; since = said.since; earlier = said.earlier; beside = said.beside }
+returns-in-Ok-clause-file g c = assumption c.in-Ok.ensures
 
 -- the first number is one above the floor of what the disk has, and nothing else is left by a crash
 pub returns-in-Ok-clause-opens : goal.returns-in-Ok-clause-opens
 returns-in-Ok-clause-opens g c =
     let disk = g.D.Disk.state c.args.disk in
-    let said = c.in-Ok.ensures in
+    let above : g.D.Disk.keeps_model → (owner : Owner) (b : ℕ) → Held owner disk b → b < c.ceiling-first.result = λ keeps owner b held.
+    let covers = (held disk.content disk.reads).covered in omega (arith, covers, c.in-Ok.ensures.first keeps, c.ceiling-first.ensures.value) in
     record {
       entries = search rules;
       base = search rules;
@@ -31,17 +28,10 @@ returns-in-Ok-clause-opens g c =
       calm = search rules;
       none = search rules;
       first = search rules;
-      above = λ keeps b held. let covers = (held disk.content disk.reads).covered in omega (arith, covers, said.first keeps, c.ceiling-first.ensures.value);
+      above = λ keeps. above keeps (owner_of c.args.settings);
       kept = search rules;
-      begins = λ keeps.
-          begins_above g.D.Disk.state c.in-Ok.store.owner c.args.disk c.ceiling-first.result
-          (λ b held. let covers = (held disk.content disk.reads).covered in omega (arith, covers, said.first keeps, c.ceiling-first.ensures.value));
-      living = λ keeps. record {
-        same_owner = search rules;
-        joined = search rules;
-        above = λ b held. let covers = (held disk.content disk.reads).covered in omega (arith, covers, said.first keeps, c.ceiling-first.ensures.value);
-        begun = tt;
-      };
+      begins = λ keeps. begins_above g.D.Disk.state c.in-Ok.store.owner c.args.disk c.ceiling-first.result (above keeps c.in-Ok.store.owner);
+      living = λ keeps. record { same_owner = search rules; joined = search rules; above = above keeps c.in-Ok.store.owner; begun = tt };
     }
 
 pub returns-in-Err-clause-refused : goal.returns-in-Err-clause-refused
@@ -58,13 +48,8 @@ returns-in-Err-clause-refused g c =
         range = search rules;
         device = λ is. let same : c.in-Err.fault ≡ Device = cc in said.device same;
         calm = λ other. said.calm (λ same. other cc);
-        shown = λ fault other is.
-            let same : c.in-Err.fault ≡ fault = cc in
-            subst (λ (f : RecoverFault). fault_of (owner_of c.args.settings) (g.D.Disk.state c.args.disk).content ≡ Some f) same
-            (said.fault keeps (λ device. other cc));
-        from_held = λ b held fault is.
-            let same : c.in-Err.fault ≡ fault = cc in
-            subst (λ (f : RecoverFault). (f ≡ Device) ⊎ (f ≡ Exhausted)) same (said.from_held keeps b held);
+        shown = λ fault other is. let same : c.in-Err.fault ≡ fault = cc in rw (← same) (said.fault keeps (λ device. other cc));
+        from_held = λ b held fault is. let same : c.in-Err.fault ≡ fault = cc in rw (← same) (said.from_held keeps b held);
         leaves = said.moments keeps;
       };
     }

@@ -1,8 +1,6 @@
-use Rattle.std.proofs.Common.{◌≡◌, subst, refl}
+use Rattle.std.proofs.Common.{◌≡◌, refl}
 use Rattle.swim_node.proofs.Living.{ends_era}
 use Rattle.swim_node.proofs.Nodes.{node-rebased}
-use Rattle.swim_node.specs.Lives.{EndsEra}
-use Rattle.swim_node.specs.Probing.{GoesInTurns}
 use Rattle.swim_node.proofs.Probing.{goes-in_turns}
 use Rattle.swim_node.specs.Node.{base_of, next_base}
 use denote.Param.{param}
@@ -22,9 +20,7 @@ returns-clause-living g c =
     let base : base_of c.base_at.result ≡ next_base (base_of c.self.inside.base) c.self.inside.journal.entries =
     rw (c.base_at.ensures.base, c.ceiling.ensures.value, n.member, n.granted, n.most) refl in
     let new = record c.self.inside { base = c.base_at.result; journal = c.clear.new.self } in
-    subst (λ v. EndsEra g.D.Disk.state v (the_view (param 0 g.row.D) g.D.Disk new)) c.self.view_is
-    (ends_era g.D.Disk.state (the_view (param 0 g.row.D) g.D.Disk c.self.inside) (the_view (param 0 g.row.D) g.D.Disk new) base refl refl n.legal n.begun)
+    rw (← c.self.view_is) (ends_era g.D.Disk.state (the_view (param 0 g.row.D) g.D.Disk c.self.inside) (the_view (param 0 g.row.D) g.D.Disk new) base refl refl n.legal n.begun)
 
 pub returns-clause-turns : goal.returns-clause-turns
-returns-clause-turns g c =
-    subst (λ v. GoesInTurns v.base v.entries) c.self.view_is (goes-in_turns (base_of c.self.inside.base) c.self.inside.journal.entries c.self.invariant.0.legal c.self.invariant.0.start)
+returns-clause-turns g c = rw (← c.self.view_is) (goes-in_turns _ _ c.self.invariant.0.legal c.self.invariant.0.start)

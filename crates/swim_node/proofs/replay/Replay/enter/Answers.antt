@@ -1,8 +1,8 @@
-use Rattle.std.proofs.Common.{◌≡◌, ℕ, ◌<◌, ◌∷◌, ◌++◌, [], List, length, ap, sym, ◌∙◌, subst, refl}
+use Rattle.std.proofs.Common.{◌≡◌, ℕ, ◌+◌, ◌∷◌, ◌++◌, [], List, length, ap, ◌∙◌, subst, refl}
 use Rattle.swim_member.specs.State.{State}
 use Rattle.swim_member.specs.Judge.{wanted}
 use Rattle.swim_node.specs.declared.entry.Entry.{Entry}
-use Rattle.swim_node.specs.History.{Base, Saves, IsNext, state_after}
+use Rattle.swim_node.specs.History.{Base, Saves, IsNext, state_after, status_at}
 use Rattle.swim_node.specs.Lives.{Era}
 use Rattle.swim_node.specs.Node.{base_of, entry_with}
 use Rattle.swim_node.proofs.Nodes.{Enters, next-entered, node-snoc}
@@ -16,46 +16,28 @@ module _ (c : goal.After-add) where
   abbrev base : Base
   base = base_of c.self.inside.base
 
-  same_entries : c.args.self.now.entries ≡ c.self.inside.journal.entries
-  same_entries = sym (ap (λ (v : Era). v.entries) c.self.view_is)
-
   snoc : c.add.new.self.entries ≡ c.self.inside.journal.entries ++ entry ∷ []
   snoc = c.add.ensures ∙ ap (λ (l : List Entry). l ++ entry ∷ []) c.reserve.ensures.entries
 
   enters : Enters c.self.inside.journal.entries c.self.inside.member c.enter_again-done.new.member c.self.inside.granted c.enter_again-done.result.granted entry
-  enters = record {
-    saved = c.enter_again-done.ensures.saves;
-    granted = refl;
-    grows = c.enter_again-done.ensures.grows;
-    steps = c.enter_again-done.ensures.steps;
-    outcomes = c.enter_again-done.ensures.each;
-    status = rw (c.status_now-status.ensures, c.entries.ensures, c.reserve.ensures.entries) refl;
-    sent = refl;
-    lost = refl;
-    turn = rw (← same_entries) c.in_ok-admit.ensures.ok.0;
-    deal = c.enter_again-done.ensures.deal;
-    texts = c.enter_again-done.ensures.texts;
-    caller = c.requires.caller;
-  }
+  enters =
+      let status : entry.reply.status ≡ status_at c.enter_again-done.new.member (length c.self.inside.journal.entries + 1) = rw (c.status_now-status.ensures, c.entries.ensures, c.reserve.ensures.entries) refl in
+      let turn = rw (← c.self.view_is) at c.in_ok-admit.ensures.ok.0 in
+      assumption (status, turn, c.enter_again-done.ensures, c.requires.caller)
 
   next : IsNext base c.self.inside.journal.entries entry
   next = next-entered base c.self.inside.journal.entries entry 0 c.self.inside.member c.enter_again-done.new.member c.self.inside.granted c.enter_again-done.result.granted c.self.inside.most c.self.invariant enters
 
-  room : length c.self.inside.journal.entries < c.self.inside.base.limit
-  room =
-      let same : c.self.inside.base.limit ≡ c.args.self.now.base.limit = ap (λ (v : Era). v.base.limit) c.self.view_is in
-      rw (← same_entries, same) c.in_ok-admit.ensures.ok.1
-
 pub invariant_of-self-2 : goal.invariant_of-self-2
 invariant_of-self-2 c =
     rw (c.greatest_own-self-inside.ensures, c.settings.ensures, c.deref.ensures.0, c.add.ensures, c.reserve.ensures.entries)
-    (node-snoc (base c) c.self.inside.journal.entries (entry c) 0 c.self.inside.member c.enter_again-done.new.member c.self.inside.granted c.enter_again-done.result.granted c.self.inside.most c.self.invariant (enters c) (room c))
+    (node-snoc (base c) c.self.inside.journal.entries (entry c) 0 c.self.inside.member c.enter_again-done.new.member c.self.inside.granted c.enter_again-done.result.granted c.self.inside.most c.self.invariant (enters c) (rw (← c.self.view_is) at c.in_ok-admit.ensures.ok.1))
 
 pub returns-clause-ok : goal.returns-clause-ok
 returns-clause-ok c = (
   entry c,
   snoc c ∙ ap (λ (v : Era). v.entries ++ entry c ∷ []) c.self.view_is,
-  subst (λ (v : Era). IsNext v.base v.entries (entry c)) c.self.view_is (next c),
+  rw (← c.self.view_is) (next c),
   refl,
   refl,
 )
@@ -65,7 +47,7 @@ returns-clause-again c e stands told_of =
     let event = c.args.cause.event in
     let told = c.args.cause.granted in
     let xs = c.self.inside.journal.entries in
-    let other : IsNext (base c) xs e = subst (λ (v : Era). IsNext v.base v.entries e) (sym c.self.view_is) stands in
+    let other = rw (← c.self.view_is) at stands in
     let same : entry c ≡ e =
     next-again (base c) xs c.args.cause (entry c) (next c) refl refl
     (λ save k. c.enter_again-done.ensures.granted save
