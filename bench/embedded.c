@@ -1,7 +1,8 @@
 /*
  * A call of the library beside a call of the node without it: the same pings and ticks, over 256 rows, in nanoseconds. Both
- * answer the same datagram. Then saves on a real file: pings that suspect the member. It counts the allocations of all calls
- * after the opening. `bench/embedded` builds and runs it.
+ * answer the same datagram. The node has an era of one entry, as the library's handle here has, and then one that all turns
+ * fill. Then saves on a real file: pings that suspect the member. It counts the allocations of all calls after the opening.
+ * `bench/embedded` builds and runs it.
  */
 #include "swim.h"
 
@@ -15,16 +16,19 @@
 #define PORT 7000
 #define ME 0x0a000001u
 #define OTHERS 0x0a000100u
-#define TURNS 1000 /* within an era of the node */
-#define ROUNDS 400
+#define TURNS 2000 /* so few that in some round nothing comes between */
+#define ERA 1024   /* the entries of a long era of the node, of which so many turns fill it */
+#define LONG_TURNS 1000
+#define PERIOD 1000
+#define ROUNDS 1000
 #define SAVES 200
 #define STATE "out/embedded.state"
 #define SHOWN 1664
 
-uint64_t swim_bench_node_pings(const uint8_t *before, size_t before_length, const uint8_t *text, size_t length, uint32_t turns,
+uint64_t swim_bench_node_pings(const uint8_t *before, size_t before_length, const uint8_t *text, size_t length, uint32_t era,
+                               uint32_t turns, uint8_t *out, size_t room);
+uint64_t swim_bench_node_ticks(const uint8_t *before, size_t before_length, uint64_t period, uint32_t era, uint32_t turns,
                                uint8_t *out, size_t room);
-uint64_t swim_bench_node_ticks(const uint8_t *before, size_t before_length, uint64_t period, uint32_t turns, uint8_t *out,
-                               size_t room);
 
 static long allocations;
 void *__real_malloc(size_t);
@@ -73,6 +77,7 @@ static double now(void) {
 
 static uint8_t before[40 * 512], text[512], last[512];
 static size_t before_length, length, last_length;
+static long during; /* allocations of calls after an opening */
 static const struct swim_endpoint other = {OTHERS, PORT};
 
 static void must(int code) {
@@ -88,19 +93,24 @@ static void take(struct swim_member *m) {
         continue;
 }
 
-static void open_one(struct swim_member *m, uint64_t period) {
+/* Opens a member that has heard of all others, on a file or in memory. */
+static void open_one(struct swim_member *m, const char *path) {
     struct swim_settings settings = SWIM_USUAL_SETTINGS;
     memset(m, 0, sizeof *m);
     settings.group = 7;
     settings.address = ME;
     settings.port = PORT;
-    settings.period = period;
-    settings.direct = period - 1;
+    settings.period = PERIOD;
+    settings.direct = PERIOD - 1;
     settings.suspect = 100000;
     settings.forget = 1000000;
     settings.rules = 1;
-    must(swim_make(STATE, &settings));
-    must(swim_open(m, STATE, &settings, 1));
+    if (path == NULL) {
+        must(swim_open_memory(m, &settings, 1));
+    } else {
+        must(swim_make(path, &settings));
+        must(swim_open(m, path, &settings, 1));
+    }
     for (size_t at = 0; at + 512 <= before_length; at += 512) {
         must(swim_receive(m, other, before + at, 512));
         take(m);
@@ -108,6 +118,88 @@ static void open_one(struct swim_member *m, uint64_t period) {
 }
 
 static double least(double a, double b) { return a < b ? a : b; }
+
+/* What is measured of pings and of ticks, of all turns: the least of all rounds, in nanoseconds, and the calls alone by the
+ * processor's count, which is read twice in each turn. */
+struct least {
+    double call, library;         /* of the library: its calls, and with them what they send */
+    double node[2], node_long[2]; /* of the node: what readies it, and with it all turns */
+};
+
+/* One call of the library. */
+static int call(struct swim_member *m, int ticks, int turn) {
+    return ticks ? swim_tick(m, (uint64_t)turn) : swim_receive(m, other, text, length);
+}
+
+/* Turns of a handle that has just been opened. */
+static void library_turns(int ticks, struct least *found) {
+    struct swim_member m;
+    open_one(&m, NULL);
+    long had = allocations;
+    double start = now();
+    for (int turn = 0; turn < TURNS; turn++) {
+        must(call(&m, ticks, turn));
+        take(&m);
+    }
+    found->library = least(found->library, now() - start);
+    uint64_t counted = 0;
+    for (int turn = 0; turn < TURNS; turn++) {
+        uint64_t at = __builtin_ia32_rdtsc();
+        int code = call(&m, ticks, turn);
+        counted += __builtin_ia32_rdtsc() - at;
+        must(code);
+        take(&m);
+    }
+    found->call = least(found->call, (double)counted);
+    during += allocations - had;
+    must(swim_close(&m));
+}
+
+/* What the count itself takes in all turns, by itself. */
+static double counting(void) {
+    double least_of_all = 1e18;
+    for (int round = 0; round < ROUNDS; round++) {
+        uint64_t counted = 0;
+        for (int turn = 0; turn < TURNS; turn++) {
+            uint64_t at = __builtin_ia32_rdtsc();
+            counted += __builtin_ia32_rdtsc() - at;
+        }
+        least_of_all = least(least_of_all, (double)counted);
+    }
+    return least_of_all;
+}
+
+/* Nanoseconds of a node whose eras have so many entries, with its opening and all that readies it. */
+static double node_turns(int ticks, uint32_t era, uint32_t turns) {
+    uint8_t out[SHOWN];
+    double start = now();
+    uint64_t entered = ticks ? swim_bench_node_ticks(before, before_length, PERIOD, era, turns, out, sizeof out)
+                             : swim_bench_node_pings(before, before_length, text, length, era, turns, out, sizeof out);
+    double took = now() - start;
+    if (entered != turns) {
+        fprintf(stderr, "%llu turns were entered\n", (unsigned long long)entered);
+        exit(1);
+    }
+    return took;
+}
+
+/* One round of all, so that what disturbs the machine disturbs all. */
+static void one_round(int ticks, struct least *found) {
+    library_turns(ticks, found);
+    found->node[0] = least(found->node[0], node_turns(ticks, 1, 0));
+    found->node[1] = least(found->node[1], node_turns(ticks, 1, TURNS));
+    found->node_long[0] = least(found->node_long[0], node_turns(ticks, ERA, 0));
+    found->node_long[1] = least(found->node_long[1], node_turns(ticks, ERA, LONG_TURNS));
+}
+
+/* The row of pings or of ticks. A count has so many nanoseconds. */
+static void show(int ticks, const struct least *found, double each) {
+    double node = (found->node[1] - found->node[0]) / TURNS;
+    double alone = (found->call - counting()) * each / TURNS;
+    printf("| %s | %.0f ns | %.0f ns | %.0f ns | %.2f | %.0f ns | %.2f |\n", ticks ? "tick" : "ping",
+           (found->node_long[1] - found->node_long[0]) / LONG_TURNS, node, alone, alone / node, found->library / TURNS,
+           found->library / TURNS / node);
+}
 
 /* Nanoseconds of a call that saves: suspicions, each of which takes the next number, and then the peers. */
 static double save_all(struct swim_member *m) {
@@ -131,64 +223,45 @@ static double save_all(struct swim_member *m) {
     return all / (2 * SAVES);
 }
 
-int main(void) {
-    unlink(STATE);
-    uint8_t out[SHOWN];
+/* Saves of a handle, and what memory it took to open. */
+static void save_turns(double *save, long *kilobytes) {
     struct swim_member m;
-    double node[2] = {1e18, 1e18}, none[2] = {1e18, 1e18}, library[2] = {1e18, 1e18};
     struct rusage usage;
-    long during;
+    getrusage(RUSAGE_SELF, &usage);
+    *kilobytes = usage.ru_maxrss;
+    open_one(&m, STATE);
+    getrusage(RUSAGE_SELF, &usage);
+    *kilobytes = usage.ru_maxrss - *kilobytes;
+    long had = allocations;
+    *save = save_all(&m);
+    during += allocations - had;
+    must(swim_close(&m));
+    unlink(STATE);
+}
+
+int main(void) {
+    struct least found[2];
+    double save;
+    long kilobytes;
+    unlink(STATE);
     /* until each row was heard and each update has been sent as often as it may */
     for (int i = 0; i < 36; i++)
         before_length += ping(before + before_length, (uint32_t)i * 30 % 256, 30);
     length = ping(text, 0, 0);
-    getrusage(RUSAGE_SELF, &usage);
-    long kilobytes = usage.ru_maxrss;
-    open_one(&m, 1000);
-    take(&m);
-    getrusage(RUSAGE_SELF, &usage);
-    kilobytes = usage.ru_maxrss - kilobytes;
-    during = allocations;
-    for (int i = 0; i < ROUNDS; i++) {
-        double start = now();
-        for (int turn = 0; turn < TURNS; turn++) {
-            must(swim_receive(&m, other, text, length));
-            take(&m);
-        }
-        library[0] = least(library[0], (now() - start) / TURNS);
-    }
-    for (int i = 0; i < ROUNDS; i++) {
-        double start = now();
-        for (int turn = 0; turn < TURNS; turn++) {
-            must(swim_tick(&m, (uint64_t)turn));
-            take(&m);
-        }
-        library[1] = least(library[1], (now() - start) / TURNS);
-    }
-    double save = save_all(&m);
-    during = allocations - during;
-    must(swim_close(&m));
-    unlink(STATE);
-    for (int i = 0; i < ROUNDS; i++) {
-        double start = now();
-        swim_bench_node_pings(before, before_length, text, length, 0, out, sizeof out);
-        none[0] = least(none[0], now() - start);
-        start = now();
-        swim_bench_node_pings(before, before_length, text, length, TURNS, out, sizeof out);
-        node[0] = least(node[0], now() - start);
-        start = now();
-        swim_bench_node_ticks(before, before_length, 1000, 0, out, sizeof out);
-        none[1] = least(none[1], now() - start);
-        start = now();
-        swim_bench_node_ticks(before, before_length, 1000, TURNS, out, sizeof out);
-        node[1] = least(node[1], now() - start);
-    }
-    puts("| | `Node::apply` | the library's call, and what it sends | ratio |\n|---|---|---|---|");
-    for (int i = 0; i < 2; i++) {
-        double apply = (node[i] - none[i]) / TURNS;
-        printf("| %s | %.0f ns | %.0f ns | %.2f |\n", i == 0 ? "ping" : "tick", apply, library[i], library[i] / apply);
-    }
-    printf("\n%ld allocations in %d calls after the opening, of which %d saved, each in %.2f ms; a member took %ld KB\n", during,
-           2 * ROUNDS * TURNS + 2 * SAVES, 2 * SAVES, save / 1e6, kilobytes);
+    save_turns(&save, &kilobytes);
+    for (int ticks = 0; ticks < 2; ticks++)
+        found[ticks] = (struct least){1e18, 1e18, {1e18, 1e18}, {1e18, 1e18}};
+    double start = now();
+    uint64_t began = __builtin_ia32_rdtsc();
+    for (int i = 0; i < ROUNDS; i++)
+        for (int ticks = 0; ticks < 2; ticks++)
+            one_round(ticks, &found[ticks]);
+    double each = (now() - start) / (double)(__builtin_ia32_rdtsc() - began);
+    puts("| | `Node::apply` in a long era | in an era of one entry | the library's call | ratio | with what it sends | ratio |\n"
+         "|---|---|---|---|---|---|---|");
+    for (int ticks = 0; ticks < 2; ticks++)
+        show(ticks, &found[ticks], each);
+    printf("\n%ld allocations in %ld calls after the opening, of which %d saved, each in %.2f ms; a member took %ld KB\n", during,
+           4L * ROUNDS * TURNS + 2 * SAVES, 2 * SAVES, save / 1e6, kilobytes);
     return 0;
 }

@@ -1,5 +1,7 @@
 //! The proved library: its exports, behind safe functions that ask for what their contracts require.
 
+use crate::scene::ERA;
+
 mod exports {
     unsafe extern "C" {
         pub fn swim_bench_decode(text: *const u8, len: usize, turns: u32) -> u64;
@@ -37,6 +39,7 @@ mod exports {
             before_len: usize,
             text: *const u8,
             len: usize,
+            era: u32,
             turns: u32,
             out: *mut u8,
             room: usize,
@@ -46,6 +49,7 @@ mod exports {
             before_len: usize,
             text: *mut u8,
             len: usize,
+            era: u32,
             turns: u32,
             out: *mut u8,
             room: usize,
@@ -54,6 +58,7 @@ mod exports {
             before: *const u8,
             before_len: usize,
             period: u64,
+            era: u32,
             turns: u32,
             out: *mut u8,
             room: usize,
@@ -149,6 +154,7 @@ pub fn node_ping_turns(before: &[u8], text: &[u8], turns: u32, out: &mut [u8]) -
             before_len,
             text.as_ptr(),
             text.len(),
+            ERA as u32,
             turns,
             out.as_mut_ptr(),
             out.len(),
@@ -167,6 +173,7 @@ pub fn node_newer_ping_turns(before: &[u8], text: &mut [u8], turns: u32, out: &m
             before_len,
             text,
             len,
+            ERA as u32,
             turns,
             out.as_mut_ptr(),
             out.len(),
@@ -182,6 +189,7 @@ pub fn node_tick_turns(before: &[u8], period: u64, turns: u32, out: &mut [u8]) -
             before.as_ptr(),
             before.len(),
             period,
+            ERA as u32,
             turns,
             out.as_mut_ptr(),
             out.len(),

@@ -16,6 +16,7 @@
 #include <string.h>
 #include <sys/file.h>
 #include <sys/mman.h>
+#include <sys/single_threaded.h>
 #include <sys/stat.h>
 #include <unistd.h>
 
@@ -143,11 +144,22 @@ static void was_forked(void) { forks++; }
 
 static void watch_forks(void) { watch_failed = pthread_atfork(NULL, NULL, was_forked); }
 
+/* Marks a handle, and says what its mark was. While the process has one thread nobody can come between, and no exchange is
+ * needed, which waits for all that was written before it. */
+static uint32_t mark(struct swim_member *member) {
+    uint32_t was;
+    if (!__libc_single_threaded)
+        return __atomic_exchange_n(&member->busy, 1, __ATOMIC_ACQUIRE);
+    was = __atomic_load_n(&member->busy, __ATOMIC_RELAXED);
+    __atomic_store_n(&member->busy, 1, __ATOMIC_RELAXED);
+    return was;
+}
+
 /* Begins a call on a handle: nobody else may be in it. */
 static int begin(struct swim_member *member) {
     if (member == NULL)
         return SWIM_NULL;
-    return __atomic_exchange_n(&member->busy, 1, __ATOMIC_ACQUIRE) == 0 ? SWIM_OK : SWIM_BUSY;
+    return mark(member) == 0 ? SWIM_OK : SWIM_BUSY;
 }
 
 /* Ends it, with its code. */

@@ -17,9 +17,6 @@ use swim_node::{Entry, Link, LinkFault, Node, Save};
 use swim_state::{Owner, init};
 use swim_wire::{DATAGRAM_MAX, Endpoint};
 
-/// The entries of an era. A run takes fewer turns.
-const ERA: u32 = 1024;
-
 /// The bytes in which a run shows its last entry: three datagrams and sixteen numbers.
 const SHOWN: usize = 1664;
 
@@ -66,9 +63,9 @@ fn copy(bytes: &[u8], out: &mut [u8])
     out[..len].copy_from_slice(&bytes[..len]);
 }
 
-/// A node whose member probes once in so many ticks. None where no member has such a period, or there is no
-/// memory.
-fn opened(alloc: Global, period: u64) -> Option<Node<MemDisk>> {
+/// A node whose member probes once in so many ticks, and whose eras have so many entries. None where no member has
+/// such a period, no era so many entries, or there is no memory.
+fn opened(alloc: Global, period: u64, era: u32) -> Option<Node<MemDisk>> {
     let settings = settings_of(period)?;
     let owner = Owner {
         group: GROUP,
@@ -76,7 +73,7 @@ fn opened(alloc: Global, period: u64) -> Option<Node<MemDisk>> {
     };
     let mut disk = MemDisk::new(alloc, 1, Vec::new(alloc));
     init(&mut disk, owner, 0).ok()?;
-    Node::open(alloc, disk, settings, ERA).ok()
+    Node::open(alloc, disk, settings, era).ok()
 }
 
 /// One call. Whether it was entered.
@@ -89,23 +86,33 @@ fn call(node: &mut Node<MemDisk>, link: &mut LastLink, event: Event) -> bool
     node.apply(link, tag, event).is_ok()
 }
 
+/// Begins the next era if this one has so many entries.
+fn end_era_of(node: &mut Node<MemDisk>, era: u32)
+    ensures { 0 < era → length node.new.entries < era }
+{
+    if node.len() >= era as usize {
+        node.rebase();
+    }
+}
+
 /// Fills an era with texts that are no datagrams, and begins the next, whose memory has then been written.
-fn fill_era(node: &mut Node<MemDisk>, link: &mut LastLink) {
+fn fill_era(node: &mut Node<MemDisk>, link: &mut LastLink, era: u32) {
     node.rebase();
-    for _ in 0..ERA {
+    for _ in 0..era {
         call(node, link, received(&[]));
     }
     node.rebase();
 }
 
 /// The same node after it has received the texts, each of 512 bytes.
-fn node_after(alloc: Global, texts: &[u8], period: u64) -> Option<Node<MemDisk>> {
-    let mut node = opened(alloc, period)?;
+fn node_after(alloc: Global, texts: &[u8], period: u64, era: u32) -> Option<Node<MemDisk>> {
+    let mut node = opened(alloc, period, era)?;
     let mut link = LastLink::new();
     for text in texts.chunks_exact(DATAGRAM_MAX) {
         call(&mut node, &mut link, received(text));
+        end_era_of(&mut node, era);
     }
-    fill_era(&mut node, &mut link);
+    fill_era(&mut node, &mut link, era);
     Some(node)
 }
 
@@ -180,20 +187,21 @@ pub extern "C" fn swim_bench_entry_bytes() -> usize {
     mem::size_of::<Entry>()
 }
 
-/// Hands the same ping to the node in each turn, and answers how many calls were entered. The last entry
-/// stands in `out`.
+/// Hands the same ping to the node in each turn, whose eras have so many entries, and answers how many calls were
+/// entered. The last entry stands in `out`, if its era has not ended.
 #[unsafe(no_mangle)]
 pub extern "C" fn swim_bench_node_pings(
     alloc: Global,
     before: &[u8],
     text: &[u8],
+    era: u32,
     turns: u32,
     out: &mut [u8],
 ) -> u64
     requires { SHOWN ≤ length out.old }
     ensures { result ≤ turns }
 {
-    let Some(mut node) = node_after(alloc, before, 1000) else {
+    let Some(mut node) = node_after(alloc, before, 1000, era) else {
         return 0;
     };
     let mut link = LastLink::new();
@@ -202,6 +210,7 @@ pub extern "C" fn swim_bench_node_pings(
         if call(&mut node, &mut link, received(text)) {
             entered += 1;
         }
+        end_era_of(&mut node, era);
     }
     write_last(&node, &link, out);
     entered
@@ -213,6 +222,7 @@ pub extern "C" fn swim_bench_node_newer_pings(
     alloc: Global,
     before: &[u8],
     text: &mut [u8],
+    era: u32,
     turns: u32,
     out: &mut [u8],
 ) -> u64
@@ -220,7 +230,7 @@ pub extern "C" fn swim_bench_node_newer_pings(
     requires room { SHOWN ≤ length out.old }
     ensures { result ≤ turns }
 {
-    let Some(mut node) = node_after(alloc, before, 1000) else {
+    let Some(mut node) = node_after(alloc, before, 1000, era) else {
         return 0;
     };
     let mut link = LastLink::new();
@@ -230,6 +240,7 @@ pub extern "C" fn swim_bench_node_newer_pings(
         if call(&mut node, &mut link, received(text)) {
             entered += 1;
         }
+        end_era_of(&mut node, era);
     }
     write_last(&node, &link, out);
     entered
@@ -241,13 +252,14 @@ pub extern "C" fn swim_bench_node_ticks(
     alloc: Global,
     before: &[u8],
     period: u64,
+    era: u32,
     turns: u32,
     out: &mut [u8],
 ) -> u64
     requires { SHOWN ≤ length out.old }
     ensures { result ≤ turns }
 {
-    let Some(mut node) = node_after(alloc, before, period) else {
+    let Some(mut node) = node_after(alloc, before, period, era) else {
         return 0;
     };
     let mut link = LastLink::new();
@@ -257,6 +269,7 @@ pub extern "C" fn swim_bench_node_ticks(
         if call(&mut node, &mut link, Event::Tick { deal }) {
             entered += 1;
         }
+        end_era_of(&mut node, era);
     }
     write_last(&node, &link, out);
     entered
