@@ -16,9 +16,15 @@
 #include <string.h>
 #include <sys/file.h>
 #include <sys/mman.h>
-#include <sys/single_threaded.h>
 #include <sys/stat.h>
 #include <unistd.h>
+
+#if defined __GLIBC__ && (__GLIBC__ > 2 || __GLIBC_MINOR__ >= 32)
+#include <sys/single_threaded.h>
+#define HAS_ONE_THREAD __libc_single_threaded
+#else /* not known */
+#define HAS_ONE_THREAD 0
+#endif
 
 /* The rows of one page. */
 #define PAGE 30
@@ -148,7 +154,7 @@ static void watch_forks(void) { watch_failed = pthread_atfork(NULL, NULL, was_fo
  * needed, which waits for all that was written before it. */
 static uint32_t mark(struct swim_member *member) {
     uint32_t was;
-    if (!__libc_single_threaded)
+    if (!HAS_ONE_THREAD)
         return __atomic_exchange_n(&member->busy, 1, __ATOMIC_ACQUIRE);
     was = __atomic_load_n(&member->busy, __ATOMIC_RELAXED);
     __atomic_store_n(&member->busy, 1, __ATOMIC_RELAXED);
