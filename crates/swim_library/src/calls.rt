@@ -54,6 +54,8 @@ fn hand_out(
 }
 
 /// Makes one call of the node. What it tells stands in its last entry: a reply is large, and each function that hands one on moves it.
+/// It is the one caller of `Node::apply`, which the compiler inlines here as long as there is no second one.
+#[inline(never)]
 fn call(node: &mut Node<FileDisk>, outbox: &mut Outbox, event: Event) -> Result<(), Refusal>
     requires { length node.old.entries < node.old.base.limit }
     ensures called { OnOk result
@@ -135,7 +137,9 @@ fn write_endpoints(endpoints: &[Endpoint], out: &mut [SwimEndpoint])
 }
 
 impl Running {
-    /// Enters an event. While datagrams of an earlier one wait, nothing happens.
+    /// Enters an event. While datagrams of an earlier one wait, nothing happens. It is inlined, since an event is large, and each
+    /// function that takes one moves it.
+    #[inline(always)]
     pub(crate) fn enter(&mut self, event: Event) -> Result<(), Refusal>
         ensures entered { OnOk result (EntersEvent self.old self.new event) }
         ensures waits { IsErrOf result why.Waiting ↔ (waiting_in self.old.outbox ≢ []) }
@@ -178,11 +182,11 @@ impl Running {
             → refusal ≡ why.NoMemory) }
         ensures same { OnErr result (self.new ≡ self.old) }
     {
-        let deal = if self.node.ends_period() {
-            deal_of(random)
-        } else {
-            Deal::from_first(0)
-        };
+        if self.node.ends_period() {
+            let deal = deal_of(random);
+            return self.enter(Event::Tick { deal });
+        }
+        let deal = Deal::from_first(0);
         self.enter(Event::Tick { deal })
     }
 

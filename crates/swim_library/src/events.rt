@@ -29,7 +29,8 @@ fn kept_of(bytes: &[u8]) -> ArrayVec<u8, RECEIVED_MAX>
     }
 }
 
-/// Enters an event in the member that a handle leads to.
+/// Enters an event in the member that a handle leads to. It is inlined, as `Running::enter` is.
+#[inline(always)]
 fn enter(member: &mut SwimMember, event: Event) -> u32
     ensures { TriesToEnter member.old member.new result
         (λ before after. EntersEvent before after event) }
