@@ -1,4 +1,3 @@
 pub mod Crosses
 mod Notes
-mod Numbers
 mod Passing

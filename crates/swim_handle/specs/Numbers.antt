@@ -1,33 +1,15 @@
 -- What received datagrams say of the own number.
-use Rattle.std.specs.Prelude.{◌≡◌, ◌<◌, ℕ, ◌==◌, max, if◌then◌else◌, List, [], ◌∷◌}
-use Rattle.std.specs.Prelude.{Bool, true, false}
-use Rattle.std.specs.Prelude.{Result, Ok, Err, Option, Some, None}
+use Rattle.std.specs.Prelude.{◌≡◌, ◌<◌, ℕ, List, [], ◌∷◌, Bool, true, false, Option, Some, None}
 use Rattle.swim_member.specs.declared.event.Event.{Event}
 use Rattle.swim_member.specs.declared.event.Event.TheVariants as event
 use Rattle.swim_member.specs.declared.note.Note.{Note}
 use Rattle.swim_member.specs.declared.note.Note.TheVariants as note
 use Rattle.swim_wire.specs.Decoding.{decoded}
-use Rattle.swim_wire.specs.declared.datagram.Datagram.{Datagram}
-use Rattle.swim_wire.specs.declared.fault.WireFault.{WireFault}
-use Rattle.swim_wire.specs.declared.update.Update.{Update}
+use Rattle.swim_wire.specs.Said.{number_said}
 use Rattle.swim_handle.specs.declared.number_log.NumberLog.{NumberLog}
 use Rattle.swim_handle.specs.declared.number_log.TheConstants.{LIVES_MAX}
 
--- the number that an update says of a member, or 0
-abbrev pub number_of : ℕ → Update → ℕ
-number_of me u = if u.who == me then u.number else 0
-
--- the greatest number that updates say of it, or 0
-abbrev pub greatest_said : ℕ → List Update → ℕ
-greatest_said me [] = 0
-greatest_said me (u ∷ updates) = max (number_of me u) (greatest_said me updates)
-
--- and that received bytes say of it: 0 where they spell no datagram
-abbrev pub number_said : ℕ → Result Datagram WireFault → ℕ
-number_said me (Ok p) = greatest_said me p.updates.items
-number_said me (Err _) = 0
-
--- what the datagram of an event says of it; nothing if it is of no datagram
+-- what the datagram of an event says of a member; nothing if it is of no datagram
 abbrev pub said_in : ℕ → Event → Option ℕ
 said_in me (event.Datagram from bytes) = Some (number_said me (decoded bytes.items))
 said_in me _ = None

@@ -146,7 +146,7 @@ impl<'a, N: Name, D: Disk, L: Link, R: Wait + Drop, W: Wait + Log + Clock> Calle
             ≡ counts_after (event_kind event) reply self.old.log.counts) }
         ensures uncounted { OnErr result (self.new.log ≡ self.old.log) }
         // and what its datagram says of the member is minded
-        ensures minded { IfOk result (λ reply. IfSome (said_in self.old.log.numbers.me event)
+        ensures minded { IfOk result (λ reply. IfSome (said_in self.old.log.me event)
             (λ _. self.new.log.numbers.number ≡ reply.status.number)) }
     {
         self.asked = self.asked.and(&event);

@@ -6,7 +6,6 @@ mod call_log;
 mod company;
 mod crew;
 mod handle;
-mod heard;
 mod identity;
 mod note_log;
 mod note_words;

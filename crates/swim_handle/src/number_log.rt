@@ -1,29 +1,22 @@
 //! What the receiver writes to the log of the own number: that the group knows a greater one, and that none can be saved.
 
-ghost use Rattle.std.specs.Prelude.{◌≡◌, ◌≢◌, ◌<◌, ◌+◌, ◌↔◌, IsTrue, false, length, slice_index};
+ghost use Rattle.std.specs.Prelude.{◌≡◌, ◌≢◌, ◌<◌, ◌+◌, ◌↔◌, IsTrue, false};
 ghost use Rattle.swim_member.specs.declared.note.Note.TheVariants as noted;
-ghost use Rattle.swim_wire.specs.Decoding.{decoded};
 ghost use Rattle.swim_handle.specs.Notes.{has_note};
-ghost use Rattle.swim_handle.specs.declared.number_log.TheConstants.{COUNT_AT};
-ghost use Rattle.swim_handle.specs.Numbers.{number_of, greatest_said, number_said, is_refusal, is_refused, IsOtherLife};
+ghost use Rattle.swim_handle.specs.Numbers.{is_refusal, is_refused, IsOtherLife};
 
 use crate::note_log::has_note;
 use log::{Log, error};
 use swim_member::{Note, Phase};
 use swim_node::{Reply, Status};
-use swim_wire::{Endpoint, Update, decode};
 
 /// The most lines of numbers of other lives that are logged, so that no stranger can fill the disk by such numbers.
 const LIVES_MAX: u8 = 5;
-
-/// The byte of a datagram that counts its updates (docs/reference/FORMATS.md).
-const COUNT_AT: usize = 6;
 
 /// What the log tells of the own number, each thing once: that the group knows a greater one, which no call of this life
 /// took, and that no number can be saved.
 #[derive(Clone, Copy, Debug, PartialEq, Eq)]
 pub struct NumberLog {
-    me: Endpoint,
     /// The own number after the last call.
     number: u64,
     /// The greatest number of another life that was logged, or 0.
@@ -32,47 +25,6 @@ pub struct NumberLog {
     lives: u8,
     /// The own number at the failed save that was logged last. It is greater once a save was done.
     failed_at: Option<u64>,
-}
-
-/// The number that an update says of a member, or 0.
-fn number_of(update: &Update, me: Endpoint) -> u64
-    ensures { result ≡ number_of me update.now }
-{
-    if update.who == me { update.number } else { 0 }
-}
-
-/// The greatest number that updates say of a member, or 0.
-fn greatest_said(updates: &[Update], me: Endpoint) -> u64
-    ensures { result ≡ greatest_said me updates.now }
-{
-    let mut greatest = 0;
-    for update in updates {
-        greatest = number_of(update, me).max(greatest);
-    }
-    greatest
-}
-
-/// Whether received bytes say that no update follows their head, as those of most pings do.
-fn has_no_updates(bytes: &[u8]) -> bool
-    ensures { IsTrue result
-        ↔ ((COUNT_AT < length bytes.now) × (slice_index bytes.now COUNT_AT ≡ 0)) }
-{
-    bytes.len() > COUNT_AT && bytes[COUNT_AT] == 0
-}
-
-/// The greatest number that received bytes say of a member, or 0, and 0 where they spell no datagram. The member decodes them itself: here
-/// they are only where an update may say one.
-#[tactic(auto, using(crate::proofs::Numbers::said_nothing))]
-fn number_said(bytes: &[u8], me: Endpoint) -> u64
-    ensures { result ≡ number_said me (decoded bytes.now) }
-{
-    if has_no_updates(bytes) {
-        return 0;
-    }
-    match decode(bytes) {
-        Ok(datagram) => greatest_said(datagram.updates.as_slice(), me),
-        Err(_) => 0,
-    }
 }
 
 /// Whether a note says that a datagram was read, and not taken.
@@ -117,25 +69,17 @@ fn write_failure<W: Log>(rt: &W, number: u64) {
 }
 
 impl NumberLog {
-    /// Nothing was logged yet of this member, whose number is this one.
-    pub fn new(me: Endpoint, number: u64) -> NumberLog
-        ensures of { (result.me ≡ me) × (result.number ≡ number) }
+    /// Nothing was logged yet of a member whose number is this one.
+    pub fn new(number: u64) -> NumberLog
+        ensures number { result.number ≡ number }
         ensures nothing { (result.told ≡ 0) × (result.lives ≡ 0) × (result.failed_at ≡ None) }
     {
         NumberLog {
-            me,
             number,
             told: 0,
             lives: 0,
             failed_at: None,
         }
-    }
-
-    /// The greatest number that received bytes say of this member, or 0.
-    pub fn said_by(&self, bytes: &[u8]) -> u64
-        ensures { result ≡ number_said self.now.me (decoded bytes.now) }
-    {
-        number_said(bytes, self.me)
     }
 
     /// Whether a number that a datagram said is one of another life, and is to be logged. The reply is that to the datagram.
@@ -157,7 +101,6 @@ impl NumberLog {
 
     /// Logs what the reply to a datagram shows, which said this number of this member.
     pub fn log<W: Log>(&mut self, rt: &W, said: u64, reply: &Reply)
-        ensures me { self.new.me ≡ self.old.me }
         ensures number { self.new.number ≡ reply.now.status.number }
         ensures other { IsOtherLife self.old said reply.now.notes.items
             → (self.new.told ≡ said) × (self.new.lives ≡ self.old.lives + 1) }

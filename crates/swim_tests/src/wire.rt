@@ -3,9 +3,10 @@
 use crate::same::{holds, same, same_at};
 use arrayvec::ArrayVec;
 use std::test::Fail;
+use swim_scenes::{endpoint, text, update};
 use swim_wire::{
     Cursor, Endpoint, Kind, Rules, Update, UpdateKind, WireFault, datagram_has_one_text, decode,
-    encode, own_numbers_of_spelled, spelled_or_faulty, text_spells_one_datagram,
+    encode, number_said, own_numbers_of_spelled, spelled_or_faulty, text_spells_one_datagram,
 };
 
 /// A ping of 10.0.0.2:7000 to 10.0.0.1:7000 in group 7, with sequence 1 and no update.
@@ -182,6 +183,30 @@ fn an_ack(rt: HostRuntime) -> Result<(), Fail> {
         same(&rt, update.kind, UpdateKind::Alive);
         same(&rt, update.who.number(), 0x0a00_0001_1b58);
         same(&rt, update.number, 1);
+    }
+    Ok(())
+}
+
+/// The greatest number is read that a datagram says of the member, in whichever kind, and no number of another one; of
+/// bytes that are no datagram none.
+#[test]
+fn numbers_said(rt: HostRuntime) -> Result<(), Fail> {
+    let mut updates: ArrayVec<Update, 5> = ArrayVec::new();
+    let me = endpoint(1).expect(&rt, "an endpoint");
+    for (kind, last, number, want) in [
+        (UpdateKind::Alive, 2, 20, 0),
+        (UpdateKind::Alive, 1, 4, 4),
+        (UpdateKind::Confirm, 1, 9, 9),
+        (UpdateKind::Suspect, 1, 8, 9),
+        (UpdateKind::Suspect, 3, 30, 9),
+    ] {
+        let said = update(kind, last, number).expect(&rt, "an update");
+        holds(&rt, updates.try_push(said).is_ok());
+        let page = text(Kind::Page, 1, Cursor::zero(), updates.as_slice());
+        let mut bytes = page.expect(&rt, "a text");
+        same(&rt, number_said(bytes.as_slice(), me), want);
+        bytes.truncate(9);
+        same(&rt, number_said(bytes.as_slice(), me), 0);
     }
     Ok(())
 }

@@ -2,19 +2,10 @@
 
 use super::notes::{StandingClock, replied};
 use crate::same::{holds, same};
-use arrayvec::ArrayVec;
 use log::sink::Memory;
-use std::process::Abort;
 use std::test::Fail;
 use swim_handle::NumberLog;
 use swim_member::{Note, Phase};
-use swim_scenes::{endpoint, text, update};
-use swim_wire::{Cursor, Kind, Update, UpdateKind};
-
-/// What the receiver of a new member, 10.0.0.1:7000 with number 1, logs of its number.
-fn numbers(rt: &impl Abort) -> NumberLog {
-    NumberLog::new(endpoint(1).expect(rt, "an endpoint"), 1)
-}
 
 /// A call: which number its datagram said of the member, what was replied to it, and how the line ends that is logged,
 /// if any is.
@@ -93,7 +84,7 @@ fn number_lines(rt: HostRuntime) -> Result<(), Fail> {
         second: 5,
         lines: Memory::new(rt.alloc()),
     };
-    let mut numbers = numbers(&rt);
+    let mut numbers = NumberLog::new(1);
     let all = calls();
     for call in &all {
         numbers.log(
@@ -119,34 +110,10 @@ fn numbers_without_end(rt: HostRuntime) -> Result<(), Fail> {
         second: 5,
         lines: Memory::new(rt.alloc()),
     };
-    let mut numbers = numbers(&rt);
+    let mut numbers = NumberLog::new(1);
     for said in 2..9 {
         numbers.log(&clock, said, &replied(None, Phase::Running, 1));
     }
     same(&rt, clock.lines.into_lines().len(), 5);
-    Ok(())
-}
-
-/// The greatest number is read that a datagram says of the member, in whichever kind, and no number of another one; of
-/// bytes that are no datagram none.
-#[test]
-fn numbers_said(rt: HostRuntime) -> Result<(), Fail> {
-    let mut updates: ArrayVec<Update, 5> = ArrayVec::new();
-    let numbers = numbers(&rt);
-    for (kind, last, number, want) in [
-        (UpdateKind::Alive, 2, 20, 0),
-        (UpdateKind::Alive, 1, 4, 4),
-        (UpdateKind::Confirm, 1, 9, 9),
-        (UpdateKind::Suspect, 1, 8, 9),
-        (UpdateKind::Suspect, 3, 30, 9),
-    ] {
-        let said = update(kind, last, number).expect(&rt, "an update");
-        holds(&rt, updates.try_push(said).is_ok());
-        let page = text(Kind::Page, 1, Cursor::zero(), updates.as_slice());
-        let mut bytes = page.expect(&rt, "a text");
-        same(&rt, numbers.said_by(bytes.as_slice()), want);
-        bytes.truncate(9);
-        same(&rt, numbers.said_by(bytes.as_slice()), 0);
-    }
     Ok(())
 }
