@@ -1,3 +1,4 @@
 pub mod Crosses
 mod Notes
+mod Numbers
 mod Passing

@@ -3,7 +3,7 @@
 
 ghost use Rattle.std.specs.Prelude.{◌≡◌, replicate, true, IfNone, IfSome};
 ghost use Rattle.swim_handle.specs.Companies.{holds_nobody};
-ghost use Rattle.swim_handle.specs.Numbers.{origin_of, said_in};
+ghost use Rattle.swim_handle.specs.Numbers.{Minds, origin_of, said_in};
 ghost use Rattle.swim_shell.specs.CallCounts.{call_counts, counts_after, event_kind};
 
 use crate::company::Company;
@@ -40,7 +40,7 @@ impl CallLog {
     /// Nothing was logged or counted yet of this member, which lives by these rules, and whose life begins with this number.
     pub fn new(me: Endpoint, rules: Rules, number: u64) -> CallLog
         ensures alone { result.company.is_alone ≡ true }
-        ensures of { (result.me ≡ me) × (result.numbers.number ≡ number) }
+        ensures me { result.me ≡ me }
         ensures number { result.counts.number ≡ number }
         ensures none { call_counts result.counts ≡ replicate CALL_COUNTS 0 }
         ensures notes { result.counts.notes ≡ replicate NOTE_KINDS 0 }
@@ -49,7 +49,7 @@ impl CallLog {
             me,
             notes: NoteLog::new(rules),
             company: Company::new(),
-            numbers: NumberLog::new(number),
+            numbers: NumberLog::new(),
             counts: CallCounts::new(number),
         }
     }
@@ -84,18 +84,19 @@ impl CallLog {
 
     /// Logs the notes of an answered call, whether the member was joined by it, and what its datagram shows of the own number, and
     /// counts it.
+    #[tactic(auto, using(crate::proofs::Numbers::minds))]
     pub(crate) fn take<W: Log + Clock>(&mut self, rt: &W, heard: &Heard, reply: &Reply)
         ensures counts { self.new.counts ≡ counts_after heard.now.kind reply.now self.old.counts }
         ensures company { self.new.company.is_alone ≡ holds_nobody reply.now.status }
         ensures me { self.new.me ≡ self.old.me }
-        ensures minded { IfSome heard.now.said
-            (λ _. self.new.numbers.number ≡ reply.now.status.number) }
+        ensures minded { IfSome heard.now.said (λ said. Minds self.old.counts.number said
+            reply.now self.old.numbers self.new.numbers) }
         ensures unsaid { IfNone heard.now.said (self.new.numbers ≡ self.old.numbers) }
     {
         self.notes.log(rt, reply, &heard.from);
         self.company.log(rt, &heard.from, &reply.status);
         if let Some(said) = heard.said {
-            self.numbers.log(rt, said, reply);
+            self.numbers.log(rt, self.counts.number, said, reply);
         }
         self.counts.count(heard.kind, reply);
     }

@@ -130,7 +130,7 @@ impl<'a, N: Name, D: Disk, L: Link, R: Wait + Drop, W: Wait + Log + Clock> Calle
     ghost use Rattle.std.specs.Prelude.{◌≡◌, IfErr, IfOk, IfSome, OnErr};
     ghost use Rattle.swim_shell.specs.Calls.{NewCall, Refuses};
     ghost use Rattle.swim_shell.specs.CallCounts.{counts_after, event_kind};
-    ghost use Rattle.swim_handle.specs.Numbers.{said_in};
+    ghost use Rattle.swim_handle.specs.Numbers.{Minds, said_in};
 
     ghost known = { λ h. h.known };
 
@@ -147,7 +147,8 @@ impl<'a, N: Name, D: Disk, L: Link, R: Wait + Drop, W: Wait + Log + Clock> Calle
         ensures uncounted { OnErr result (self.new.log ≡ self.old.log) }
         // and what its datagram says of the member is minded
         ensures minded { IfOk result (λ reply. IfSome (said_in self.old.log.me event)
-            (λ _. self.new.log.numbers.number ≡ reply.status.number)) }
+            (λ said. Minds self.old.log.counts.number said reply self.old.log.numbers
+            self.new.log.numbers)) }
     {
         self.asked = self.asked.and(&event);
         if self.is_spent {

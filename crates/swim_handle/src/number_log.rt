@@ -17,8 +17,6 @@ const LIVES_MAX: u8 = 5;
 /// took, and that no number can be saved.
 #[derive(Clone, Copy, Debug, PartialEq, Eq)]
 pub struct NumberLog {
-    /// The own number after the last call.
-    number: u64,
     /// The greatest number of another life that was logged, or 0.
     told: u64,
     /// How many such numbers were logged.
@@ -69,25 +67,24 @@ fn write_failure<W: Log>(rt: &W, number: u64) {
 }
 
 impl NumberLog {
-    /// Nothing was logged yet of a member whose number is this one.
-    pub fn new(number: u64) -> NumberLog
-        ensures number { result.number ≡ number }
-        ensures nothing { (result.told ≡ 0) × (result.lives ≡ 0) × (result.failed_at ≡ None) }
+    /// Nothing was logged yet.
+    pub fn new() -> NumberLog
+        ensures { (result.told ≡ 0) × (result.lives ≡ 0) × (result.failed_at ≡ None) }
     {
         NumberLog {
-            number,
             told: 0,
             lives: 0,
             failed_at: None,
         }
     }
 
-    /// Whether a number that a datagram said is one of another life, and is to be logged. The reply is that to the datagram.
-    fn is_other_life(&self, said: u64, reply: &Reply) -> bool
-        ensures { IsTrue result ↔ IsOtherLife self.now said reply.now.notes.items }
+    /// Whether a number that a datagram said is one of another life, and is to be logged. The reply is that to the datagram, and before
+    /// it the own number was `own`.
+    fn is_other_life(&self, own: u64, said: u64, reply: &Reply) -> bool
+        ensures { IsTrue result ↔ IsOtherLife self.now own said reply.now.notes.items }
     {
         let is_news = self.told < said && self.lives < LIVES_MAX;
-        self.number < said && is_news && !is_refused(reply.notes.as_slice())
+        own < said && is_news && !is_refused(reply.notes.as_slice())
     }
 
     /// Whether a save failed, for the first time since one was done.
@@ -99,27 +96,25 @@ impl NumberLog {
         failed && self.failed_at != Some(reply.status.number)
     }
 
-    /// Logs what the reply to a datagram shows, which said this number of this member.
-    pub fn log<W: Log>(&mut self, rt: &W, said: u64, reply: &Reply)
-        ensures number { self.new.number ≡ reply.now.status.number }
-        ensures other { IsOtherLife self.old said reply.now.notes.items
+    /// Logs what the reply to a datagram shows, which said this number of this member. Before it the own number was `own`.
+    pub fn log<W: Log>(&mut self, rt: &W, own: u64, said: u64, reply: &Reply)
+        ensures other { IsOtherLife self.old own said reply.now.notes.items
             → (self.new.told ≡ said) × (self.new.lives ≡ self.old.lives + 1) }
-        ensures same { ¬ IsOtherLife self.old said reply.now.notes.items
+        ensures same { ¬ IsOtherLife self.old own said reply.now.notes.items
             → (self.new.told ≡ self.old.told) × (self.new.lives ≡ self.old.lives) }
         ensures failed { IsTrue (has_note noted.SaveFailed reply.now.notes.items)
             → self.new.failed_at ≡ Some reply.now.status.number }
         ensures saved { has_note noted.SaveFailed reply.now.notes.items ≡ false
             → self.new.failed_at ≡ self.old.failed_at }
     {
-        if self.is_other_life(said, reply) {
+        if self.is_other_life(own, said, reply) {
             self.told = said;
             self.lives = self.lives.saturating_add(1);
-            write_life(rt, said, self.number, &reply.status);
+            write_life(rt, said, own, &reply.status);
         }
         if self.is_first_failure(reply) {
             self.failed_at = Some(reply.status.number);
             write_failure(rt, reply.status.number);
         }
-        self.number = reply.status.number;
     }
 }

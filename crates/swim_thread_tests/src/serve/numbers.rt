@@ -84,14 +84,13 @@ fn number_lines(rt: HostRuntime) -> Result<(), Fail> {
         second: 5,
         lines: Memory::new(rt.alloc()),
     };
-    let mut numbers = NumberLog::new(1);
+    let mut numbers = NumberLog::new();
     let all = calls();
+    let mut own = 1;
     for call in &all {
-        numbers.log(
-            &clock,
-            call.said,
-            &replied(call.note, call.phase, call.number),
-        );
+        let reply = replied(call.note, call.phase, call.number);
+        numbers.log(&clock, own, call.said, &reply);
+        own = call.number;
     }
     let lines = clock.lines.into_lines();
     let mut lines = lines.as_slice().iter();
@@ -110,9 +109,9 @@ fn numbers_without_end(rt: HostRuntime) -> Result<(), Fail> {
         second: 5,
         lines: Memory::new(rt.alloc()),
     };
-    let mut numbers = NumberLog::new(1);
+    let mut numbers = NumberLog::new();
     for said in 2..9 {
-        numbers.log(&clock, said, &replied(None, Phase::Running, 1));
+        numbers.log(&clock, 1, said, &replied(None, Phase::Running, 1));
     }
     same(&rt, clock.lines.into_lines().len(), 5);
     Ok(())
