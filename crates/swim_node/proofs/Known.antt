@@ -1,7 +1,7 @@
 -- The first members of a table in order ascend.
-use Rattle.std.proofs.Common.{◌≡◌, ℕ, zero, suc, ◌+◌, ◌%◌, ◌<◌, ◌≤◌, Bool, true, List, [], ◌∷◌, ◌++◌, length, map, take, refl, ap, ◌∙◌, arith, All, Some, get_or, inl, inr}
+use Rattle.std.proofs.Common.{◌≡◌, ℕ, zero, suc, ◌+◌, ◌%◌, ◌<◌, Bool, true, List, [], ◌∷◌, ◌++◌, map, take, refl, ap, ◌∙◌, arith, All, Some, get_or, inl, inr}
 use Rattle.std.proofs.lemmas.Option.{slice_get_within, get_or_from_slice_get}
-use Rattle.std.proofs.lemmas.List.{length-map, length-take, map-append, take_more}
+use Rattle.std.proofs.lemmas.List.{map-append, take_more}
 use Rattle.std.proofs.lemmas.Bool.{and_from, cases_Bool, lt-ltb}
 use Rattle.std.proofs.lemmas.List.Elements.{All-head, All-tail}
 use Rattle.std.specs.List.{filter, slice_get}
@@ -48,9 +48,6 @@ ascend-taken (suc n) (r ∷ rows) order ports =
 -- of a table in order, the first that pass a test
 pub ascend-first : (test : Row → Bool) (n : ℕ) (rows : List Row) → AreInOrder rows → All (λ who. 0 < who % 65536) (map row_name (take n (filter test rows))) → ascend 0 (map row_name (take n (filter test rows))) ≡ true
 ascend-first test n rows order ports = ascend-taken n (filter test rows) (order-filter test rows order) ports
-
-pub few_first : (n : ℕ) (rows : List Row) → length (map row_name (take n rows)) ≤ n
-few_first n rows = omega (arith, length-map (take n rows) row_name, length-take n rows)
 
 -- one member more
 pub first_more : (n : ℕ) (rows : List Row) (r : Row) → slice_get rows n ≡ Some r → map row_name (take (n + 1) rows) ≡ map row_name (take n rows) ++ row_name r ∷ []

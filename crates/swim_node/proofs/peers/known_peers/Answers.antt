@@ -1,15 +1,10 @@
-use Rattle.std.proofs.Common.{◌≡◌, ◌∙◌, ◌++◌, ◌∷◌, [], ◌+◌, ◌<◌, ◌%◌, List, ℕ, All, ap, arith, length, map, subst, sym, take}
+use Rattle.std.proofs.Common.{◌≡◌, ◌∙◌, ◌++◌, ◌∷◌, [], ◌+◌, ◌<◌, ◌%◌, List, ℕ, All, ap, arith, map, subst, sym, take}
 use Rattle.std.proofs.lemmas.List.Elements.{All-append, All-cons, All-nil}
 use Rattle.swim_rules.specs.Rows.{is_eligible}
 use Rattle.swim_state.specs.Second.{ascend}
 use Rattle.swim_member.specs.Member.{eligible, row_name}
-use Rattle.swim_node.proofs.Known.{ascend-first, few_first, first_more}
+use Rattle.swim_node.proofs.Known.{ascend-first, first_more}
 use Rattle.swim_node.proofs.peers.known_peers.Goals as goal
-
-pub returns-in-None-clause-peers : goal.returns-in-None-clause-peers
-returns-in-None-clause-peers c =
-    let few = few_first c.loop-number.number (eligible c.args.member.now) in
-    (omega (arith, ap (λ (l : List ℕ). length l) c.loop-number.invariant.taken, few, c.loop-number-test.true), c.loop-number.invariant.up)
 
 pub loop-number-preserved : goal.loop-number-preserved
 loop-number-preserved c =
@@ -28,8 +23,3 @@ loop-number-preserved c =
       ports = ports;
       up = ap (ascend 0) taken ∙ ascend-first is_eligible (n + 1) c.args.member.now.rows c.in-Some.ensures.order (subst (All (λ who. 0 < who % 65536)) taken ports);
     }
-
-pub returns-clause-peers : goal.returns-clause-peers
-returns-clause-peers c =
-    let few = few_first c.loop-number.number (eligible c.args.member.now) in
-    (omega (arith, ap (λ (l : List ℕ). length l) c.loop-number.invariant.taken, few, c.loop-number.auto.number-end), c.loop-number.invariant.up)

@@ -54,9 +54,6 @@ loop-i-preserved g c =
       earlier = λ keeps. alone_on _ _ _ _ (c.loop-i.invariant.earlier keeps) (alone_less _ IsEarlier _ _ (earlier_beside _) (c.in_default.ensures.beside keeps));
     }
 
-pub returns-in-Err-clause-sends : goal.returns-in-Err-clause-sends
-returns-in-Err-clause-sends g c = rw (c.in-Err.ensures.err.0, c.in-Err.ensures.err.1) c.loop-i.invariant.sends
-
 pub returns-in-Err-clause-moments : goal.returns-in-Err-clause-moments
 returns-in-Err-clause-moments g c keeps = rw c.in-Err.ensures.err.0 (c.loop-i.invariant.moments keeps)
 
@@ -65,6 +62,3 @@ returns-in-Err-clause-since g c keeps = since_from _ _ _ (returns-in-Err-clause-
 
 pub returns-clause-since : goal.returns-clause-since
 returns-clause-since g c keeps = since_from _ _ _ (c.loop-i.invariant.moments keeps) (c.numbers_are_covered.ensures.held keeps)
-
-pub returns-in-Err-clause-earlier : goal.returns-in-Err-clause-earlier
-returns-in-Err-clause-earlier g c keeps = rw c.in-Err.ensures.err.0 (c.loop-i.invariant.earlier keeps)

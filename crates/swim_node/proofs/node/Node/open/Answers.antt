@@ -6,12 +6,6 @@ use Rattle.swim_node.specs.Node.{owner_of}
 use Rattle.swim_node.proofs.Lives.{begins_above}
 use Rattle.swim_node.proofs.node.Node.open.Goals as goal
 
-pub returns-in-Err-clause-file : goal.returns-in-Err-clause-file
-returns-in-Err-clause-file g c = assumption c.in-Err.ensures
-
-pub returns-in-Ok-clause-file : goal.returns-in-Ok-clause-file
-returns-in-Ok-clause-file g c = assumption c.in-Ok.ensures
-
 -- the first number is one above the floor of what the disk has, and nothing else is left by a crash
 pub returns-in-Ok-clause-opens : goal.returns-in-Ok-clause-opens
 returns-in-Ok-clause-opens g c =

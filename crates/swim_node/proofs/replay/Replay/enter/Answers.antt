@@ -33,15 +33,6 @@ invariant_of-self-2 c =
     rw (c.greatest_own-self-inside.ensures, c.settings.ensures, c.deref.ensures.0, c.add.ensures, c.reserve.ensures.entries)
     (node-snoc (base c) c.self.inside.journal.entries (entry c) 0 c.self.inside.member c.enter_again-done.new.member c.self.inside.granted c.enter_again-done.result.granted c.self.inside.most c.self.invariant (enters c) (rw (← c.self.view_is) at c.in_ok-admit.ensures.ok.1))
 
-pub returns-clause-ok : goal.returns-clause-ok
-returns-clause-ok c = (
-  entry c,
-  snoc c ∙ ap (λ (v : Era). v.entries ++ entry c ∷ []) c.self.view_is,
-  rw (← c.self.view_is) (next c),
-  refl,
-  refl,
-)
-
 pub returns-clause-again : goal.returns-clause-again
 returns-clause-again c e stands told_of =
     let event = c.args.cause.event in
