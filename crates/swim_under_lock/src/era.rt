@@ -3,7 +3,7 @@
 ghost use Rattle.std.specs.Prelude.{◌≡◌};
 
 use crate::call_again::{self, CallAgain};
-use crate::load::Timed;
+use crate::load::{Locked, Timed};
 use crate::two_callers;
 use std::alloc::Global;
 use std::marker::Brand;
@@ -52,7 +52,13 @@ fn do_work<
     Some(match work {
         Work::TwoCallers => Done::TwoCallers(two_callers::called(rt, shared, passes, watches)?),
         Work::CallAgain(again) => Done::CallAgain(again.called(rt, shared, passes, watches)?),
-        Work::Load(timed) => Done::Load(timed.took(rt, &shared, passes, watches)?),
+        Work::Load(timed) => {
+            let member = Locked {
+                rt,
+                shared: &shared,
+            };
+            Done::Load(timed.took(rt, &member, passes, watches)?)
+        }
     })
 }
 

@@ -3,13 +3,16 @@
 ghost use Rattle.std.specs.Prelude.{◌<◌, ◌≤◌};
 
 mod calls;
+mod member;
 mod reads;
 mod ring;
 mod sends;
 mod slow_link;
+mod threads;
 mod timed;
 
 use calls::{Calls, What, applied};
+pub(crate) use member::Locked;
 use ring::through_ring;
 use sends::sent_by_outbox;
 use std::alloc::Global;

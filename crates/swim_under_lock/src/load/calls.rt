@@ -1,15 +1,14 @@
 //! Calls, by one thread and by many.
 
+use super::member::Member;
 use super::slow_link::SlowLink;
+use super::threads::time_threads;
 use std::alloc::Global;
-use std::sync::Wait;
-use std::thread::{Threads, map_vec};
+use std::thread::Threads;
 use std::time::{Clock, Duration, Instant};
-use swim_disk::Disk;
 use swim_member::{Deal, Event};
-use swim_node::{Link, Tag};
+use swim_node::Tag;
 use swim_scenes::{opened_by_plan, ping};
-use swim_shared::{Name, Pass, Shared};
 
 /// What a member is told.
 #[derive(Clone, Copy, Debug, PartialEq, Eq)]
@@ -39,52 +38,28 @@ impl Calls {
     }
 }
 
-/// Makes the calls of a pass, until one is refused.
-fn call_all<N: Name, D: Disk + Drop, L: Link + Drop, R: Wait>(
-    rt: &R,
-    shared: &Shared<N, D, L, &R>,
-    mut pass: Pass<N>,
-    calls: Calls,
-) -> Pass<N> {
+/// Makes the calls of a pass. False where one was refused.
+fn call_all<M: Member>(member: &M, mut pass: M::Pass, calls: Calls) -> bool {
     let deal = Deal::from_first(0);
     for _ in 0..calls.count {
         let Some(event) = calls.event(deal) else {
-            break
+            return false
         };
-        if shared.call(rt, &mut pass, event).is_err() {
-            break;
+        if !member.answers(&mut pass, event) {
+            return false;
         }
     }
-    pass
-}
-
-/// The calls of all passes. None where there is no memory.
-fn call_on_threads<
-    N: Name + Send + Sync,
-    D: Disk + Drop + Send,
-    L: Link + Drop + Send,
-    R: Threads + Wait + Clock + Sync,
->(
-    rt: &R,
-    shared: &Shared<N, D, L, &R>,
-    passes: Vec<Pass<N>>,
-    calls: Calls,
-) -> Option<Vec<Pass<N>>> {
-    map_vec(rt, passes, &|pass| call_all(rt, shared, pass, calls)).ok()
+    true
 }
 
 /// The time of the calls of all passes. None where there is no memory, or one was refused.
-pub(super) fn time_calls<
-    N: Name + Send + Sync,
-    D: Disk + Drop + Send,
-    L: Link + Drop + Send,
-    R: Threads + Wait + Clock + Sync,
->(rt: &R, shared: &Shared<N, D, L, &R>, passes: Vec<Pass<N>>, calls: Calls) -> Option<Duration> {
-    let start = Instant::now(rt).ok()?;
-    let passes = call_on_threads(rt, shared, passes, calls)?;
-    let took = start.elapsed(rt).ok()?;
-    let are_made = passes.iter().all(|pass| pass.calls() == calls.count);
-    are_made.then_some(took)
+pub(super) fn time_calls<M: Member, R: Threads + Clock + Sync>(
+    rt: &R,
+    member: &M,
+    passes: Vec<M::Pass>,
+    calls: Calls,
+) -> Option<Duration> {
+    time_threads(rt, passes, &|pass| call_all(member, pass, calls))
 }
 
 /// The time of so many ticks of a node without a lock.

@@ -4,83 +4,47 @@ ghost use Rattle.std.specs.Prelude.{◌≡◌, ◌<◌, ◌≤◌};
 
 use super::PLACES;
 use super::calls::{Calls, What, time_calls};
+use super::member::Member;
 use super::slow_link::SlowLink;
+use super::threads::time_beside;
 use super::timed::{Timed, time_of};
 use std::alloc::Global;
 use std::sync::Wait;
 use std::sync::atomic::{AtomicBool, Ordering};
-use std::thread::{self, Threads, join};
+use std::thread::{self, Threads};
 use std::time::{Clock, Duration};
-use swim_disk::Disk;
-use swim_node::Link;
 use swim_scenes::opened_by_plan;
-use swim_shared::{Name, Outbox, Parts, Pass, Sender, Shared};
+use swim_shared::{Outbox, Parts, Sender};
 
-/// The time of the calls, after which the flag goes up.
-fn call_then<
-    N: Name + Send + Sync,
-    D: Disk + Drop + Send,
-    L: Link + Drop + Send,
-    R: Threads + Wait + Clock + Sync,
->(
-    rt: &R,
-    shared: &Shared<N, D, L, &R>,
-    passes: Vec<Pass<N>>,
-    calls: Calls,
+/// Hands the ring's datagrams to the link until the flag is up. False where it never was.
+fn send_until<'a, C: Clock>(
+    mut sender: Sender,
+    mut link: SlowLink<'a, C>,
     is_over: &AtomicBool,
-) -> Option<Duration> {
-    let took = time_calls(rt, shared, passes, calls);
-    is_over.store(true, Ordering::SeqCst);
-    took
-}
-
-/// Hands the ring's datagrams to the link until the flag is up.
-fn send_until<'a, C: Clock>(mut sender: Sender, mut link: SlowLink<'a, C>, is_over: &AtomicBool) {
+) -> bool {
     for _ in 0..u64::MAX {
         if is_over.load(Ordering::SeqCst) {
-            break;
+            return true;
         }
         sender.turn(&mut link);
         thread::yield_now();
     }
-}
-
-fn call_beside_sender<
-    N: Name + Send + Sync,
-    D: Disk + Drop + Send,
-    L: Link + Drop + Send,
-    R: Threads + Wait + Clock + Sync,
->(
-    rt: &R,
-    shared: &Shared<N, D, L, &R>,
-    passes: Vec<Pass<N>>,
-    calls: Calls,
-    sender: Sender,
-    is_over: &AtomicBool,
-) -> Option<Duration> {
-    let ((), took) = join(
-        rt,
-        || send_until(sender, SlowLink::new(rt), is_over),
-        || call_then(rt, shared, passes, calls, is_over),
-    );
-    took
+    false
 }
 
 /// The time of the calls, while a sender hands what the outbox took to a slow link.
-pub(super) fn time_beside_sender<
-    N: Name + Send + Sync,
-    D: Disk + Drop + Send,
-    L: Link + Drop + Send,
-    R: Threads + Wait + Clock + Sync,
->(
+pub(super) fn time_beside_sender<M: Member, R: Threads + Clock + Sync>(
     rt: &R,
-    shared: &Shared<N, D, L, &R>,
-    passes: Vec<Pass<N>>,
+    member: &M,
+    passes: Vec<M::Pass>,
     calls: Calls,
     sender: Sender,
 ) -> Option<Duration> {
-    let is_over = AtomicBool::new(false);
-    call_beside_sender(rt, shared, passes, calls, sender, &is_over)
+    time_beside(
+        rt,
+        || time_calls(rt, member, passes, calls),
+        |is_over| send_until(sender, SlowLink::new(rt), is_over),
+    )
 }
 
 /// The time of so many pings of each caller, whose acks an outbox takes.

@@ -3,6 +3,7 @@
 ghost use Rattle.std.specs.Prelude.{◌≡◌, ◌<◌, ◌≤◌, []};
 
 use super::calls::{Calls, time_calls};
+use super::member::Member;
 use super::reads::{time_beside_calls, time_beside_save, time_reads};
 use super::sends::time_beside_sender;
 use super::slow_link::SlowLink;
@@ -14,7 +15,7 @@ use std::time::{Clock, Duration};
 use swim_disk::{Disk, Plan};
 use swim_node::{Link, Node};
 use swim_scenes::Device;
-use swim_shared::{Name, Parts, Pass, Sender, Shared, Watch};
+use swim_shared::{Parts, Sender};
 
 /// What is timed of a shared member.
 #[derive(Drop)]
@@ -33,29 +34,24 @@ pub(crate) enum Timed {
 
 impl Timed {
     /// How long it took. None where there is no memory, or it did not end as it should.
-    pub(crate) fn took<
-        N: Name + Send + Sync,
-        D: Disk + Drop + Send,
-        L: Link + Drop + Send,
-        R: Threads + Wait + Clock + Sync,
-    >(
+    pub(crate) fn took<M: Member, R: Threads + Clock + Sync>(
         self,
         rt: &R,
-        shared: &Shared<N, D, L, &R>,
-        mut passes: Vec<Pass<N>>,
-        watches: Vec<Watch<N>>,
+        member: &M,
+        mut passes: Vec<M::Pass>,
+        watches: Vec<M::Watch>,
     ) -> Option<Duration> {
         match self {
-            Timed::Calls(calls) => time_calls(rt, shared, passes, calls),
-            Timed::Reads(count) => time_reads(rt, watches, count),
+            Timed::Calls(calls) => time_calls(rt, member, passes, calls),
+            Timed::Reads(count) => time_reads(rt, member, watches, count),
             Timed::ReadsBesideCalls(count) => {
-                time_beside_calls(rt, shared, passes.pop()?, watches, count)
+                time_beside_calls(rt, member, passes.pop()?, watches, count)
             }
             Timed::ReadsBesideSave(plan, count) => {
-                time_beside_save(rt, shared, passes.pop()?, watches, &plan, count)
+                time_beside_save(rt, member, passes.pop()?, watches, &plan, count)
             }
             Timed::CallsBesideSender(calls, sender) => {
-                time_beside_sender(rt, shared, passes, calls, sender)
+                time_beside_sender(rt, member, passes, calls, sender)
             }
         }
     }
