@@ -1,7 +1,7 @@
 /*
  * A call of the library beside a call of the node without it: the same pings and ticks, over 256 rows, in nanoseconds. Both
- * answer the same datagram. The node has an era of one entry, as the library's handle here has, and then one that all turns
- * fill. Then saves on a real file: pings that suspect the member. It counts the allocations of all calls after the opening.
+ * answer the same datagram. Both have eras of one entry, and then one that all turns fill. Then saves on a real file: pings
+ * that suspect the member. It counts the allocations of all calls after the opening.
  * `bench/embedded` builds and runs it.
  */
 #include "swim.h"
@@ -17,7 +17,7 @@
 #define ME 0x0a000001u
 #define OTHERS 0x0a000100u
 #define TURNS 2000 /* so few that in some round nothing comes between */
-#define ERA 1024   /* the entries of a long era of the node, of which so many turns fill it */
+#define ERA 1024   /* the entries of a long era, which so many turns all but fill */
 #define LONG_TURNS 1000
 #define PERIOD 1000
 #define ROUNDS 1000
@@ -94,7 +94,7 @@ static void take(struct swim_member *m) {
 }
 
 /* Opens a member that has heard of all others, on a file or in memory. */
-static void open_one(struct swim_member *m, const char *path) {
+static void open_one(struct swim_member *m, const char *path, uint32_t limit) {
     struct swim_settings settings = SWIM_USUAL_SETTINGS;
     memset(m, 0, sizeof *m);
     settings.group = 7;
@@ -106,10 +106,10 @@ static void open_one(struct swim_member *m, const char *path) {
     settings.forget = 1000000;
     settings.rules = 1;
     if (path == NULL) {
-        must(swim_open_memory(m, &settings, 1));
+        must(swim_open_memory(m, &settings, limit));
     } else {
         must(swim_make(path, &settings));
-        must(swim_open(m, path, &settings, 1));
+        must(swim_open(m, path, &settings, limit));
     }
     for (size_t at = 0; at + 512 <= before_length; at += 512) {
         must(swim_receive(m, other, before + at, 512));
@@ -119,33 +119,50 @@ static void open_one(struct swim_member *m, const char *path) {
 
 static double least(double a, double b) { return a < b ? a : b; }
 
-/* What is measured of pings and of ticks, of all turns: the least of all rounds, in nanoseconds, and the calls alone by the
- * processor's count, which is read twice in each turn. */
+/* What is measured of pings or of ticks in eras of one length, of all turns: the least of all rounds, in nanoseconds, and the
+ * calls alone by the processor's count, which is read twice in each turn. */
 struct least {
-    double call, library;         /* of the library: its calls, and with them what they send */
-    double node[2], node_long[2]; /* of the node: what readies it, and with it all turns */
+    double call, library; /* of the library: its calls, and with them what they send */
+    double node[2];       /* of the node: what readies it, and with it all turns */
 };
+
+/* The length of an era, and how many turns are measured in one round. */
+struct eras {
+    uint32_t limit, turns;
+};
+
+static const struct eras short_eras = {1, TURNS}, long_era = {ERA, LONG_TURNS};
 
 /* One call of the library. */
 static int call(struct swim_member *m, int ticks, int turn) {
     return ticks ? swim_tick(m, (uint64_t)turn) : swim_receive(m, other, text, length);
 }
 
-/* Turns of a handle that has just been opened. */
-static void library_turns(int ticks, struct least *found) {
+/* Enters so many texts that are no datagrams. */
+static void fill(struct swim_member *m, size_t entries) {
+    while (entries-- > 0) {
+        must(swim_receive(m, other, text, 0));
+        take(m);
+    }
+}
+
+/* Turns of a handle that has just been opened, each time in an era that begins, whose memory has been written. */
+static void library_turns(int ticks, struct eras eras, struct least *found) {
     struct swim_member m;
-    open_one(&m, NULL);
+    open_one(&m, NULL, eras.limit);
+    fill(&m, (eras.limit - before_length / 512 % eras.limit) % eras.limit);
     long had = allocations;
     double start = now();
-    for (int turn = 0; turn < TURNS; turn++) {
-        must(call(&m, ticks, turn));
+    for (uint32_t turn = 0; turn < eras.turns; turn++) {
+        must(call(&m, ticks, (int)turn));
         take(&m);
     }
     found->library = least(found->library, now() - start);
+    fill(&m, (eras.limit - eras.turns % eras.limit) % eras.limit);
     uint64_t counted = 0;
-    for (int turn = 0; turn < TURNS; turn++) {
+    for (uint32_t turn = 0; turn < eras.turns; turn++) {
         uint64_t at = __builtin_ia32_rdtsc();
-        int code = call(&m, ticks, turn);
+        int code = call(&m, ticks, (int)turn);
         counted += __builtin_ia32_rdtsc() - at;
         must(code);
         take(&m);
@@ -155,7 +172,7 @@ static void library_turns(int ticks, struct least *found) {
     must(swim_close(&m));
 }
 
-/* What the count itself takes in all turns, by itself. */
+/* What the count itself takes in a turn, by itself. */
 static double counting(void) {
     double least_of_all = 1e18;
     for (int round = 0; round < ROUNDS; round++) {
@@ -164,7 +181,7 @@ static double counting(void) {
             uint64_t at = __builtin_ia32_rdtsc();
             counted += __builtin_ia32_rdtsc() - at;
         }
-        least_of_all = least(least_of_all, (double)counted);
+        least_of_all = least(least_of_all, (double)counted / TURNS);
     }
     return least_of_all;
 }
@@ -183,22 +200,19 @@ static double node_turns(int ticks, uint32_t era, uint32_t turns) {
     return took;
 }
 
-/* One round of all, so that what disturbs the machine disturbs all. */
-static void one_round(int ticks, struct least *found) {
-    library_turns(ticks, found);
-    found->node[0] = least(found->node[0], node_turns(ticks, 1, 0));
-    found->node[1] = least(found->node[1], node_turns(ticks, 1, TURNS));
-    found->node_long[0] = least(found->node_long[0], node_turns(ticks, ERA, 0));
-    found->node_long[1] = least(found->node_long[1], node_turns(ticks, ERA, LONG_TURNS));
+/* One round of both, so that what disturbs the machine disturbs both. */
+static void one_round(int ticks, struct eras eras, struct least *found) {
+    library_turns(ticks, eras, found);
+    found->node[0] = least(found->node[0], node_turns(ticks, eras.limit, 0));
+    found->node[1] = least(found->node[1], node_turns(ticks, eras.limit, eras.turns));
 }
 
-/* The row of pings or of ticks. A count has so many nanoseconds. */
-static void show(int ticks, const struct least *found, double each) {
-    double node = (found->node[1] - found->node[0]) / TURNS;
-    double alone = (found->call - counting()) * each / TURNS;
-    printf("| %s | %.0f ns | %.0f ns | %.0f ns | %.2f | %.0f ns | %.2f |\n", ticks ? "tick" : "ping",
-           (found->node_long[1] - found->node_long[0]) / LONG_TURNS, node, alone, alone / node, found->library / TURNS,
-           found->library / TURNS / node);
+/* A row of the table. A count has so many nanoseconds. */
+static void show(int ticks, struct eras eras, const struct least *found, double each) {
+    double node = (found->node[1] - found->node[0]) / eras.turns, sends = found->library / eras.turns;
+    double alone = (found->call / eras.turns - counting()) * each;
+    printf("| %s | %u | %.0f ns | %.0f ns | %.2f | %.0f ns | %.2f |\n", ticks ? "tick" : "ping", eras.limit, node, alone,
+           alone / node, sends, sends / node);
 }
 
 /* Nanoseconds of a call that saves: suspicions, each of which takes the next number, and then the peers. */
@@ -229,7 +243,7 @@ static void save_turns(double *save, long *kilobytes) {
     struct rusage usage;
     getrusage(RUSAGE_SELF, &usage);
     *kilobytes = usage.ru_maxrss;
-    open_one(&m, STATE);
+    open_one(&m, STATE, 1);
     getrusage(RUSAGE_SELF, &usage);
     *kilobytes = usage.ru_maxrss - *kilobytes;
     long had = allocations;
@@ -240,7 +254,8 @@ static void save_turns(double *save, long *kilobytes) {
 }
 
 int main(void) {
-    struct least found[2];
+    struct least found[2][2]; /* in short and in long eras, of pings and of ticks */
+    const struct eras eras[2] = {short_eras, long_era};
     double save;
     long kilobytes;
     unlink(STATE);
@@ -249,19 +264,19 @@ int main(void) {
         before_length += ping(before + before_length, (uint32_t)i * 30 % 256, 30);
     length = ping(text, 0, 0);
     save_turns(&save, &kilobytes);
-    for (int ticks = 0; ticks < 2; ticks++)
-        found[ticks] = (struct least){1e18, 1e18, {1e18, 1e18}, {1e18, 1e18}};
+    for (int kind = 0; kind < 4; kind++)
+        found[kind / 2][kind % 2] = (struct least){1e18, 1e18, {1e18, 1e18}};
     double start = now();
     uint64_t began = __builtin_ia32_rdtsc();
-    for (int i = 0; i < ROUNDS; i++)
-        for (int ticks = 0; ticks < 2; ticks++)
-            one_round(ticks, &found[ticks]);
+    for (int round = 0; round < ROUNDS; round++)
+        for (int kind = 0; kind < 4; kind++)
+            one_round(kind % 2, eras[kind / 2], &found[kind / 2][kind % 2]);
     double each = (now() - start) / (double)(__builtin_ia32_rdtsc() - began);
-    puts("| | `Node::apply` in a long era | in an era of one entry | the library's call | ratio | with what it sends | ratio |\n"
+    puts("| | entries of an era | `Node::apply` | the library's call | ratio | with what it sends | ratio |\n"
          "|---|---|---|---|---|---|---|");
-    for (int ticks = 0; ticks < 2; ticks++)
-        show(ticks, &found[ticks], each);
+    for (int kind = 0; kind < 4; kind++)
+        show(kind % 2, eras[kind / 2], &found[kind / 2][kind % 2], each);
     printf("\n%ld allocations in %ld calls after the opening, of which %d saved, each in %.2f ms; a member took %ld KB\n", during,
-           4L * ROUNDS * TURNS + 2 * SAVES, 2 * SAVES, save / 1e6, kilobytes);
+           4L * ROUNDS * (TURNS + LONG_TURNS) + 2 * SAVES, 2 * SAVES, save / 1e6, kilobytes);
     return 0;
 }
