@@ -1,6 +1,6 @@
 //! What a member that runs is asked for.
 
-ghost use Rattle.std.specs.Prelude.{◌≡◌, ◌≢◌, ◌⊎◌, ◌↔◌, ◌<◌, ◌≤◌, ◌∷◌, [], ℕ, List, length, map, take, Err, IfErr, IfOk, IsErrOf, IsOk, OnErr, OnOk};
+ghost use Rattle.std.specs.Prelude.{◌≡◌, ◌≢◌, ◌⊎◌, ◌↔◌, ◌<◌, ◌≤◌, ◌∷◌, [], ℕ, List, length, map, take, true, Err, IfErr, IfOk, IsErrOf, IsOk, OnErr, OnOk};
 ghost use Rattle.swim_library.specs.Outbox.{waiting_in};
 ghost use Rattle.swim_disk.specs.File.{file_state};
 ghost use Rattle.swim_library.specs.Running.{AddsTo, CallsNode, EntersEvent, EntersTick, GoesOnOpen, Hands, RefusesPeers, SavesPeers, LivesOn, ShowsRows};
@@ -8,7 +8,8 @@ ghost use Rattle.swim_library.specs.Shapes.{endpoint_as, note_as, row_as, status
 ghost use Rattle.swim_library.specs.declared.refusal.Refusal.TheVariants as why;
 ghost use Rattle.swim_member.specs.declared.answer.TheConstants.{NOTES_MAX};
 ghost use Rattle.swim_member.specs.declared.event.Event.TheVariants.{Members};
-ghost use Rattle.swim_node.specs.History.{IsLegal, granted_of, status_of};
+ghost use Rattle.swim_member.specs.Probe.{ends_period};
+ghost use Rattle.swim_node.specs.History.{IsLegal, granted_of, state_after, status_of};
 ghost use Rattle.swim_node.specs.Lives.{MayEnd};
 ghost use Rattle.swim_node.specs.Node.{next_base};
 ghost use Rattle.swim_node.specs.declared.entry.Reply.{Reply};
@@ -173,8 +174,22 @@ impl Running {
         Ok(page)
     }
 
-    /// Time goes on by one tick. Where it ends a period, it may begin a turn list, and draws the order of one. At any other
-    /// tick the member reads no order, and is given the one that takes no drawing.
+    /// Time goes on by a tick that ends a period, so that it may begin a turn list, whose order is drawn by this word. It is not
+    /// inlined: the compiled code clears its event where a function begins, and most ticks have another one.
+    #[inline(never)]
+    fn drawn_tick(&mut self, random: u64) -> Result<(), Refusal>
+        requires { ends_period (state_after self.old.node.base self.old.node.entries) ≡ true }
+        ensures entered { OnOk result ((numbers : List ℕ) × EntersTick self.old self.new numbers) }
+        ensures waits { IsErrOf result why.Waiting ↔ (waiting_in self.old.outbox ≢ []) }
+        ensures refused { IfErr result (λ refusal. refusal ≢ why.Waiting
+            → refusal ≡ why.NoMemory) }
+        ensures same { OnErr result (self.new ≡ self.old) }
+    {
+        let deal = deal_of(random);
+        self.enter(Event::Tick { deal })
+    }
+
+    /// Time goes on by one tick. Where it ends no period the member reads no order, and is given the one that takes no drawing.
     pub(crate) fn tick(&mut self, random: u64) -> Result<(), Refusal>
         ensures entered { OnOk result ((numbers : List ℕ) × EntersTick self.old self.new numbers) }
         ensures waits { IsErrOf result why.Waiting ↔ (waiting_in self.old.outbox ≢ []) }
@@ -183,8 +198,7 @@ impl Running {
         ensures same { OnErr result (self.new ≡ self.old) }
     {
         if self.node.ends_period() {
-            let deal = deal_of(random);
-            return self.enter(Event::Tick { deal });
+            return self.drawn_tick(random);
         }
         let deal = Deal::from_first(0);
         self.enter(Event::Tick { deal })

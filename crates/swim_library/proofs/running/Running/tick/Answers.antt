@@ -7,10 +7,10 @@ after_ok (Ok value) gives a = gives a
 after_ok (Err fault) gives a = a
 
 pub returns-clause-entered : goal.returns-clause-entered
-returns-clause-entered c = after_ok c.enter-2.result (λ enters. (
+returns-clause-entered c = after_ok c.enter.result (λ enters. (
   c.from_first-deal.result,
   record {
     enters = enters;
     undrawn = λ _. (c.from_first-deal.ensures, c.ends_period.ensures.otherwise c.if-ends_period.false);
   },
-)) c.enter-2.ensures.entered
+)) c.enter.ensures.entered
