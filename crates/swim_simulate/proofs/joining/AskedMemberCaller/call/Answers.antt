@@ -2,7 +2,7 @@ use Rattle.std.proofs.Common.{refl}
 use Rattle.swim_node.specs.declared.entry.Entry.{Entry}
 use Rattle.swim_node.specs.declared.entry.Save.TheVariants.{Kept}
 use Rattle.swim_simulate.proofs.Asking.{told}
-use Rattle.swim_simulate.proofs.joining.AskedCaller.call.Goals as goal
+use Rattle.swim_simulate.proofs.joining.AskedMemberCaller.call.Goals as goal
 
 pub returns-clause-ok : goal.returns-clause-ok
 returns-clause-ok c =
