@@ -133,6 +133,17 @@ impl Buffer {
         waiting_in(&self.slots)
     }
 
+    /// That at most one update waits about each member, and those that were sent more often before the others. It does nothing:
+    /// its contract is what counts.
+    pub fn queue_is_kept(&self)
+        ensures bound { length self.now.queue ≤ WAITING_MAX }
+        ensures apart { AreApart self.now.queue }
+        ensures falling { NeverRise self.now.queue }
+        ensures within { AreWithin self.now.most self.now.queue }
+    {
+        self.len();
+    }
+
     /// How many updates stand in the buffer.
     pub fn len(&self) -> usize
         ensures len { result ≡ length self.now.queue }

@@ -404,7 +404,7 @@ fn begin_above_none(rows: &[Row])
     ensures { AreInOrder rows.now → AreAbove 0 rows.now }
 {
     if let Some(row) = rows.first() {
-        let _ = row.who().number();
+        row.who().is_above_zero();
     }
 }
 
@@ -416,7 +416,7 @@ impl Member {
     {
         // what holds of the parts
         begin_above_none(self.table.rows());
-        let _ = self.buffer.len();
+        self.buffer.queue_is_kept();
         self.turn.nobody_is_listed_twice();
     }
 

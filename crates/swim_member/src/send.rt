@@ -79,8 +79,8 @@ impl Member {
         ensures answer { Adds self.old self.new answer.old answer.new
             (outs (send self.old to kind seq subject ∷ [])) 1 [] }
     {
-        // an endpoint is not 0, so what is sent has a text
-        let _ = subject.number();
+        // so what is sent has a text
+        subject.is_above_zero();
         let limit = self.limit();
         let out = Out {
             to,

@@ -2,6 +2,7 @@
 use Rattle.std.proofs.Common.{ℕ, List, refl, ◌∙◌, subst}
 use Rattle.std.specs.Prelude.{Option, Some, None, Result, Ok, Err}
 use Rattle.std.specs.Io.KnownBytes.{Keeps, WriteAppends}
+use Rattle.swim_shell.proofs.Writing.{keeps_same as keeps_same_bytes}
 
 -- known bytes that stay twice stay
 pub keeps_on : (a b c : Option (List ℕ)) → Keeps a b → Keeps b c → Keeps a c
@@ -12,8 +13,7 @@ keeps_on (Some xs) (Some ys) (Some zs) h k = k ∙ h
 
 -- known bytes that are left alone stay
 pub keeps_same : (a : Option (List ℕ)) → Keeps a a
-keeps_same None = tt
-keeps_same (Some xs) = refl
+keeps_same = keeps_same_bytes
 
 -- a write after those that took nothing is the one write
 pub writes_after : {E : Type 0} (a b c : Option (List ℕ)) (r : Result ℕ E) (buf : List ℕ) → Keeps a b → WriteAppends b c r buf → WriteAppends a c r buf

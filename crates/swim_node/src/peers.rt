@@ -17,8 +17,7 @@ pub(crate) fn known_peers(member: &Member) -> Peers
         match member.eligible(number) {
             Some(row) => {
                 let who = row.who();
-                // a port is not 0
-                let _ = who.port();
+                who.is_above_zero();
                 peers.push(who);
             }
             None => return peers,

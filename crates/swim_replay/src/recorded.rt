@@ -1,8 +1,9 @@
 //! That the eras of nodes are those whose recordings are played. The functions do no more than read: their contracts say
 //! what is so of each value that there is.
 
-ghost use Rattle.std.specs.Prelude.{◌≡◌, ◌<◌, ◌^◌, [], map, All, IfSome};
+ghost use Rattle.std.specs.Prelude.{◌≡◌, ◌<◌, ◌≤◌, ◌^◌, [], map, length, All, IfSome};
 ghost use Rattle.swim_gossip.specs.declared.buffer.Waiting.{Waiting as Waitings};
+ghost use Rattle.swim_member.specs.declared.answer.TheConstants.{OUTS_MAX};
 ghost use Rattle.swim_member.specs.declared.state.Relay.{Relay as Relays};
 ghost use Rattle.swim_node.specs.Node.{HasCaller, next_base};
 ghost use Rattle.swim_record.specs.Blocks.{AreFit, IsFit};
@@ -17,11 +18,12 @@ ghost use Rattle.swim_replay.specs.Recorded.{IsPlayed, IsRecorded, IsRecordedCal
 
 use crate::fault::{RecordingFault, RecordingReason};
 use crate::playing::play_recording;
+use arrayvec::ArrayVec;
 use std::alloc::Global;
 use swim_disk::Disk;
 use swim_gossip::Waiting;
-use swim_member::{Event, Joining, MemberState, Probe, Relay, Settings};
-use swim_node::{Beginning, Entry, Node, Replay};
+use swim_member::{Event, Joining, MemberState, OUTS_MAX, Probe, Relay, Settings};
+use swim_node::{Beginning, Entry, Node, Outcome, Replay};
 use swim_record::{EraTime, Start, recording};
 use swim_rules::Row;
 use swim_wire::Endpoint;
@@ -44,7 +46,7 @@ fn word_is_fit(word: u32)
 fn row_is_fit(row: Row)
     ensures { IsFit (row_line row) }
 {
-    let _ = row.update.who.number();
+    row.update.who.is_above_zero();
 }
 
 /// The lines of rows can.
@@ -61,7 +63,7 @@ fn waiting_is_fit(waiting: Waiting)
     ensures line { IsFit (say_line waiting) }
     ensures count { IsWord waiting.count }
 {
-    let _ = waiting.update.who.number();
+    waiting.update.who.is_above_zero();
 }
 
 /// The lines of what waits can.
@@ -79,8 +81,8 @@ fn relay_is_fit(relay: Relay)
     ensures line { IsFit (relay_line relay) }
     ensures words { IsWord relay.seq × IsWord relay.asked }
 {
-    let _ = relay.target.number();
-    let _ = relay.asker.number();
+    relay.target.is_above_zero();
+    relay.asker.is_above_zero();
 }
 
 /// The lines of such pings can.
@@ -97,7 +99,7 @@ fn relays_are_fit(relays: &[Relay])
 fn name_is_fit(name: Endpoint)
     ensures { IsFit (listed_line name) }
 {
-    let _ = name.number();
+    name.is_above_zero();
 }
 
 /// The lines of a turn list can.
@@ -115,7 +117,7 @@ fn probe_is_fit(probe: Option<Probe>)
     ensures word { IfSome probe (λ p. IsWord p.seq) }
 {
     if let Some(probe) = probe {
-        let _ = probe.target.number();
+        probe.target.is_above_zero();
     }
 }
 
@@ -125,8 +127,8 @@ fn joining_is_fit(joining: Option<Joining>)
     ensures word { IfSome joining (λ j. IsWord j.seq) }
 {
     if let Some(joining) = joining {
-        let _ = joining.peer.number();
-        let _ = joining.cursor.endpoint();
+        joining.peer.is_above_zero();
+        joining.cursor.is_a_place();
     }
 }
 
@@ -137,7 +139,7 @@ fn settings_are_fit(settings: Settings, limit: u32)
     ensures lambda { IsWord settings.lambda }
     ensures rules { IsWord settings.rules }
 {
-    let _ = settings.me.number();
+    settings.me.is_above_zero();
 }
 
 /// All lines of a member's state can, with those of its settings, and its lists are within their room.
@@ -231,10 +233,10 @@ fn event_is_fit(event: &Event)
 {
     match event {
         Event::Tick { deal } => {
-            let _ = deal.numbers();
+            deal.numbers_are_dealt();
         }
         Event::Datagram { from, bytes } => {
-            let _ = from.number();
+            from.is_above_zero();
             bytes_are_fit(bytes);
         }
         Event::ReceiveFailed => {}
@@ -242,13 +244,20 @@ fn event_is_fit(event: &Event)
             word_is_fit(*count);
         }
         Event::Join { peer } => {
-            let _ = peer.number();
+            peer.is_above_zero();
         }
         Event::Leave => {}
         Event::Members { after } => {
-            let _ = after.number();
+            after.is_a_place();
         }
     }
+}
+
+/// A call has at most as many outcomes as datagrams.
+fn outcomes_are_few(outcomes: &ArrayVec<Outcome, OUTS_MAX>)
+    ensures { length outcomes.now.items ≤ OUTS_MAX }
+{
+    let _ = outcomes.len();
 }
 
 /// An entry is one that can be recorded, if its caller is below 16.
@@ -257,7 +266,7 @@ fn entry_is_fit(entry: &Entry)
 {
     event_is_fit(&entry.event);
     number_is_fit(entry.granted);
-    let _ = entry.outcomes.len();
+    outcomes_are_few(&entry.outcomes);
 }
 
 /// Entries are such.

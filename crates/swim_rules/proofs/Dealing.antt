@@ -1,14 +1,12 @@
 -- Deals, and numbers that are gone through: none stands there twice.
-use Rattle.std.proofs.Common.{◌≡◌, ◌≢◌, ℕ, zero, suc, ◌+◌, ◌%◌, ◌<◌, ◌≤◌, ◌==◌, Bool, true, false, cond, refl, sym, ◌∙◌, ap, List, [], ◌∷◌, map, length, Option, Some, None, slice_get, take, get_or, ◌||◌, arith}
-use Rattle.std.specs.List.{filter, find, position_or_len, cons_option, list_any, IsDistinct, AllByRecursion, range_with_len}
+use Rattle.std.proofs.Common.{◌≡◌, ℕ, zero, suc, ◌+◌, ◌%◌, ◌<◌, ◌≤◌, ◌==◌, Bool, true, false, refl, sym, ◌∙◌, ap, List, [], ◌∷◌, map, length, Some, slice_get, take, get_or, ◌||◌, arith}
+use Rattle.std.specs.List.{list_any, IsDistinct, AllByRecursion, range_with_len}
 use Rattle.std.proofs.lemmas.Bool.{ne_eqb, eqb-true, eqb-false, false≢true}
-use Rattle.std.proofs.lemmas.Option.{slice_get-get_or, slice_get_past, slice_get_read}
-use Rattle.std.proofs.lemmas.List.{take_more, drop_more, take_all, length-drop, get_or-set_other}
-use Rattle.std.proofs.lemmas.List.Folds.{list_any-append, find_at}
+use Rattle.std.proofs.lemmas.Option.{slice_get-get_or}
+use Rattle.std.proofs.lemmas.List.{take_more, get_or-set_other}
+use Rattle.std.proofs.lemmas.List.Folds.{list_any-append}
 use Rattle.std.proofs.lemmas.Grind.{get_or-set_at}
-use Rattle.std.specs.Slice.{IsItemAt}
-use Rattle.std.specs.Option.{option_copied, is_some}
-use Rattle.std.proofs.Common.{Bor, set, ◌-◌, ◌++◌, drop, append_assoc}
+use Rattle.std.proofs.Common.{set}
 use Rattle.std.proofs.lemmas.Nat.{mod_below}
 use Rattle.std.proofs.lemmas.List.FromFn.{length-map-range_with_len}
 use Rattle.std.proofs.lemmas.List.Elements.{All-from_recursion}

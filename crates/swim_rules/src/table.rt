@@ -420,13 +420,13 @@ impl Table {
         ensures count { result ≡ length (filter (is_of_kind kind) self.now.rows) }
         ensures bound { result ≤ ROWS_MAX }
     {
-        // no more than there are rows
-        let _ = self.rows.len();
         let suspects = self.tallies.suspects.count;
+        let confirms = self.tallies.confirms.count;
+        let alive = self.rows.len() - confirms - suspects;
         match kind {
-            UpdateKind::Alive => self.count() - suspects,
+            UpdateKind::Alive => alive,
             UpdateKind::Suspect => suspects,
-            UpdateKind::Confirm => self.tallies.confirms.count,
+            UpdateKind::Confirm => confirms,
         }
     }
 

@@ -467,8 +467,7 @@ pub fn run_era<
         Ok(made) => made,
         Err(parts) => {
             let (node, _) = parts.into_inner();
-            // what the disk holds
-            let _ = node.disk();
+            node.numbers_are_covered();
             let why = EraFault::Refused(Refusal::Memory);
             return Err(CutEra { node, why });
         }

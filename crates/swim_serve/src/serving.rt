@@ -149,8 +149,7 @@ fn one_era<
     let (outbox, ring) = match outbox_of(alloc) {
         Some(made) => made,
         None => {
-            // what the disk holds
-            let _ = node.disk();
+            node.numbers_are_covered();
             let why = Fault::Memory;
             return Err(CutEra { node, why });
         }

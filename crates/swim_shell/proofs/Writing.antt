@@ -26,7 +26,7 @@ appends_more (Some x) (Some y) (Some z) xs ys h k = k ∙ (ap (λ t. t ++ ys) h 
 pub gives_none : (u v : Option (List ℕ)) (left : List ℕ) → Keeps u v → Gives u v left left []
 gives_none u v left k = record { went = []; wrote = appends_none u v k; whole = append-nil left }
 
-keeps_same : (u : Option (List ℕ)) → Keeps u u
+pub keeps_same : (u : Option (List ℕ)) → Keeps u u
 keeps_same None = tt
 keeps_same (Some x) = refl
 

@@ -24,7 +24,7 @@ mod writing;
 pub use copying::copied;
 pub use cursor::Cursor;
 pub use datagram::{DATAGRAM_MAX, Datagram, Kind, UPDATES_MAX};
-pub use endpoint::Endpoint;
+pub use endpoint::{Endpoint, is_no_members};
 pub use fault::WireFault;
 pub use laws::{
     datagram_has_one_text, own_numbers_of_spelled, spelled_or_faulty, text_spells_one_datagram,

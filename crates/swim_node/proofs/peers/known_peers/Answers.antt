@@ -17,7 +17,7 @@ loop-number-preserved c =
     ∙ sym (first_more n rows c.in-Some.row (sym c.in-Some.ensures.row)) in
     let ports : All (λ who. 0 < who % 65536) c.push.new.self =
     subst (All (λ who. 0 < who % 65536)) (sym c.push.ensures)
-    (All-append (λ who. 0 < who % 65536) c.loop-number.peers (c.who-who.result ∷ []) c.loop-number.invariant.ports (All-cons (λ who. 0 < who % 65536) c.who-who.result [] (omega (arith, c.port.ensures.value, c.port.ensures.positive)) (All-nil (λ who. 0 < who % 65536)))) in
+    (All-append (λ who. 0 < who % 65536) c.loop-number.peers (c.who-who.result ∷ []) c.loop-number.invariant.ports (All-cons (λ who. 0 < who % 65536) c.who-who.result [] c.is_above_zero.ensures.positive (All-nil (λ who. 0 < who % 65536)))) in
     record {
       taken = taken;
       ports = ports;

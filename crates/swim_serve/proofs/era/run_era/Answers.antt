@@ -21,7 +21,7 @@ pub returns-in-Err-clause-cut : goal.returns-in-Err-clause-cut
 returns-in-Err-clause-cut g c =
     let left = c.in-Err.ensures.parts in
     let none = sym (ap (λ p. p.node.entries) left.0) ∙ left.1 in
-    stays_same g.D.Disk.keeps_model g.D.Disk.state c.args.parts.node _ (c.into_inner-node.ensures.0 ∙ ap (λ p. p.node) left.0) none c.disk.ensures.held c.disk.ensures.owns
+    stays_same g.D.Disk.keeps_model g.D.Disk.state c.args.parts.node _ (c.into_inner-node.ensures.0 ∙ ap (λ p. p.node) left.0) none c.numbers_are_covered.ensures.held c.numbers_are_covered.ensures.owns
 
 pub returns-in-Err-work-clause-cut : goal.returns-in-Err-work-clause-cut
 returns-in-Err-work-clause-cut g c =

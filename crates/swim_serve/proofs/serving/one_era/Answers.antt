@@ -22,7 +22,7 @@ end_era-saves-requires g c =
 
 -- without memory there was none
 pub returns-in-None-clause-cut : goal.returns-in-None-clause-cut
-returns-in-None-clause-cut g c = ((cause.Refused refusal.Memory, refl), stays_same g.D.Disk.keeps_model g.D.Disk.state c.args.node c.args.node refl c.requires c.disk.ensures.held c.disk.ensures.owns)
+returns-in-None-clause-cut g c = ((cause.Refused refusal.Memory, refl), stays_same g.D.Disk.keeps_model g.D.Disk.state c.args.node c.args.node refl c.requires c.numbers_are_covered.ensures.held c.numbers_are_covered.ensures.owns)
 
 -- one whose worker failed is let go
 pub returns-then-is_some-clause-era : goal.returns-then-is_some-clause-era

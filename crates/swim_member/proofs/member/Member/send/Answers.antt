@@ -44,6 +44,6 @@ returns-clause-answer c =
     (ap (λ (s : State). s.settings) c.self.view_is) (ap (λ (s : State). s.number) c.self.view_is)
     (fit-said c.self.inside.settings.me c.self.inside.number (out c)
     (λ e. let none : c.args.subject ≡ 0 = sym c.at.ensures ∙ e in
-    let port : 0 < c.args.subject % 65536 = c.number.ensures.endpoint.has_port in
+    let port : 0 < c.args.subject % 65536 = c.is_above_zero.ensures.positive in
     omega arith)
     (said c)))
