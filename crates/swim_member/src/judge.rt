@@ -89,7 +89,8 @@ impl Member {
     }
 
     /// Judges received bytes, and reads the datagram that they spell into a place. Gives what it asks of the own number, or
-    /// why it is not accepted.
+    /// why it is not accepted. It is called: inlined, it would take room and registers from each tick.
+    #[inline(never)]
     fn read(&self, from: Endpoint, bytes: &[u8], place: &mut Datagram) -> Result<OwnNumber, Note>
         ensures accepted { IfOk result (λ own. judge_bytes self.now from (decoded bytes.now)
             ≡ judged.Datagram place.new own) }
@@ -107,7 +108,8 @@ impl Member {
     }
 
     /// Judges an event before the member acts on it: what it wants may be saved first. A datagram is read into the place
-    /// that is lent, where the act finds it.
+    /// that is lent, where the act finds it. It is inlined, since most ticks do less than a call costs.
+    #[inline(always)]
     pub fn judge(&self, event: &Event, read: &mut Datagram) -> Judgement
         ensures value { judged_as event.now read.new result ≡ judge self.now event.now }
         ensures sound { MayAct self.now (judged_as event.now read.new result) }

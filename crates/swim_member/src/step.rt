@@ -31,6 +31,7 @@ impl Member {
 
     /// Does what was judged of an event, whose datagram was read into a place. All but a tick is called: inlined, it would
     /// take room and registers from each of them.
+    #[inline(always)]
     fn obey(
         &mut self,
         event: &Event,
@@ -64,7 +65,8 @@ impl Member {
 
     /// Acts on an event as it was judged, with the ceiling that was granted for it, and says in the answer, which must be
     /// empty, what is sent, noted and shown. The member takes the number that the event wants where the ceiling is at
-    /// least that, and else keeps its own.
+    /// least that, and else keeps its own. It is inlined, as `judge` is.
+    #[inline(always)]
     pub fn act(
         &mut self,
         event: &Event,
