@@ -10,6 +10,7 @@ use Rattle.swim_serve.specs.declared.grace.MemberEnd.{MemberEnd}
 use Rattle.swim_serve.specs.Eras.{OutsideView}
 use Rattle.swim_serve.specs.Members.{Lived}
 use Rattle.swim_state.specs.Held.{Covers, Held, Through}
+use Rattle.swim_wire.specs.Numbers.{address_in, IsNoMembers}
 use Rattle.rollerblack.specs.declared.over_udp.StartFault.{StartFault}
 use Rattle.rollerblack.specs.declared.over_udp.StartFault.TheVariants as start
 
@@ -42,6 +43,8 @@ abbrev pub RefusesStart : {D : Type 0} → Type 0 → (D → DiskState) → Sett
     → StartFault → Type 0
 RefusesStart keeps state settings limit opened left (start.Settings fault) =
     (fault_of settings ≡ Some fault) × (left ≡ opened)
+RefusesStart keeps state settings limit opened left start.Address =
+    IsNoMembers (address_in settings.me) × (left ≡ opened)
 RefusesStart keeps state settings limit opened left (start.Open reason) =
     keeps → Unopened state settings limit reason opened left
 RefusesStart keeps state settings limit opened left start.Memory =

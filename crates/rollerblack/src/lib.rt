@@ -105,7 +105,12 @@
 //! ) -> Result<(), &'static str> {
 //!     let file = open_locked(rt, file, false).map_err(|_| "a state file")?;
 //!     let disk = FileDisk::load(rt.alloc(), file.into_file()).map_err(|_| "a state file")?;
-//!     let member = OverUdp::usual(Settings::usual(7, me));
+//!     // by the rules that `swim up` gives a group
+//!     let settings = Settings {
+//!         rules: 2,
+//!         ..Settings::usual(7, me)
+//!     };
+//!     let member = OverUdp::usual(settings);
 //!     let ended = run_over_udp(rt, logged, disk, control, member).map_err(|_| "a start")?;
 //!     ended.how.map_err(|_| "a worker")?;
 //!     Ok(())

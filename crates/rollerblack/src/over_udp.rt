@@ -1,10 +1,11 @@
 //! A member over UDP, in one call.
 
-ghost use Rattle.std.specs.Prelude.{◌≡◌, ◌≤◌, [], IfErr, IfOk};
+ghost use Rattle.std.specs.Prelude.{◌≡◌, ◌≤◌, [], IfErr, IfOk, OnOk};
 ghost use Rattle.rollerblack.specs.OverUdp.{IsOfSystem, LivesOverUdp, RefusesStart};
 ghost use Rattle.rollerblack.specs.declared.over_udp.StartFault.TheVariants as why;
 ghost use Rattle.swim_member.specs.Checks.{AreSound};
 ghost use Rattle.swim_node.specs.Lives.{BeginsAbove, IsLiving, life_of};
+ghost use Rattle.swim_wire.specs.Numbers.{address_in, IsNoMembers};
 
 use arrayvec::ArrayVec;
 use log::Log;
@@ -21,7 +22,7 @@ use swim_member::{Settings, SettingsFault};
 use swim_net::{SocketAlarm, Sockets, Waits, address_of, bind_datagrams, wait_of};
 use swim_node::{Node, OpenFault};
 use swim_serve::{DoorsAndChores, EndedMember, Joins, LifeSetup, NoChores, Outside, run_member};
-use swim_wire::Endpoint;
+use swim_wire::{Endpoint, is_no_members};
 
 /// How many entries an era has at most, if nothing else is said.
 const USUAL_LIMIT: u32 = 256;
@@ -30,7 +31,7 @@ const USUAL_LIMIT: u32 = 256;
 const USUAL_TICK_MILLIS: u64 = 100;
 
 /// To how many others a member introduces itself, if nothing else is said.
-const USUAL_INTRODUCE: u32 = 16;
+const USUAL_INTRODUCE: u32 = 64;
 
 /// After how many ticks a member joins one that it draws, if nothing else is said.
 const USUAL_REJOIN: u64 = 300;
@@ -79,6 +80,8 @@ impl OverUdp {
 pub enum StartFault {
     /// Its settings are refused.
     Settings(SettingsFault),
+    /// No member is reached at `settings.me`: it is 0.0.0.0, 255.255.255.255 or an address of multicast.
+    Address,
     /// The system refused the socket for datagrams at `settings.me`: the address is taken, or not this machine's.
     Datagrams(io::Error),
     /// The system refused to watch the control socket.
@@ -91,8 +94,8 @@ pub enum StartFault {
     Memory,
 }
 
-/// The sockets of a member and the key of its generators. Its control has these waits, which that alarm ends.
-fn surroundings<'a, R, T>(
+/// Binds the sockets of a member, and draws the key of its generators. Its control has these waits, which that alarm ends.
+fn bind<'a, R, T>(
     rt: &R,
     logged: &'a T,
     waits: &'a Waits,
@@ -198,6 +201,7 @@ where
     requires rejoin { member.rejoin ≤ 1000000 }
     ensures lived { IfOk result (λ ended. LivesOverUdp D.keeps_model D.state member.settings
         member.limit member.join.items disk ended.how ended.node) }
+    ensures address { OnOk result (¬ IsNoMembers (address_in member.settings.me)) }
     ensures refused { IfErr result (λ refused. RefusesStart D.keeps_model D.state member.settings
         member.limit disk refused.0 refused.1) }
 {
@@ -205,12 +209,15 @@ where
     if let Err(fault) = settings.check() {
         return Err((disk, StartFault::Settings(fault)));
     }
+    if is_no_members(settings.me.address()) {
+        return Err((disk, StartFault::Address));
+    }
     let alloc = rt.alloc();
     let (waits, connections) = match Waits::new(rt, alloc) {
         Ok(made) => made,
         Err(error) => return Err((disk, StartFault::Control(error))),
     };
-    let (sockets, key) = match surroundings(rt, logged, &waits, connections, control, &member) {
+    let (sockets, key) = match bind(rt, logged, &waits, connections, control, &member) {
         Ok(made) => made,
         Err(why) => return Err((disk, why)),
     };

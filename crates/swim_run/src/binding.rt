@@ -8,17 +8,15 @@ use std::time::Clock;
 use swim_exit::{Exit, Failure};
 use swim_net::{SocketAlarm, Sockets, Waits, address_of, bind_datagrams, wait_of};
 use swim_settings::RunSettings;
-use swim_wire::Endpoint;
+use swim_wire::{Endpoint, is_no_members};
 
-/// The address that the others reach this member by. A machine binds the unspecified one and those of multicast too, but a
-/// datagram that is sent there does not come back to this member alone.
+/// The address that the others reach this member by.
 fn own_address(alloc: Global, me: Endpoint) -> Result<SocketAddr, Failure> {
-    let at = address_of(me);
-    if at.ip().is_unspecified() || at.ip().is_multicast() {
+    if is_no_members(me.address()) {
         let about = format_args!("UDP {me} (me): it is the address of no machine");
         return Err(Failure::about(alloc, Exit::Socket, about));
     }
-    Ok(at)
+    Ok(address_of(me))
 }
 
 /// The exit where the system refuses the socket of datagrams.

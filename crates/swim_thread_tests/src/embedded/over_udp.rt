@@ -22,7 +22,12 @@ fn run<T: Threads + Wait + Log + Clock + Send + Sync + Copy + Drop>(
 ) -> Result<(), &'static str> {
     let file = open_locked(rt, file, false).map_err(|_| "a state file")?;
     let disk = FileDisk::load(rt.alloc(), file.into_file()).map_err(|_| "a state file")?;
-    let member = OverUdp::usual(Settings::usual(7, me));
+    // by the rules that `swim up` gives a group
+    let settings = Settings {
+        rules: 2,
+        ..Settings::usual(7, me)
+    };
+    let member = OverUdp::usual(settings);
     let ended = run_over_udp(rt, logged, disk, control, member).map_err(|_| "a start")?;
     ended.how.map_err(|_| "a worker")?;
     Ok(())
@@ -61,21 +66,38 @@ fn runs_until_stopped(rt: HostRuntime) -> Result<(), Fail> {
     Ok(())
 }
 
+/// What is left of a start on a disk without a state file, and why it was refused.
+fn refused<T: Threads + Wait + Log + Clock + Send + Sync + Copy + Drop>(
+    rt: &HostRuntime,
+    logged: &T,
+    me: Endpoint,
+) -> Result<(MemDisk, StartFault), Fail> {
+    let disk = MemDisk::new(rt.alloc(), 5, Vec::new(rt.alloc()));
+    let control = TcpListener::bind(rt, free_address())?;
+    let member = OverUdp::usual(Settings::usual(7, me));
+    let started = run_over_udp(rt, logged, disk, control, member);
+    Ok(started.err().ok_or("a life without a state file")?)
+}
+
 /// A start that is refused gives the disk back.
 #[test]
 fn a_refused_start_gives_the_disk_back(rt: HostRuntime) -> Result<(), Fail> {
-    let me = free_endpoint(&rt)?;
-    let disk = MemDisk::new(rt.alloc(), 5, Vec::new(rt.alloc()));
-    let control = TcpListener::bind(&rt, free_address())?;
-    let settings = Settings::usual(7, me);
-    let started = run_over_udp(&rt, &rt, disk, control, OverUdp::usual(settings));
-    let (disk, why) = started.err().ok_or("a life without a state file")?;
+    let (disk, why) = refused(&rt, &rt, free_endpoint(&rt)?)?;
     let is_refused = matches!(
         &why,
         StartFault::Open(OpenFault::Refused(RecoverFault::NotState))
     );
     assert!(&rt; is_refused, "{why:?}");
     assert!(&rt; disk.bytes()?.is_empty());
+    Ok(())
+}
+
+/// A broadcast reaches no member, so none starts there.
+#[test]
+fn no_member_starts_at_a_broadcast(rt: HostRuntime) -> Result<(), Fail> {
+    let me = Endpoint::new(u32::MAX, 7000).ok_or("an endpoint")?;
+    let (_, why) = refused(&rt, &rt, me)?;
+    assert!(&rt; matches!(&why, StartFault::Address), "{why:?}");
     Ok(())
 }
 

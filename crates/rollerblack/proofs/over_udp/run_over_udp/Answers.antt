@@ -1,6 +1,14 @@
+use Rattle.std.proofs.Common.{subst, sym}
+use Rattle.std.proofs.lemmas.Bool.{false≢true}
+use Rattle.swim_wire.specs.Numbers.{IsNoMembers}
 use Rattle.swim_start.proofs.Outcomes.{of_refused}
+use Rattle.swim_state.proofs.Steps.{always_ok}
 use Rattle.rollerblack.proofs.Starting.{without_memory}
 use Rattle.rollerblack.proofs.over_udp.run_over_udp.Goals as goal
+
+pub returns-in-Ok-open-clause-address : goal.returns-in-Ok-open-clause-address
+returns-in-Ok-open-clause-address g c =
+    always_ok _ c.live.result (λ nobody. false≢true (c.if-is_no_members.ensures.1 (subst IsNoMembers (sym c.address.ensures) nobody)))
 
 pub returns-in-Ok-open-clause-lived : goal.returns-in-Ok-open-clause-lived
 returns-in-Ok-open-clause-lived g c = c.live.ensures.lived c.args.disk c.in-Ok-open.ensures.opens.begins c.in-Ok-open.ensures.opens.living
