@@ -3,6 +3,7 @@ mod Crosses
 mod Dealing
 mod Doing
 mod Entering
+mod Living
 mod Owned
 mod Turning
 mod Waiting

@@ -1,32 +1,37 @@
 -- What an opening gives.
 use Rattle.std.specs.Prelude.{◌≡◌, ◌↔◌, ◌⊎◌, ◌<◌, ℕ, [], ⊤, Some, None}
 use Rattle.swim_disk.specs.Disk.{IsSettled}
-use Rattle.swim_disk.specs.File.{FileView, file_state}
+use Rattle.swim_disk.specs.File.{FileView, Finds, HasAll, file_state}
 use Rattle.swim_member.specs.Checks.{fault_of}
 use Rattle.swim_member.specs.declared.settings.Settings.{Settings}
-use Rattle.swim_node.specs.History.{fresh_base}
-use Rattle.swim_node.specs.Lives.{BeginsAbove, IsLiving, MayEnd, life_of}
+use Rattle.swim_node.specs.Lives.{MayEnd}
 use Rattle.swim_node.specs.Node.{NodeView, owner_of}
+use Rattle.swim_node.specs.Opening.{BeginsLife, OpensFile}
 use Rattle.swim_node.specs.declared.fault.OpenFault.TheVariants.{Limit}
 use Rattle.swim_node.specs.declared.opening.TheConstants.{LIMIT_MAX}
 use Rattle.swim_library.specs.Outbox.{waiting_in}
 use Rattle.swim_library.specs.declared.refusal.Refusal.{Refusal}
 use Rattle.swim_library.specs.declared.refusal.Refusal.TheVariants as why
-use Rattle.swim_library.specs.Shapes.{IsNoMembers, settings_of}
+use Rattle.swim_library.specs.Shapes.{settings_of}
+use Rattle.swim_wire.specs.Numbers.{IsNoMembers}
 use Rattle.swim_library.specs.declared.shapes.SwimSettings.{SwimSettings}
 use Rattle.swim_library.specs.declared.running.Running.{Running}
 
--- A life has begun on what the file had. Its first number is above all that the life before said,
--- whatever became of the file since: kills, crashes, calls cut short, refused starts. It may end
--- as it is.
+-- What a load found: as many bytes as the system said that there are, each as a read of it gave
+-- it, and a crash leaves them.
+pub record IsLoaded (file : FileView) : Type 0 where
+  pub found : Finds file
+  pub has_all : HasAll file
+  pub settled : IsSettled (file_state file)
+
+-- A life has begun on what the file had when it was loaded. Its first number is above all that the
+-- life before said, whatever became of the file since: kills, crashes, calls cut short, refused
+-- starts. The node's file is that one, but for what the opening wrote. It may end as it is.
 pub record Begins (settings : Settings) (limit : ℕ) (node : NodeView FileView) : Type 0 where
   pub opened : FileView
-  pub settled : IsSettled (file_state opened)
-  pub owner : node.owner ≡ owner_of settings
-  pub base : node.base ≡ fresh_base settings node.first limit
-  pub entries : node.entries ≡ []
-  pub above : BeginsAbove file_state node.owner opened node.first
-  pub living : IsLiving file_state node.owner (life_of settings limit opened [] node)
+  pub loaded : IsLoaded opened
+  pub file : OpensFile ⊤ (owner_of settings) (file_state opened) (file_state node.disk)
+  pub life : BeginsLife ⊤ file_state settings limit opened node
   pub ends : MayEnd file_state node
 
 -- a member whose life has begun so, of which nothing waits, that has told of nobody and was told of

@@ -9,7 +9,8 @@ use Rattle.swim_member.specs.declared.event.Event.TheVariants.{Tick}
 use Rattle.swim_node.specs.declared.entry.Entry.{Entry}
 use Rattle.swim_node.specs.declared.entry.Reply.{Reply}
 use Rattle.swim_node.specs.History.{IsLegal, granted_of, state_after, steps}
-use Rattle.swim_node.specs.Lives.{Era, GoesOn, IsLiving, MayEnd, life_of}
+use Rattle.swim_member.specs.declared.settings.Settings.{Settings}
+use Rattle.swim_node.specs.Lives.{EndsEra, Era, GoesOn, IsLiving, MayEnd, life_of}
 use Rattle.swim_node.specs.Node.{NodeView, next_base}
 use Rattle.swim_node.specs.Peers.{known_peers}
 use Rattle.swim_node.specs.Sending.{taken_by}
@@ -24,12 +25,20 @@ use Rattle.swim_library.specs.declared.running.Running.{Running}
 use Rattle.swim_library.specs.declared.shapes.SwimEndpoint.{SwimEndpoint}
 use Rattle.swim_library.specs.declared.shapes.SwimRow.{SwimRow}
 
--- the life of the node goes on, with as many ended eras or more
-abbrev pub LivesOn : NodeView FileView → NodeView FileView → Type 0
-LivesOn old new = (settings : _) → (limit : ℕ) → (opened : FileView) → (eras : List Era)
+-- the era goes on as it is, or it has ended and the next one began; and so the life goes on
+abbrev pub MayEndEra : NodeView FileView → NodeView FileView → Type 0
+MayEndEra old new =
+    ((new.base ≡ old.base) × (new.entries ≡ old.entries) × GoesOn file_state old new)
+    ⊎ ((new.base ≡ next_base old.base old.entries) × (new.entries ≡ [])
+    × EndsEra file_state old new)
+
+-- the life goes on, with one ended era more: that of a node, which this entry filled
+abbrev pub EndsFilled : NodeView FileView → Entry → NodeView FileView → Type 0
+EndsFilled old e new = (settings : Settings) → (limit : ℕ) → (opened : FileView)
+    → (eras : List Era)
     → IsLiving file_state old.owner (life_of settings limit opened eras old)
-    → (more : List Era)
-    × IsLiving file_state new.owner (life_of settings limit opened (eras ++ more) new)
+    → IsLiving file_state new.owner (life_of settings limit opened
+    (eras ++ (record { base = old.base; entries = old.entries ++ e ∷ [] }) ∷ []) new)
 
 -- no moment of the call left less on the disk, after a crash, than had been granted before it, and
 -- as it is now the life may end: a kill here leaves one that was lived
@@ -53,10 +62,13 @@ pub record CallsNode (old new : NodeView FileView) (waited waits : List (ℕ × 
   pub moments : Through (Covers old.owner (granted_of old.base old.entries))
       (file_state old.disk) (file_state new.disk)
 
--- the entry is the last of the era, or it filled it, and the next era began
+-- the entry is the last of the era, or it filled it, and the next era began; and so the life goes
+-- on
 abbrev pub GoesInto : NodeView FileView → NodeView FileView → Entry → Type 0
-GoesInto old new e = ((new.base ≡ old.base) × (new.entries ≡ old.entries ++ e ∷ []))
-    ⊎ ((new.base ≡ next_base old.base (old.entries ++ e ∷ [])) × (new.entries ≡ []))
+GoesInto old new e = ((new.base ≡ old.base) × (new.entries ≡ old.entries ++ e ∷ [])
+    × GoesOn file_state old new)
+    ⊎ ((new.base ≡ next_base old.base (old.entries ++ e ∷ [])) × (new.entries ≡ [])
+    × EndsFilled old e new)
 
 -- one call of the node, with this event and this reply: what it sent, and no more, waits too; what
 -- was told of members stays
@@ -73,7 +85,6 @@ pub record AddsTo (old new : Running) (event : Event) (reply : Reply) : Type 0 w
   pub seeking : new.seeking ≡ old.seeking
   pub owner : new.node.owner ≡ old.node.owner
   pub first : new.node.first ≡ old.node.first
-  pub lives : LivesOn old.node new.node
   pub held : KeepsHeld old.node new.node
 
 -- the event was entered: what it sent is all that waits
@@ -117,7 +128,7 @@ pub record GoesOnOpen (old new : Running) : Type 0 where
   pub seeking : new.seeking ≡ old.seeking
   pub owner : new.node.owner ≡ old.node.owner
   pub first : new.node.first ≡ old.node.first
-  pub lives : LivesOn old.node new.node
+  pub lives : GoesOn file_state old.node new.node ⊎ EndsEra file_state old.node new.node
   pub held : KeepsHeld old.node new.node
 
 -- the peers that it knows are saved, and a crash leaves them

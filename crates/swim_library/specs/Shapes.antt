@@ -1,5 +1,5 @@
 -- What crosses to C, by the values that it stands for.
-use Rattle.std.specs.Prelude.{◌≡◌, ◌⊎◌, ℕ, ◌+◌, ◌*◌, ◌/◌, ◌%◌, ◌==◌, if◌then◌else◌}
+use Rattle.std.specs.Prelude.{ℕ, ◌+◌, ◌*◌, ◌/◌, ◌%◌, ◌==◌, if◌then◌else◌}
 use Rattle.swim_member.specs.Texts.{note_number}
 use Rattle.swim_member.specs.declared.note.Note.{Note}
 use Rattle.swim_member.specs.declared.settings.Settings.{Settings}
@@ -16,10 +16,6 @@ use Rattle.swim_library.specs.declared.shapes.SwimStatus.{SwimStatus}
 -- the endpoint that C named
 abbrev pub number_of_endpoint : SwimEndpoint → ℕ
 number_of_endpoint e = e.address * 65536 + e.port
-
--- no member is reached at 0.0.0.0, at 255.255.255.255, or at an address of multicast (224 to 239)
-abbrev pub IsNoMembers : ℕ → Type 0
-IsNoMembers address = (address ≡ 0) ⊎ (address ≡ 4294967295) ⊎ (address / 268435456 ≡ 14)
 
 -- the place at it, or before all members where the port is 0
 abbrev pub cursor_of : SwimEndpoint → ℕ

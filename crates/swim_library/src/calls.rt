@@ -3,7 +3,7 @@
 ghost use Rattle.std.specs.Prelude.{◌≡◌, ◌≢◌, ◌⊎◌, ◌↔◌, ◌<◌, ◌≤◌, ◌∷◌, [], ℕ, List, length, map, take, true, Err, IfErr, IfOk, IsErrOf, IsOk, OnErr, OnOk};
 ghost use Rattle.swim_library.specs.Outbox.{waiting_in};
 ghost use Rattle.swim_disk.specs.File.{file_state};
-ghost use Rattle.swim_library.specs.Running.{AddsTo, CallsNode, EntersEvent, EntersTick, GoesOnOpen, Hands, RefusesPeers, SavesPeers, LivesOn, ShowsRows};
+ghost use Rattle.swim_library.specs.Running.{AddsTo, CallsNode, EntersEvent, EntersTick, GoesOnOpen, Hands, MayEndEra, RefusesPeers, SavesPeers, ShowsRows};
 ghost use Rattle.swim_library.specs.Shapes.{endpoint_as, note_as, row_as, status_as};
 ghost use Rattle.swim_library.specs.declared.refusal.Refusal.TheVariants as why;
 ghost use Rattle.swim_member.specs.declared.answer.TheConstants.{NOTES_MAX};
@@ -11,7 +11,6 @@ ghost use Rattle.swim_member.specs.declared.event.Event.TheVariants.{Members};
 ghost use Rattle.swim_member.specs.Probe.{ends_period};
 ghost use Rattle.swim_node.specs.History.{IsLegal, granted_of, state_after, status_of};
 ghost use Rattle.swim_node.specs.Lives.{MayEnd};
-ghost use Rattle.swim_node.specs.Node.{next_base};
 ghost use Rattle.swim_node.specs.declared.entry.Reply.{Reply};
 ghost use Rattle.swim_state.specs.declared.peers.TheConstants.{PEERS_MAX};
 ghost use Rattle.swim_wire.specs.declared.datagram.TheConstants.{UPDATES_MAX};
@@ -74,9 +73,7 @@ fn call(node: &mut Node<FileDisk>, outbox: &mut Outbox, event: Event) -> Result<
 
 /// Ends the era if it has so many entries, and begins the next one.
 fn end_era_of(node: &mut Node<FileDisk>, limit: u32)
-    ensures era { ((node.new.base ≡ node.old.base) × (node.new.entries ≡ node.old.entries))
-        ⊎ ((node.new.base ≡ next_base node.old.base node.old.entries)
-        × (node.new.entries ≡ [])) }
+    ensures era { MayEndEra node.old node.new }
     ensures room { 0 < limit → length node.new.entries < limit }
     ensures empty { limit ≡ 1 → node.new.entries ≡ [] }
     ensures limit { node.new.base.limit ≡ node.old.base.limit }
@@ -85,7 +82,6 @@ fn end_era_of(node: &mut Node<FileDisk>, limit: u32)
     ensures disk { node.new.disk ≡ node.old.disk }
     ensures granted { granted_of node.new.base node.new.entries
         ≡ granted_of node.old.base node.old.entries }
-    ensures lives { LivesOn node.old node.new }
     ensures legal { IsLegal node.old.base node.old.entries }
     ensures ends { MayEnd file_state node.new }
 {

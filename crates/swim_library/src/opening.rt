@@ -5,14 +5,15 @@ ghost use Rattle.swim_disk.specs.Disk.{IsSettled};
 ghost use Rattle.swim_disk.specs.File.{FileView, file_state};
 ghost use Rattle.swim_library.specs.Codes.{BAD_ADDRESS, CLOSED, IS_OPEN, NO_ENDPOINT, OK, code_of};
 ghost use Rattle.swim_library.specs.Holding.{held};
-ghost use Rattle.swim_library.specs.Opening.{Begins, OpensOn, RefusesFile, RefusesOpening};
+ghost use Rattle.swim_library.specs.Opening.{Begins, IsLoaded, OpensOn, RefusesFile, RefusesOpening};
 ghost use Rattle.swim_library.specs.Outbox.{waiting_in};
-ghost use Rattle.swim_library.specs.Shapes.{IsNoMembers, settings_of};
+ghost use Rattle.swim_library.specs.Shapes.{settings_of};
 ghost use Rattle.swim_library.specs.declared.refusal.Refusal.{Refusal as Refusals};
 ghost use Rattle.swim_library.specs.declared.refusal.Refusal.TheVariants as why;
 ghost use Rattle.swim_library.specs.declared.running.Running.{Running};
 ghost use Rattle.swim_member.specs.Checks.{AreSound};
 ghost use Rattle.swim_node.specs.Lives.{MayEnd};
+ghost use Rattle.swim_wire.specs.Numbers.{IsNoMembers};
 
 use crate::changes::Told;
 use crate::handle::{SwimMember, put, take};
@@ -33,7 +34,7 @@ use swim_state::{Owner, init};
 
 /// A disk over the file of a descriptor, which stays its owner's to close.
 fn disk_of(alloc: Global, fd: i32) -> Result<FileDisk, Refusal>
-    ensures settled { IfOk result (λ disk. IsSettled (file_state disk)) }
+    ensures loaded { IfOk result IsLoaded }
     ensures none { IfErr result (λ refusal. (refusal ≡ why.NoMemory) ⊎ (refusal ≡ why.File)) }
 {
     let own = duplicate(fd);

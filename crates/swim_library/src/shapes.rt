@@ -1,15 +1,16 @@
 //! What crosses to C by its fields.
 
-ghost use Rattle.std.specs.Prelude.{◌≡◌, ◌≢◌, ◌↔◌, IfErr, IfOk, IsErrOf, IsTrue, Some, SomeIff, ℕ};
+ghost use Rattle.std.specs.Prelude.{◌≡◌, ◌≢◌, ◌↔◌, IfErr, IfOk, IsErrOf, Some, SomeIff, ℕ};
 ghost use Rattle.swim_library.specs.Opening.{RefusesOpening};
-ghost use Rattle.swim_library.specs.Shapes.{cursor_of, endpoint_as, IsNoMembers, number_of_endpoint, phase_as, row_as, settings_of, status_as};
+ghost use Rattle.swim_library.specs.Shapes.{cursor_of, endpoint_as, number_of_endpoint, phase_as, row_as, settings_of, status_as};
 ghost use Rattle.swim_library.specs.declared.refusal.Refusal.TheVariants as why;
 ghost use Rattle.swim_member.specs.Checks.{AreSound, fault_of};
+ghost use Rattle.swim_wire.specs.Numbers.{IsNoMembers};
 
 use crate::refusal::Refusal;
 use swim_member::{Phase, Settings};
 use swim_node::Status;
-use swim_wire::{Cursor, Endpoint, Update};
+use swim_wire::{Cursor, Endpoint, Update, is_no_members};
 
 /// A member's name.
 #[repr(C)]
@@ -108,13 +109,6 @@ impl SwimEndpoint {
             port: endpoint.port(),
         }
     }
-}
-
-/// Whether no member is reached at this address: the unspecified one, the one of a broadcast, and those of multicast.
-fn is_no_members(address: u32) -> bool
-    ensures { IsTrue result ↔ IsNoMembers address }
-{
-    address == 0 || address == u32::MAX || address / (1 << 28) == 14
 }
 
 impl SwimSettings {

@@ -1,6 +1,6 @@
-use Rattle.std.proofs.Common.{◌≡◌, ◌∙◌, ◌+◌, ℕ, ap, sym, subst, List, ◌++◌, [], refl, Err}
+use Rattle.std.proofs.Common.{◌≡◌, ◌∙◌, ◌+◌, ℕ, ap, sym, subst, List, [], refl, Err}
 use Rattle.swim_disk.specs.File.{FileView, file_state}
-use Rattle.swim_state.specs.Held.{Covers, HasPeers, Through}
+use Rattle.swim_state.specs.Held.{Covers, Through}
 use Rattle.swim_state.specs.declared.owner.Owner.{Owner}
 use Rattle.swim_node.specs.History.{Base, granted_of, state_after}
 use Rattle.swim_node.specs.Lives.{MayEnd}
@@ -12,9 +12,10 @@ use Rattle.swim_node.specs.Lives.{GoesOn}
 use Rattle.swim_node.specs.Node.{store_of}
 use Rattle.swim_state.specs.declared.fault.SaveFault.{SaveFault}
 use Rattle.swim_state.specs.declared.fault.SaveFault.TheVariants.{Changed, Device, Exhausted}
-use Rattle.swim_library.specs.Running.{GoesOnOpen, KeepsHeld, LivesOn, RefusesPeers, SavesPeers}
+use Rattle.swim_library.specs.Running.{GoesOnOpen, KeepsHeld, MayEndEra, RefusesPeers}
 use Rattle.swim_library.specs.declared.refusal.Refusal.TheVariants as why
 use Rattle.swim_library.specs.declared.running.Running.{Running}
+use Rattle.swim_library.proofs.Living.{lives_on}
 use Rattle.swim_library.proofs.running.Running.keep_peers.Goals as goal
 
 -- the save of an era that just began, said of the one before
@@ -45,7 +46,7 @@ refuses old begun now peers Exhausted disk keeps = (
 refuses old begun now peers Changed disk keeps = (keeps.tries.guards tt).changed refl
 
 -- the member goes on, whether its peers were saved or not
-goes_on : (old new : Running) (begun : NodeView FileView) → new.outbox ≡ old.outbox → new.notes ≡ old.notes → new.told ≡ old.told → new.due ≡ old.due → new.seeking ≡ old.seeking → new.node.owner ≡ begun.owner → begun.owner ≡ old.node.owner → new.node.first ≡ begun.first → begun.first ≡ old.node.first → LivesOn old.node begun → GoesOn file_state begun new.node → KeepsHeld old.node new.node → GoesOnOpen old new
+goes_on : (old new : Running) (begun : NodeView FileView) → new.outbox ≡ old.outbox → new.notes ≡ old.notes → new.told ≡ old.told → new.due ≡ old.due → new.seeking ≡ old.seeking → new.node.owner ≡ begun.owner → begun.owner ≡ old.node.owner → new.node.first ≡ begun.first → begun.first ≡ old.node.first → MayEndEra old.node begun → GoesOn file_state begun new.node → KeepsHeld old.node new.node → GoesOnOpen old new
 goes_on old new begun outbox notes told due seeking owner begun_owner first begun_first ended living held = record {
   outbox = outbox;
   notes = notes;
@@ -54,9 +55,7 @@ goes_on old new begun outbox notes told due seeking owner begun_owner first begu
   seeking = seeking;
   owner = owner ∙ begun_owner;
   first = first ∙ begun_first;
-  lives = λ settings limit opened eras lives.
-      let before = ended settings limit opened eras lives in
-      (before.0, living settings limit opened (eras ++ before.0) before.1);
+  lives = lives_on old.node begun new.node ended living;
   held = held;
 }
 
@@ -75,14 +74,14 @@ pub returns-in-Ok-clause-goes_on : goal.returns-in-Ok-clause-goes_on
 returns-in-Ok-clause-goes_on c =
     let keeps = c.keep_peers-kept.ensures.keeps in
     let ended = c.end_era_of.ensures in
-    goes_on _ _ c.end_era_of.new.node refl refl refl refl refl keeps.tries.owner ended.owner c.keep_peers-kept.ensures.first ended.first ended.lives c.keep_peers-kept.ensures.living
+    goes_on _ _ c.end_era_of.new.node refl refl refl refl refl keeps.tries.owner ended.owner c.keep_peers-kept.ensures.first ended.first ended.era c.keep_peers-kept.ensures.living
     (holds c.args.self.now.node c.end_era_of.new.node c.keep_peers-kept.new.self (ended.empty refl) ended.owner ended.disk ended.granted (keeps.tries.guards tt).moments (c.life_may_end.ensures tt))
 
 pub returns-in-Err-clause-goes_on : goal.returns-in-Err-clause-goes_on
 returns-in-Err-clause-goes_on c =
     let keeps = c.keep_peers-kept.ensures.keeps in
     let ended = c.end_era_of.ensures in
-    goes_on _ _ c.end_era_of.new.node refl refl refl refl refl keeps.tries.owner ended.owner c.keep_peers-kept.ensures.first ended.first ended.lives c.keep_peers-kept.ensures.living
+    goes_on _ _ c.end_era_of.new.node refl refl refl refl refl keeps.tries.owner ended.owner c.keep_peers-kept.ensures.first ended.first ended.era c.keep_peers-kept.ensures.living
     (holds c.args.self.now.node c.end_era_of.new.node c.keep_peers-kept.new.self (ended.empty refl) ended.owner ended.disk ended.granted (keeps.tries.guards tt).moments (c.life_may_end.ensures tt))
 
 pub returns-in-Err-clause-refused : goal.returns-in-Err-clause-refused
