@@ -1,7 +1,7 @@
 //! What becomes of an answered call beside its reply: its notes are logged, by whom the member was joined, and what a datagram shows of
 //! the own number, and it is counted.
 
-ghost use Rattle.std.specs.Prelude.{◌≡◌, replicate, true, IfNone, IfSome};
+ghost use Rattle.std.specs.Prelude.{◌≡◌, replicate, true, MatchOption};
 ghost use Rattle.swim_handle.specs.Companies.{holds_nobody};
 ghost use Rattle.swim_handle.specs.Numbers.{Minds, origin_of, said_in};
 ghost use Rattle.swim_shell.specs.CallCounts.{call_counts, counts_after, event_kind};
@@ -89,9 +89,9 @@ impl CallLog {
         ensures counts { self.new.counts ≡ counts_after heard.now.kind reply.now self.old.counts }
         ensures company { self.new.company.is_alone ≡ holds_nobody reply.now.status }
         ensures me { self.new.me ≡ self.old.me }
-        ensures minded { IfSome heard.now.said (λ said. Minds self.old.counts.number said
-            reply.now self.old.numbers self.new.numbers) }
-        ensures unsaid { IfNone heard.now.said (self.new.numbers ≡ self.old.numbers) }
+        ensures minded { MatchOption heard.now.said (self.new.numbers ≡ self.old.numbers)
+            (λ said. Minds self.old.counts.number said reply.now self.old.numbers
+            self.new.numbers) }
     {
         self.notes.log(rt, reply, &heard.from);
         self.company.log(rt, &heard.from, &reply.status);

@@ -127,9 +127,10 @@ impl<'a, N: Name, D: Disk, L: Link, R: Wait + Drop, W: Wait + Log + Clock> IntoP
 
 impl<'a, N: Name, D: Disk, L: Link, R: Wait + Drop, W: Wait + Log + Clock> Caller
     for Handle<'a, N, D, L, R, W> {
-    ghost use Rattle.std.specs.Prelude.{◌≡◌, IfErr, IfOk, IfSome, OnErr};
+    ghost use Rattle.std.specs.Prelude.{◌≡◌, IfErr, IfOk, MatchOption, OnErr};
     ghost use Rattle.swim_shell.specs.Calls.{NewCall, Refuses};
     ghost use Rattle.swim_shell.specs.CallCounts.{counts_after, event_kind};
+    ghost use Rattle.swim_handle.specs.Companies.{holds_nobody};
     ghost use Rattle.swim_handle.specs.Numbers.{Minds, said_in};
 
     ghost known = { λ h. h.known };
@@ -145,10 +146,14 @@ impl<'a, N: Name, D: Disk, L: Link, R: Wait + Drop, W: Wait + Log + Clock> Calle
         ensures counted { IfOk result (λ reply. self.new.log.counts
             ≡ counts_after (event_kind event) reply self.old.log.counts) }
         ensures uncounted { OnErr result (self.new.log ≡ self.old.log) }
-        // and what its datagram says of the member is minded
-        ensures minded { IfOk result (λ reply. IfSome (said_in self.old.log.me event)
+        // and what its datagram says of the member is minded; another event says nothing
+        ensures minded { IfOk result (λ reply. MatchOption (said_in self.old.log.me event)
+            (self.new.log.numbers ≡ self.old.log.numbers)
             (λ said. Minds self.old.log.counts.number said reply self.old.log.numbers
             self.new.log.numbers)) }
+        ensures company { IfOk result (λ reply. self.new.log.company.is_alone
+            ≡ holds_nobody reply.status) }
+        ensures me { self.new.log.me ≡ self.old.log.me }
     {
         self.asked = self.asked.and(&event);
         if self.is_spent {

@@ -1,5 +1,6 @@
 -- The presets of a settings file.
-use Rattle.std.specs.Prelude.{ℕ, List, codes, Option, Some, None}
+use Rattle.std.specs.Prelude.{◌≡◌, ℕ, List, codes, Option, Some, None}
+use Rattle.swim_member.specs.declared.settings.Settings.{Settings}
 use Rattle.swim_settings.specs.declared.preset.Preset.{Preset}
 use Rattle.swim_settings.specs.declared.preset.Preset.TheVariants.{Local, Lan, Wan}
 use Rattle.swim_settings.specs.declared.preset.DefaultTimes.{DefaultTimes}
@@ -22,6 +23,12 @@ default_times tick_ms lambda period direct suspect forget helpers rejoin = recor
   helpers = helpers;
   rejoin = rejoin;
 }
+
+-- the times that a member with these settings has of them
+abbrev pub HasTimes : Settings → DefaultTimes → Type 0
+HasTimes s times = (times.lambda ≡ s.lambda) × (times.period ≡ s.period)
+    × (times.direct ≡ s.direct) × (times.suspect ≡ s.suspect) × (times.forget ≡ s.forget)
+    × (times.helpers ≡ s.helpers)
 
 -- what stands in the place of the keys that a file has not, by its preset: milliseconds of a tick,
 -- lambda, period, direct, suspect, forget, helpers, rejoin

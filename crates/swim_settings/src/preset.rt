@@ -1,7 +1,8 @@
 //! Presets: each names times that go together.
 
-ghost use Rattle.std.specs.Prelude.{◌≡◌};
-ghost use Rattle.swim_settings.specs.Presets.{preset_text, times_of};
+ghost use Rattle.std.specs.Prelude.{◌≡◌, ℕ, None};
+ghost use Rattle.swim_member.specs.Checks.{usual_settings};
+ghost use Rattle.swim_settings.specs.Presets.{HasTimes, preset_text, times_of};
 
 use swim_words::Word;
 
@@ -58,7 +59,10 @@ pub struct DefaultTimes {
 impl DefaultTimes {
     /// The times of a preset, or those of a file without one.
     pub fn of(preset: Option<Preset>) -> DefaultTimes
-        ensures { result ≡ times_of preset }
+        ensures times { result ≡ times_of preset }
+        // a file without times has those of a program that says none
+        ensures usual { preset ≡ None → (group me : ℕ)
+            → HasTimes (usual_settings group me) result }
     {
         match preset {
             None => DefaultTimes {

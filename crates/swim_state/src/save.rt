@@ -1,4 +1,5 @@
-//! The three steps of a save: a gate is shut, its body is written, and the gate is opened.
+//! The three steps of a save into a slot: its gate is shut, its body is written, and the gate is opened. A new file and one of version
+//! 1 get their slots in `initial.rt` and `migration.rt`.
 
 ghost use Rattle.std.specs.Prelude.{◌≡◌, ◌<◌, ◌≤◌, ◌^◌, ◌+◌, ℕ, List, true, false, IsTrue, OnOk, OnErr, IfOk, All, length};
 ghost use Rattle.swim_disk.specs.Disk.{Counts, IsSettled};
@@ -51,7 +52,7 @@ pub(crate) fn save<D: Disk>(disk: &mut D, slots: &mut Slots, saved: Saved) -> Re
     shut(disk, slot, slots.is_shut(slot))?;
     fill(disk, slot, &saved)?;
     open(disk, slot, &saved)?;
-    slots.put(slot, saved);
+    slots.note(slot, saved);
     Ok(())
 }
 

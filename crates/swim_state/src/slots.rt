@@ -107,8 +107,8 @@ impl Slots {
         }
     }
 
-    /// Notes what was saved in a slot.
-    pub(crate) fn put(&mut self, slot: Slot, saved: Saved)
+    /// Notes that this was saved in a slot, whose bytes are on the disk by then.
+    pub(crate) fn note(&mut self, slot: Slot, saved: Saved)
         ensures written { reading_in self.new slot ≡ Holds saved }
         ensures other { reading_in self.new (other_slot slot)
             ≡ reading_in self.old (other_slot slot) }

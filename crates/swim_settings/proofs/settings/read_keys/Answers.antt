@@ -38,7 +38,7 @@ returns-in_err-rejoin-clause-refused c =
     let to_random_key = AreTaken-push t (keys_before keys.RandomKey) keys.RandomKey c.in_ok-settings.ensures.taken (c.in_ok-random_key.random_key, c.in_ok-random_key.ensures.bytes) in
     let taken = AreTaken-push t (keys_before keys.Join) keys.Join to_random_key (c.in_ok-join.join.items, c.in_ok-join.ensures.places) in
     let fault = err_from_is_err_and c.from_residual-in_err-rejoin.result c.from_residual-in_err-rejoin.ensures.1 in
-    rw (fault.1, fault.2, c.in_err-rejoin.ensures.none.0) (taken, (c.of-times.result, (c.in_ok-preset.preset, c.in_ok-preset.ensures.word, c.of-times.ensures), c.in_err-rejoin.ensures.none.1))
+    rw (fault.1, fault.2, c.in_err-rejoin.ensures.none.0) (taken, (c.of-times.result, (c.in_ok-preset.preset, c.in_ok-preset.ensures.word, c.of-times.ensures.times), c.in_err-rejoin.ensures.none.1))
 
 pub returns-in_err-introduce-clause-refused : goal.returns-in_err-introduce-clause-refused
 returns-in_err-introduce-clause-refused c =
@@ -46,7 +46,7 @@ returns-in_err-introduce-clause-refused c =
     let rejoin = c.in_ok-rejoin in
     let to_random_key = AreTaken-push t (keys_before keys.RandomKey) keys.RandomKey c.in_ok-settings.ensures.taken (c.in_ok-random_key.random_key, c.in_ok-random_key.ensures.bytes) in
     let to_join = AreTaken-push t (keys_before keys.Join) keys.Join to_random_key (c.in_ok-join.join.items, c.in_ok-join.ensures.places) in
-    let taken = AreTaken-push t (keys_before keys.Rejoin) keys.Rejoin to_join (c.of-times.result, rejoin.rejoin, (c.in_ok-preset.preset, c.in_ok-preset.ensures.word, c.of-times.ensures), (rejoin.ensures.number, rejoin.ensures.range.0, rejoin.ensures.range.1)) in
+    let taken = AreTaken-push t (keys_before keys.Rejoin) keys.Rejoin to_join (c.of-times.result, rejoin.rejoin, (c.in_ok-preset.preset, c.in_ok-preset.ensures.word, c.of-times.ensures.times), (rejoin.ensures.number, rejoin.ensures.range.0, rejoin.ensures.range.1)) in
     let fault = err_from_is_err_and c.from_residual-in_err-introduce.result c.from_residual-in_err-introduce.ensures.1 in
     rw (fault.1, fault.2, c.in_err-introduce.ensures.none.0) (taken, c.in_err-introduce.ensures.none.1)
 
@@ -57,7 +57,7 @@ returns-in_err-ends_expelled-clause-refused c =
     let to_random_key = AreTaken-push t (keys_before keys.RandomKey) keys.RandomKey c.in_ok-settings.ensures.taken (c.in_ok-random_key.random_key, c.in_ok-random_key.ensures.bytes) in
     let to_join = AreTaken-push t (keys_before keys.Join) keys.Join to_random_key (c.in_ok-join.join.items, c.in_ok-join.ensures.places) in
     let introduce = c.in_ok-introduce in
-    let to_rejoin = AreTaken-push t (keys_before keys.Rejoin) keys.Rejoin to_join (c.of-times.result, rejoin.rejoin, (c.in_ok-preset.preset, c.in_ok-preset.ensures.word, c.of-times.ensures), (rejoin.ensures.number, rejoin.ensures.range.0, rejoin.ensures.range.1)) in
+    let to_rejoin = AreTaken-push t (keys_before keys.Rejoin) keys.Rejoin to_join (c.of-times.result, rejoin.rejoin, (c.in_ok-preset.preset, c.in_ok-preset.ensures.word, c.of-times.ensures.times), (rejoin.ensures.number, rejoin.ensures.range.0, rejoin.ensures.range.1)) in
     let taken = AreTaken-push t (keys_before keys.Introduce) keys.Introduce to_rejoin (introduce.introduce, (introduce.ensures.number, introduce.ensures.range.0, introduce.ensures.range.1)) in
     let fault = err_from_is_err_and c.from_residual-in_err-ends_expelled.result c.from_residual-in_err-ends_expelled.ensures.1 in
     rw (fault.1, fault.2, c.in_err-ends_expelled.ensures.none.0) (taken, c.in_err-ends_expelled.ensures.none.1)
@@ -70,7 +70,7 @@ read_recording-requires c =
     let ends = c.in_ok-ends_expelled in
     let to_random_key = AreTaken-push t (keys_before keys.RandomKey) keys.RandomKey c.in_ok-settings.ensures.taken (c.in_ok-random_key.random_key, c.in_ok-random_key.ensures.bytes) in
     let to_join = AreTaken-push t (keys_before keys.Join) keys.Join to_random_key (c.in_ok-join.join.items, c.in_ok-join.ensures.places) in
-    let to_rejoin = AreTaken-push t (keys_before keys.Rejoin) keys.Rejoin to_join (c.of-times.result, rejoin.rejoin, (c.in_ok-preset.preset, c.in_ok-preset.ensures.word, c.of-times.ensures), (rejoin.ensures.number, rejoin.ensures.range.0, rejoin.ensures.range.1)) in
+    let to_rejoin = AreTaken-push t (keys_before keys.Rejoin) keys.Rejoin to_join (c.of-times.result, rejoin.rejoin, (c.in_ok-preset.preset, c.in_ok-preset.ensures.word, c.of-times.ensures.times), (rejoin.ensures.number, rejoin.ensures.range.0, rejoin.ensures.range.1)) in
     let to_introduce = AreTaken-push t (keys_before keys.Introduce) keys.Introduce to_rejoin (introduce.introduce, (introduce.ensures.number, introduce.ensures.range.0, introduce.ensures.range.1)) in
     AreTaken-push t (keys_before keys.Expelled) keys.Expelled to_introduce (ends.ends_expelled, ends.ensures.choice)
 
@@ -88,8 +88,8 @@ returns-clause-said c =
       me = search (rules, c.in_ok-me.ensures, c.in_ok-member.ensures.owner);
       control = c.in_ok-control.ensures.endpoint;
       preset = c.in_ok-preset.ensures.word;
-      tick_ms = rw (← c.of-times.ensures) c.in_ok-tick_ms.ensures.number;
-      member = rw (c.in_ok-settings.ensures.rest, ← c.of-times.ensures) record {
+      tick_ms = rw (← c.of-times.ensures.times) c.in_ok-tick_ms.ensures.number;
+      member = rw (c.in_ok-settings.ensures.rest, ← c.of-times.ensures.times) record {
         lambda = member.lambda;
         period = member.period;
         direct = member.direct;
@@ -103,7 +103,7 @@ returns-clause-said c =
       has_rules = c.has_key.ensures;
       random_key = c.in_ok-random_key.ensures.bytes;
       join = c.in_ok-join.ensures.places;
-      rejoin = rw (← c.of-times.ensures) c.in_ok-rejoin.ensures.number;
+      rejoin = rw (← c.of-times.ensures.times) c.in_ok-rejoin.ensures.number;
       introduce = c.in_ok-introduce.ensures.number;
       expelled = c.in_ok-ends_expelled.ensures.choice;
       record_folder = c.in_ok-record_folder.ensures.folder;
