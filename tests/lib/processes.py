@@ -126,7 +126,7 @@ HINTS = (
     ),
     (
         r"address refused",
-        "an address is an IPv4 endpoint without leading zeros, such as 127.0.0.1:7001; where a member is asked or joined it may be a host"
+        "an address is an IPv4 endpoint without leading zeros, such as 127.0.0.1:7001; where a member is asked, and at `up --join`, it may be a host"
         " name with a port too, such as db1.example:7001",
     ),
     (

@@ -144,7 +144,7 @@ const NOT_ENDED: &str =
 
 /// What else to say where an address was refused.
 const ADDRESS: &str =
-    "an address is an IPv4 endpoint without leading zeros, such as 127.0.0.1:7001; where a member is asked or joined it may be a host name with a port too, such as db1.example:7001";
+    "an address is an IPv4 endpoint without leading zeros, such as 127.0.0.1:7001; where a member is asked, and at `up --join`, it may be a host name with a port too, such as db1.example:7001";
 
 /// What else to say where a host was refused.
 const HOST: &str =

@@ -13,6 +13,9 @@ use swim_run::{settings_at, try_addresses};
 use swim_settings::{JOIN_MAX, Key, RunSettings, SettingsRefusal, read_settings};
 use swim_words::{read_endpoint, read_host};
 
+/// What stands for a control socket that no word names, beside settings that have their own.
+const UNNAMED: &str = "127.0.0.1:7001";
+
 /// The paths of a member.
 #[derive(Drop)]
 struct Paths {
@@ -69,13 +72,10 @@ fn is_there(rt: &HostRuntime, called: &str, path: &str) -> Result<bool, Failure>
     fs::exists(rt, path).map_err(|error| Failure::of_file(rt.alloc(), called, path, &error))
 }
 
-/// Refuses a word that is not the address that it has to be.
-fn judge(alloc: Global, words: &UpWords<'_>, usual: &str) -> Result<(), Failure> {
-    let control = words.control.unwrap_or(usual);
-    for (called, word) in [("--me", words.me), ("--control", control)] {
-        if read_endpoint(word.as_bytes()).is_none() {
-            return Err(Failure::of_address(alloc, called, word));
-        }
+/// Refuses a word, which is called so, that is not the address that it has to be.
+fn judge(alloc: Global, called: &str, word: &str) -> Result<(), Failure> {
+    if read_endpoint(word.as_bytes()).is_none() {
+        return Err(Failure::of_address(alloc, called, word));
     }
     Ok(())
 }
@@ -209,16 +209,22 @@ fn make_all(
 
 /// Makes what the member of these words lacks, and gives the path of its settings. Where its settings are there, nothing is made: they
 /// have to say what the words do, and their state file has to be there. Where the words name no control socket, new settings have the
-/// usual one.
+/// usual one, which is that of `SWIM_CONTROL`, if that is set.
 pub fn prepare(rt: &HostRuntime, words: &UpWords<'_>, usual: &str) -> Result<String, Failure> {
     let alloc = rt.alloc();
-    judge(alloc, words, usual)?;
+    judge(alloc, "--me", words.me)?;
+    if let Some(control) = words.control {
+        judge(alloc, "--control", control)?;
+    }
     judge_joins(alloc, words)?;
     let folder = folder_of(alloc, words).map_err(lacks_memory)?;
     let paths = paths_in(alloc, folder).map_err(lacks_memory)?;
     if is_there(rt, "settings", paths.settings.as_str())? {
-        keep(rt, &paths, words, usual)?;
+        keep(rt, &paths, words, UNNAMED)?;
     } else {
+        if words.control.is_none() {
+            judge(alloc, "SWIM_CONTROL", usual)?;
+        }
         make_all(rt, &paths, words, usual)?;
     }
     Ok(paths.settings)
