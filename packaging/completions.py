@@ -6,7 +6,7 @@ from typing import NamedTuple
 from manual import commands_in, help_of
 
 LINES = ("status", "about", "members", "counters", "leave", "record", "reload", "stop")  # the control lines of one word
-FILES = ("FILE", "CONFIG", "PLAN", "DIR")  # the values that are paths
+FILES = ("FILE", "CONFIG", "PLAN", "DIR", "PLACE")  # the values that are paths
 
 
 class Option(NamedTuple):
