@@ -78,7 +78,7 @@ static const struct {
     const char *name, *text;
 } codes[] = {
     {SWIM_OK, "SWIM_OK", "done"},
-    {SWIM_NOTHING, "SWIM_NOTHING", "no datagram waits"},
+    {SWIM_NOTHING, "SWIM_NOTHING", "no datagram waits, or no change is left"},
     {SWIM_NULL, "SWIM_NULL", "a pointer is null"},
     {SWIM_CLOSED, "SWIM_CLOSED", "the handle is closed"},
     {SWIM_IS_OPEN, "SWIM_IS_OPEN", "the handle is open already"},
@@ -98,7 +98,7 @@ static const struct {
     {SWIM_BAD_RULES, "SWIM_BAD_RULES", "rules is not 1 or 2"},
     {SWIM_BAD_ADDRESS, "SWIM_BAD_ADDRESS", "no member is reached at 0.0.0.0, 255.255.255.255 or an address of multicast"},
     {SWIM_BAD_RESERVED, "SWIM_BAD_RESERVED", "a byte of reserved is not 0"},
-    {SWIM_OPEN_DEVICE, "SWIM_OPEN_DEVICE", "a write or sync of the state file failed"},
+    {SWIM_OPEN_DEVICE, "SWIM_OPEN_DEVICE", "a read, write or sync of the state file failed"},
     {SWIM_OPEN_NOT_STATE, "SWIM_OPEN_NOT_STATE", "it is no state file"},
     {SWIM_OPEN_WRONG_OWNER, "SWIM_OPEN_WRONG_OWNER", "the state file is of another group or endpoint"},
     {SWIM_OPEN_NO_SLOT, "SWIM_OPEN_NO_SLOT", "the making of the state file was cut short, or something else wrote it"},

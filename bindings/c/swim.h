@@ -79,7 +79,7 @@ extern "C" {
 
 enum swim_code {
     SWIM_OK = 0,
-    SWIM_NOTHING = 1,     /* no datagram waits */
+    SWIM_NOTHING = 1,     /* no datagram waits, or no change is left */
     SWIM_NULL = 2,        /* a pointer is null that may not be */
     SWIM_CLOSED = 3,      /* the handle is closed */
     SWIM_IS_OPEN = 4,     /* the handle is open already */
@@ -103,7 +103,7 @@ enum swim_code {
     SWIM_BAD_RESERVED = 20, /* a byte of `reserved` is not 0 */
 
     /* an opening; nothing was written but at SWIM_OPEN_DEVICE */
-    SWIM_OPEN_DEVICE = 21,      /* a write or sync failed, errno says why: the opening may be tried again */
+    SWIM_OPEN_DEVICE = 21,      /* a read, write or sync failed, errno says why: the opening may be tried again */
     SWIM_OPEN_NOT_STATE = 22,   /* it is no state file */
     SWIM_OPEN_WRONG_OWNER = 23, /* it is of another group or endpoint */
     SWIM_OPEN_NO_SLOT = 24,     /* swim_make_state was cut short, or else something wrote the file: see swim_make_state */

@@ -9,7 +9,7 @@ import "C"
 type Code int
 
 const (
-	// ErrNothing is SWIM_NOTHING: no datagram waits.
+	// ErrNothing is SWIM_NOTHING: no datagram waits, or no change is left.
 	ErrNothing Code = C.SWIM_NOTHING
 	// ErrNull is SWIM_NULL: a pointer is null that may not be.
 	ErrNull Code = C.SWIM_NULL
@@ -49,7 +49,7 @@ const (
 	ErrBadAddress Code = C.SWIM_BAD_ADDRESS
 	// ErrBadReserved is SWIM_BAD_RESERVED: a byte of `reserved` is not 0.
 	ErrBadReserved Code = C.SWIM_BAD_RESERVED
-	// ErrOpenDevice is SWIM_OPEN_DEVICE: a write or sync failed, errno says why: the opening may be tried again.
+	// ErrOpenDevice is SWIM_OPEN_DEVICE: a read, write or sync failed, errno says why: the opening may be tried again.
 	ErrOpenDevice Code = C.SWIM_OPEN_DEVICE
 	// ErrOpenNotState is SWIM_OPEN_NOT_STATE: it is no state file.
 	ErrOpenNotState Code = C.SWIM_OPEN_NOT_STATE

@@ -80,7 +80,7 @@ type Settings struct {
 	Lambda, Helpers, Rules                 uint32
 }
 
-// Usual are the settings of `swim run`, for a member of this group at this IPv4 address and port.
+// Usual are the defaults of `swim run`, by rules 2, for a member of this group at this IPv4 address and port.
 func Usual(group uint64, me netip.AddrPort) Settings {
 	usual := C.usual_settings()
 	return Settings{

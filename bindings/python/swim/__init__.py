@@ -234,16 +234,20 @@ class Member:
         self._call(_library.swim_advance, int(now * 1000), secrets.randbits(64) if random is None else random, due)
         return due.value / 1000
 
-    def receive(self, source: Address, data: Data) -> None:
-        """Bytes came from there. No datagram, whatever it is, makes this fail; one from port 0, or from an address of IPv6 that stands for
-        none of IPv4, is left aside."""
-        at = ipaddress.ip_address(source[0])
-        if isinstance(at, ipaddress.IPv6Address):
-            if at.ipv4_mapped is None:
-                return
-            source = str(at.ipv4_mapped), source[1]
+    def receive(self, source: Address, data: Data) -> bool:
+        """Bytes came from there. No datagram, whatever it is, makes this fail. False if it was left aside, and was no event: from port 0,
+        or from an address of IPv6 that stands for none of IPv4."""
+        host, port = source
+        if ":" in host:
+            mapped = ipaddress.IPv6Address(host).ipv4_mapped
+            if mapped is None:
+                return False
+            host = str(mapped)
+        if port == 0:
+            return False
         kept = bytes(memoryview(data)[: DATAGRAM_MAX + 1])
-        self._call(_library.swim_receive, _to_c(source), kept, len(kept))
+        self._call(_library.swim_receive, _to_c((host, port)), kept, len(kept))
+        return True
 
     def receive_failed(self) -> None:
         """A receive failed."""

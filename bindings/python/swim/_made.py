@@ -29,7 +29,7 @@ class Code(enum.IntEnum):
     """Why a call did nothing."""
 
     OK = 0
-    NOTHING = 1  # no datagram waits
+    NOTHING = 1  # no datagram waits, or no change is left
     NULL = 2  # a pointer is null that may not be
     CLOSED = 3  # the handle is closed
     IS_OPEN = 4  # the handle is open already
@@ -49,7 +49,7 @@ class Code(enum.IntEnum):
     BAD_RULES = 18
     BAD_ADDRESS = 19  # no member is reached at the own address: it is 0.0.0.0, 255.255.255.255 or of multicast
     BAD_RESERVED = 20  # a byte of `reserved` is not 0
-    OPEN_DEVICE = 21  # a write or sync failed, errno says why: the opening may be tried again
+    OPEN_DEVICE = 21  # a read, write or sync failed, errno says why: the opening may be tried again
     OPEN_NOT_STATE = 22  # it is no state file
     OPEN_WRONG_OWNER = 23  # it is of another group or endpoint
     OPEN_NO_SLOT = 24  # swim_make_state was cut short, or else something wrote the file: see swim_make_state

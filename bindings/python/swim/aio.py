@@ -76,8 +76,7 @@ class Member(asyncio.DatagramProtocol):
             self._udp.sendto(data, to)
 
     def datagram_received(self, data: bytes, addr: Tuple[Any, ...]) -> None:
-        if addr[1] != 0:  # one from port 0 is no event
-            self._member.receive((addr[0], addr[1]), data)
+        if self._member.receive((addr[0], addr[1]), data):
             self.noted.update(self._member.notes())
             self._send()
 

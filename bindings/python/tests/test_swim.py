@@ -92,14 +92,14 @@ def test_any_bytes_are_taken(member: swim.Member, kind: Callable[[bytes], Union[
 
 
 def test_port_0_is_left_aside(member: swim.Member) -> None:
-    member.receive(("127.0.0.1", 0), b"x")
+    assert not member.receive(("127.0.0.1", 0), b"x")
     assert member.notes() == []
 
 
 def test_a_socket_of_ipv6_harms_nobody(member: swim.Member) -> None:
-    member.receive(("::1", 7001), b"x")
+    assert not member.receive(("::1", 7001), b"x")
     assert member.notes() == []
-    member.receive(("::ffff:127.0.0.1", 7001), b"x")
+    assert member.receive(("::ffff:127.0.0.1", 7001), b"x")
     assert member.notes() == [swim.Note.BAD_DATAGRAM]
 
 

@@ -7,7 +7,7 @@ use swim_sys as sys;
 #[derive(Clone, Copy, Debug, PartialEq, Eq, Hash)]
 #[non_exhaustive]
 pub enum Code {
-    /// `SWIM_NOTHING`: no datagram waits.
+    /// `SWIM_NOTHING`: no datagram waits, or no change is left.
     Nothing,
     /// `SWIM_NULL`: a pointer is null that may not be.
     Null,
@@ -47,7 +47,7 @@ pub enum Code {
     BadAddress,
     /// `SWIM_BAD_RESERVED`: a byte of `reserved` is not 0.
     BadReserved,
-    /// `SWIM_OPEN_DEVICE`: a write or sync failed, errno says why: the opening may be tried again.
+    /// `SWIM_OPEN_DEVICE`: a read, write or sync failed, errno says why: the opening may be tried again.
     OpenDevice,
     /// `SWIM_OPEN_NOT_STATE`: it is no state file.
     OpenNotState,
