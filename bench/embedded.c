@@ -119,11 +119,10 @@ static void open_one(struct swim_member *m, const char *path, uint32_t limit) {
 
 static double least(double a, double b) { return a < b ? a : b; }
 
-/* What is measured of pings or of ticks in eras of one length, of all turns: the least of all rounds, in nanoseconds, and the
- * calls alone by the processor's count, which is read twice in each turn. */
+/* What is measured of pings or of ticks in eras of one length, of all turns: the least of all rounds, in nanoseconds. */
 struct least {
-    double call, library; /* of the library: its calls, and with them what they send */
-    double node[2];       /* of the node: what readies it, and with it all turns */
+    double library; /* of the library: its calls, and what takes out what they send */
+    double node[2]; /* of the node: what readies it, and with it all turns */
 };
 
 /* The length of an era, and how many turns are measured in one round. */
@@ -158,32 +157,8 @@ static void library_turns(int ticks, struct eras eras, struct least *found) {
         take(&m);
     }
     found->library = least(found->library, now() - start);
-    fill(&m, (eras.limit - eras.turns % eras.limit) % eras.limit);
-    uint64_t counted = 0;
-    for (uint32_t turn = 0; turn < eras.turns; turn++) {
-        uint64_t at = __builtin_ia32_rdtsc();
-        int code = call(&m, ticks, (int)turn);
-        counted += __builtin_ia32_rdtsc() - at;
-        must(code);
-        take(&m);
-    }
-    found->call = least(found->call, (double)counted);
     during += allocations - had;
     must(swim_close(&m));
-}
-
-/* What the count itself takes in a turn, by itself. */
-static double counting(void) {
-    double least_of_all = 1e18;
-    for (int round = 0; round < ROUNDS; round++) {
-        uint64_t counted = 0;
-        for (int turn = 0; turn < TURNS; turn++) {
-            uint64_t at = __builtin_ia32_rdtsc();
-            counted += __builtin_ia32_rdtsc() - at;
-        }
-        least_of_all = least(least_of_all, (double)counted / TURNS);
-    }
-    return least_of_all;
 }
 
 /* Nanoseconds of a node whose eras have so many entries, with its opening and all that readies it. */
@@ -207,12 +182,10 @@ static void one_round(int ticks, struct eras eras, struct least *found) {
     found->node[1] = least(found->node[1], node_turns(ticks, eras.limit, eras.turns));
 }
 
-/* A row of the table. A count has so many nanoseconds. */
-static void show(int ticks, struct eras eras, const struct least *found, double each) {
-    double node = (found->node[1] - found->node[0]) / eras.turns, sends = found->library / eras.turns;
-    double alone = (found->call / eras.turns - counting()) * each;
-    printf("| %s | %u | %.0f ns | %.0f ns | %.2f | %.0f ns | %.2f |\n", ticks ? "tick" : "ping", eras.limit, node, alone,
-           alone / node, sends, sends / node);
+/* A row of the table. */
+static void show(int ticks, struct eras eras, const struct least *found) {
+    double node = (found->node[1] - found->node[0]) / eras.turns, library = found->library / eras.turns;
+    printf("| %s | %u | %.0f ns | %.0f ns | %.2f |\n", ticks ? "tick" : "ping", eras.limit, node, library, library / node);
 }
 
 /* Nanoseconds of a call that saves: suspicions, each of which takes the next number, and then the peers. */
@@ -265,18 +238,15 @@ int main(void) {
     length = ping(text, 0, 0);
     save_turns(&save, &kilobytes);
     for (int kind = 0; kind < 4; kind++)
-        found[kind / 2][kind % 2] = (struct least){1e18, 1e18, {1e18, 1e18}};
-    double start = now();
-    uint64_t began = __builtin_ia32_rdtsc();
+        found[kind / 2][kind % 2] = (struct least){1e18, {1e18, 1e18}};
     for (int round = 0; round < ROUNDS; round++)
         for (int kind = 0; kind < 4; kind++)
             one_round(kind % 2, eras[kind / 2], &found[kind / 2][kind % 2]);
-    double each = (now() - start) / (double)(__builtin_ia32_rdtsc() - began);
-    puts("| | entries of an era | `Node::apply` | the library's call | ratio | with what it sends | ratio |\n"
-         "|---|---|---|---|---|---|---|");
+    puts("| | entries of an era | `Node::apply` | the library's call, and what it sends | ratio |\n"
+         "|---|---|---|---|---|");
     for (int kind = 0; kind < 4; kind++)
-        show(kind % 2, eras[kind / 2], &found[kind / 2][kind % 2], each);
+        show(kind % 2, eras[kind / 2], &found[kind / 2][kind % 2]);
     printf("\n%ld allocations in %ld calls after the opening, of which %d saved, each in %.2f ms; a member took %ld KB\n", during,
-           4L * ROUNDS * (TURNS + LONG_TURNS) + 2 * SAVES, 2 * SAVES, save / 1e6, kilobytes);
+           2L * ROUNDS * (TURNS + LONG_TURNS) + 2 * SAVES, 2 * SAVES, save / 1e6, kilobytes);
     return 0;
 }

@@ -1,6 +1,7 @@
 //! What a member that runs is asked for.
 
-ghost use Rattle.std.specs.Prelude.{◌≡◌, ◌≢◌, ◌⊎◌, ◌↔◌, ◌<◌, ◌≤◌, ◌∷◌, [], ℕ, List, length, map, take, true, Err, IfErr, IfOk, IsErrOf, IsOk, OnErr, OnOk};
+ghost use Rattle.std.specs.Prelude.{◌≡◌, ◌≢◌, ◌⊎◌, ◌↔◌, ◌<◌, ◌≤◌, ◌∷◌, [], ℕ, List, length, map, take, true, Err, IfErr, IfOk, IsErrOf, IsOk, MatchOption, OnErr, OnOk};
+ghost use Rattle.swim_library.specs.Deal.{undealt_tick};
 ghost use Rattle.swim_library.specs.Outbox.{waiting_in};
 ghost use Rattle.swim_disk.specs.File.{file_state};
 ghost use Rattle.swim_library.specs.Running.{AddsTo, CallsNode, EntersEvent, EntersTick, GoesOnOpen, Hands, MayEndEra, RefusesPeers, SavesPeers, ShowsRows};
@@ -22,7 +23,7 @@ use crate::running::Running;
 use crate::shapes::{SwimEndpoint, SwimRow, SwimStatus};
 use arrayvec::ArrayVec;
 use swim_disk::FileDisk;
-use swim_member::{Deal, Event, NOTES_MAX, Note};
+use swim_member::{Event, NOTES_MAX, Note};
 use swim_node::{ApplyFault, Node};
 use swim_state::PEERS_MAX;
 use swim_wire::{Cursor, Endpoint, UPDATES_MAX, Update, copied};
@@ -53,19 +54,20 @@ fn hand_out(
     Ok(())
 }
 
-/// Makes one call of the node. What it tells stands in its last entry: a reply is large, and each function that hands one on moves it.
-/// It is the one caller of `Node::apply`, which the compiler inlines here as long as there is no second one.
+/// Makes one call of the node. The event stays where it is, and what the call tells stands in its last entry: both are large, and each
+/// function that hands one on moves it. It is the one caller of `Node::apply_in_place`, which the compiler inlines here as long as
+/// there is no second one.
 #[inline(never)]
-fn call(node: &mut Node<FileDisk>, outbox: &mut Outbox, event: Event) -> Result<(), Refusal>
+fn call(node: &mut Node<FileDisk>, outbox: &mut Outbox, event: &Event) -> Result<(), Refusal>
     requires { length node.old.entries < node.old.base.limit }
     ensures called { OnOk result
-        (CallsNode node.old node.new (waiting_in outbox.old) (waiting_in outbox.new) event) }
+        (CallsNode node.old node.new (waiting_in outbox.old) (waiting_in outbox.new) event.now) }
     ensures refused { IfErr result (λ refusal. refusal ≡ why.NoMemory) }
     ensures same { OnErr result ((node.new ≡ node.old) × (outbox.new ≡ outbox.old)) }
 {
     let tag = node.next_tag(0);
-    match node.apply(outbox, tag, event) {
-        Ok(_) => Ok(()),
+    match node.apply_in_place(outbox, tag, event) {
+        Ok(()) => Ok(()),
         Err(ApplyFault::NoMemory) => Err(Refusal::NoMemory),
         Err(_) => unreachable!(),
     }
@@ -134,11 +136,12 @@ fn write_endpoints(endpoints: &[Endpoint], out: &mut [SwimEndpoint])
 }
 
 impl Running {
-    /// Enters an event. While datagrams of an earlier one wait, nothing happens. It is inlined, since an event is large, and each
-    /// function that takes one moves it.
+    /// Enters an event, or, where none is given, the tick that reads no deal. While datagrams of an earlier one wait, nothing happens.
     #[inline(always)]
-    pub(crate) fn enter(&mut self, event: Event) -> Result<(), Refusal>
-        ensures entered { OnOk result (EntersEvent self.old self.new event) }
+    pub(crate) fn enter(&mut self, event: Option<&Event>) -> Result<(), Refusal>
+        ensures entered { OnOk result (MatchOption event.entry
+            (EntersEvent self.old self.new undealt_tick)
+            (λ given. EntersEvent self.old self.new given.now)) }
         ensures waits { IsErrOf result why.Waiting ↔ (waiting_in self.old.outbox ≢ []) }
         ensures refused { IfErr result (λ refusal. refusal ≢ why.Waiting
             → refusal ≡ why.NoMemory) }
@@ -147,6 +150,7 @@ impl Running {
         if !self.outbox.is_empty() {
             return Err(Refusal::Waiting);
         }
+        let event = event.unwrap_or(&self.undealt);
         call(&mut self.node, &mut self.outbox, event)?;
         take_notes(&self.node.last().reply.notes, &mut self.notes);
         end_era_of(&mut self.node, self.limit);
@@ -164,14 +168,14 @@ impl Running {
         ensures refused { IfErr result (λ refusal. refusal ≡ why.NoMemory) }
         ensures same { OnErr result (self.new ≡ self.old) }
     {
-        call(&mut self.node, &mut self.outbox, Event::Members { after })?;
+        call(&mut self.node, &mut self.outbox, &Event::Members { after })?;
         let page = copied(&self.node.last().reply.page);
         end_era_of(&mut self.node, self.limit);
         Ok(page)
     }
 
     /// Time goes on by a tick that ends a period, so that it may begin a turn list, whose order is drawn by this word. It is not
-    /// inlined: the compiled code clears its event where a function begins, and most ticks have another one.
+    /// inlined: the compiled code clears its event where a function begins, and most ticks have none.
     #[inline(never)]
     fn drawn_tick(&mut self, random: u64) -> Result<(), Refusal>
         requires { ends_period (state_after self.old.node.base self.old.node.entries) ≡ true }
@@ -181,11 +185,13 @@ impl Running {
             → refusal ≡ why.NoMemory) }
         ensures same { OnErr result (self.new ≡ self.old) }
     {
-        let deal = deal_of(random);
-        self.enter(Event::Tick { deal })
+        let event = Event::Tick {
+            deal: deal_of(random),
+        };
+        self.enter(Some(&event))
     }
 
-    /// Time goes on by one tick. Where it ends no period the member reads no order, and is given the one that takes no drawing.
+    /// Time goes on by one tick. Where it ends no period the member reads no order, and is given the order that takes no drawing.
     pub(crate) fn tick(&mut self, random: u64) -> Result<(), Refusal>
         ensures entered { OnOk result ((numbers : List ℕ) × EntersTick self.old self.new numbers) }
         ensures waits { IsErrOf result why.Waiting ↔ (waiting_in self.old.outbox ≢ []) }
@@ -196,8 +202,7 @@ impl Running {
         if self.node.ends_period() {
             return self.drawn_tick(random);
         }
-        let deal = Deal::from_first(0);
-        self.enter(Event::Tick { deal })
+        self.enter(None)
     }
 
     /// Hands out the next datagram that waits, which then waits no more.

@@ -38,7 +38,7 @@ fn enter(member: &mut SwimMember, event: Event) -> u32
     match take(member) {
         None => code(Err(Refusal::Closed)),
         Some(mut running) => {
-            let done = running.enter(event);
+            let done = running.enter(Some(&event));
             put(member, running);
             code(done)
         }

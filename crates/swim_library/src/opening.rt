@@ -28,7 +28,7 @@ use std::alloc::Global;
 use std::io::ErrorKind;
 use std::os::fd::OwnedFd;
 use swim_disk::FileDisk;
-use swim_member::Settings;
+use swim_member::{Deal, Event, Settings};
 use swim_node::Node;
 use swim_state::{Owner, init};
 
@@ -110,6 +110,9 @@ fn running_on(
         told: Told::new(),
         due: None,
         seeking,
+        undealt: Event::Tick {
+            deal: Deal::from_first(0),
+        },
         limit,
     };
     match Box::new(alloc, running) {

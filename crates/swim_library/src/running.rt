@@ -1,13 +1,14 @@
 //! A member that runs: its node, and what it is to send.
 
 ghost use Rattle.std.specs.Prelude.{◌≡◌, ◌<◌, length};
+ghost use Rattle.swim_library.specs.Deal.{undealt_tick};
 
 use crate::changes::Told;
 use crate::outbox::Outbox;
 use crate::seeking::Seeking;
 use arrayvec::ArrayVec;
 use swim_disk::FileDisk;
-use swim_member::{NOTES_MAX, Note};
+use swim_member::{Event, NOTES_MAX, Note};
 use swim_node::Node;
 
 /// A member that runs.
@@ -23,8 +24,11 @@ pub(crate) struct Running {
     pub(crate) due: Option<u64>,
     /// Who looks for the members of the group.
     pub(crate) seeking: Seeking,
+    /// The tick that ends no period. It stays here, as it is large, and is the same each time: its order of members is read by nobody.
+    pub(crate) undealt: Event,
     /// How many entries an era has.
     pub(crate) limit: u32,
+    ghost undealt_is: { undealt ≡ undealt_tick },
     ghost limit_is: { node.base.limit ≡ limit },
     ghost has_room: { length node.entries < limit },
 }

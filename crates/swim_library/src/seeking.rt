@@ -218,7 +218,7 @@ impl Running {
         ensures refused { IfErr result (λ refusal. refusal ≡ why.NoMemory) }
         ensures lacks { OnErr result (LacksForTask self.old self.new) }
     {
-        match self.enter(Event::Join { peer }) {
+        match self.enter(Some(&Event::Join { peer })) {
             Ok(()) => {
                 self.seeking.note_listed(at);
                 Ok(())
@@ -235,7 +235,7 @@ impl Running {
         ensures refused { IfErr result (λ refusal. refusal ≡ why.NoMemory) }
         ensures lacks { OnErr result (LacksForTask self.old self.new) }
     {
-        match self.enter(Event::Join { peer }) {
+        match self.enter(Some(&Event::Join { peer })) {
             Ok(()) => {
                 self.seeking.note_drawn(at);
                 Ok(())

@@ -1,19 +1,84 @@
 //! The entries of an era, and how many each caller has. Entries are large and stay where they are: an era that begins
-//! in the block of one before fills its places anew.
+//! in the block of one before fills its places anew. A function that gave an entry back would move it once more.
 
 ghost use Rattle.std.specs.Prelude.{◌≡◌, ◌+◌, ◌<◌, ◌≤◌, ◌++◌, ◌∷◌, [], length, OnOk};
+ghost use Rattle.swim_member.specs.declared.answer.TheConstants.{OUTS_MAX};
 ghost use Rattle.swim_node.specs.declared.opening.TheConstants.{LIMIT_MAX};
-ghost use Rattle.swim_node.specs.History.{calls_by};
-ghost use Rattle.swim_node.specs.Node.{entry_with};
+ghost use Rattle.swim_node.specs.History.{calls_by, lost_in, taken_in};
+ghost use Rattle.swim_node.specs.Node.{entry_with, reply_with};
 
+use crate::copies::copy_event;
 use crate::entering::Done;
-use crate::filling::fill;
-use crate::{Entry, Reply, Save, Status, Tag};
+use crate::{Entry, Outcome, Reply, Save, Status, Tag};
 use arrayvec::ArrayVec;
 use std::alloc::{AllocError, Global};
 use std::marker::Model;
 use std::mem;
-use swim_member::{Answer, Event, Phase};
+use swim_member::{Answer, Event, OUTS_MAX, Out, Phase};
+
+fn count_taken(outcomes: &[Outcome]) -> usize
+    requires { length outcomes.now ≤ OUTS_MAX }
+    ensures { result ≡ taken_in outcomes.now }
+{
+    let mut count = 0;
+    for outcome in outcomes {
+        if *outcome == Outcome::Taken {
+            count += 1;
+        }
+    }
+    count
+}
+
+fn count_lost(outcomes: &[Outcome]) -> usize
+    requires { length outcomes.now ≤ OUTS_MAX }
+    ensures { result ≡ lost_in outcomes.now }
+{
+    let mut count = 0;
+    for outcome in outcomes {
+        if *outcome == Outcome::Lost {
+            count += 1;
+        }
+    }
+    count
+}
+
+/// Moves the datagrams of one list to another, which loses what it had.
+fn move_outs(from: &mut ArrayVec<Out, OUTS_MAX>, to: &mut ArrayVec<Out, OUTS_MAX>)
+    ensures { to.new.items ≡ from.old.items }
+{
+    to.clear();
+    let count = from.len();
+    for out in from.drain(..count) {
+        to.push(out);
+    }
+}
+
+/// Fills in what the caller is told.
+fn fill_reply(reply: &mut Reply, done: &Done, answer: &Answer, status: Status)
+    requires { length done.now.outcomes.items ≤ OUTS_MAX }
+    ensures { reply.new ≡ reply_with done.now answer.now status }
+{
+    reply.status = status;
+    reply.notes.clear();
+    let _ = reply.notes.try_extend_from_slice(&answer.notes);
+    reply.page.clear();
+    let _ = reply.page.try_extend_from_slice(&answer.page);
+    reply.sent = count_taken(&done.outcomes);
+    reply.lost = count_lost(&done.outcomes);
+}
+
+/// Fills in the entry of a call, with the status after it. The answer loses its datagrams.
+fn fill(entry: &mut Entry, tag: Tag, event: &Event, done: Done, answer: &mut Answer, status: Status)
+    ensures { entry.new ≡ entry_with tag event.now done answer.old status }
+{
+    fill_reply(&mut entry.reply, &done, answer, status);
+    entry.tag = tag;
+    copy_event(event, &mut entry.event);
+    entry.granted = done.granted;
+    entry.save = done.save;
+    entry.outcomes = done.outcomes;
+    move_outs(&mut answer.outs, &mut entry.outs);
+}
 
 /// The entries of an era.
 #[derive(Drop)]
@@ -88,7 +153,7 @@ impl Journal {
     pub(crate) fn add(
         &mut self,
         tag: Tag,
-        event: Event,
+        event: &Event,
         done: Done,
         answer: &mut Answer,
         status: Status,
@@ -97,7 +162,7 @@ impl Journal {
         requires few { length self.old.entries < LIMIT_MAX }
         requires caller { tag.caller < 16 }
         ensures { self.new.entries
-            ≡ self.old.entries ++ entry_with tag event done answer.old status ∷ [] }
+            ≡ self.old.entries ++ entry_with tag event.now done answer.old status ∷ [] }
     {
         self.turns[tag.caller as usize] += 1;
         fill(&mut self.places[self.len], tag, event, done, answer, status);

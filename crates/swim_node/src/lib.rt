@@ -5,12 +5,11 @@
 mod base;
 mod beginning;
 mod copies;
-mod counts;
 mod entering;
 mod entry;
 mod era;
 mod fault;
-mod filling;
+mod greatest;
 mod journal;
 mod keeping;
 mod laws;
@@ -21,8 +20,6 @@ mod opening;
 mod peers;
 mod replay;
 mod running;
-mod saving;
-mod sending;
 
 pub use base::Base;
 pub use beginning::{BeginFault, Beginning};

@@ -18,8 +18,8 @@ ghost use Rattle.swim_member.specs.Resuming.{resume_fault};
 
 use crate::base::Base;
 use crate::copies::copy_reply;
-use crate::counts::greatest_own;
 use crate::entering::enter;
+use crate::greatest::greatest_own;
 use crate::journal::Journal;
 use crate::keeping::keep;
 use crate::peers::known_peers;
@@ -360,6 +360,65 @@ impl<D: Disk> Node<D> {
         Ok(())
     }
 
+    /// Enters one call as `apply` does, of an event that stays where it is: it is large, and each function that takes one
+    /// moves it. What the caller is told is the reply of the last entry.
+    pub fn apply_in_place<L: Link>(
+        &mut self,
+        link: &mut L,
+        tag: Tag,
+        event: &Event,
+    ) -> Result<(), ApplyFault>
+        requires caller { tag.caller < 16 }
+        ensures base { self.new.base ≡ self.old.base }
+        ensures owner { self.new.owner ≡ self.old.owner }
+        ensures first { self.new.first ≡ self.old.first }
+        ensures disk { (D.state self.new.disk).name ≡ (D.state self.old.disk).name }
+        ensures link { L.name link.new ≡ L.name link.old }
+
+        // One entry came, and what the link took of it is what it marks as taken.
+        ensures ok { OnOk result ((e : Entry)
+            × Added D.keeps_model D.state self.old self.new tag event.now e.reply e
+            × Sends L.tells (L.took link.old) (L.took link.new) (L.failures link.old)
+            (L.failures link.new) e.outs.items e.outcomes.items) }
+        ensures in_turn { OnOk result (IsTurn self.old.entries tag) }
+        ensures room { OnOk result (length self.old.entries < self.old.base.limit) }
+        ensures err { OnErr result ((self.new ≡ self.old) × (link.new ≡ link.old)) }
+        ensures refused { IfErr result (λ fault. Refused self.old.base self.old.entries tag fault) }
+
+        // No moment of the call leaves less than the ceiling before it, which does not fall, and the life goes on.
+        ensures grows { granted_of self.old.base self.old.entries
+            ≤ granted_of self.new.base self.new.entries }
+        ensures living { GoesOn D.state self.old self.new }
+        ensures moments { D.keeps_model
+            → Through (Covers self.old.owner (granted_of self.old.base self.old.entries))
+            (D.state self.old.disk) (D.state self.new.disk) }
+        ensures since { D.keeps_model
+            → HeldSince self.old.owner (D.state self.new.disk) (D.state self.old.disk).clock
+            (granted_of self.old.base self.old.entries) }
+
+        // Of the state file at most one slot is written, and all beside it stays.
+        ensures beside { D.keeps_model
+            → LeavesAlone (IsBeside (target_in (D.state self.old.disk).content))
+            (D.state self.old.disk) (D.state self.new.disk) }
+    {
+        self.admit(tag)?;
+        if self.journal.reserve().is_err() {
+            return Err(ApplyFault::NoMemory);
+        }
+        let done = enter(
+            &mut self.member,
+            &mut self.store,
+            link,
+            event,
+            &mut self.read,
+            &mut self.answer,
+        );
+        self.most = greatest_own(&self.answer.outs, self.member.settings().me, self.most);
+        let status = status_now(&self.member, self.journal.entries().len() + 1);
+        self.journal.add(tag, event, done, &mut self.answer, status);
+        Ok(())
+    }
+
     /// Enters one call of a caller below 16. The turn is judged first, then the era, and then the call takes all its
     /// memory, one place in the journal; a refusal changes nothing. Then the wanted number is saved where it is above
     /// the ceiling, the member steps with the ceiling that stands, each datagram is sent in order, whatever became of
@@ -403,22 +462,7 @@ impl<D: Disk> Node<D> {
             → LeavesAlone (IsBeside (target_in (D.state self.old.disk).content))
             (D.state self.old.disk) (D.state self.new.disk) }
     {
-        self.admit(tag)?;
-        if self.journal.reserve().is_err() {
-            return Err(ApplyFault::NoMemory);
-        }
-        let done = enter(
-            &mut self.member,
-            &mut self.store,
-            link,
-            &event,
-            &mut self.read,
-            &mut self.answer,
-        );
-        self.most = greatest_own(&self.answer.outs, self.member.settings().me, self.most);
-        let status = status_now(&self.member, self.journal.entries().len() + 1);
-        self.journal.add(tag, event, done, &mut self.answer, status);
-        let entries = self.journal.entries();
-        Ok(copy_reply(&entries[entries.len() - 1].reply))
+        self.apply_in_place(link, tag, &event)?;
+        Ok(copy_reply(&self.last().reply))
     }
 }

@@ -17,8 +17,8 @@ ghost use Rattle.swim_node.specs.declared.entry.Save.{Save as Saved};
 
 use crate::base::Base;
 use crate::beginning::check_bounds;
-use crate::counts::greatest_own;
 use crate::entering::Done;
+use crate::greatest::greatest_own;
 use crate::journal::Journal;
 use crate::node::status_now;
 use crate::{ApplyFault, BeginFault, Beginning, Entry, Outcome, Save, Tag};
@@ -273,8 +273,8 @@ impl Replay {
         self.granted = done.granted;
         self.most = greatest_own(&self.answer.outs, self.member.settings().me, self.most);
         let status = status_now(&self.member, self.journal.entries().len() + 1);
-        let Cause { tag, event, .. } = cause;
-        self.journal.add(tag, event, done, &mut self.answer, status);
+        self.journal
+            .add(cause.tag, &cause.event, done, &mut self.answer, status);
         Ok(())
     }
 }

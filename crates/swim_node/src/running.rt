@@ -51,7 +51,7 @@ pub fn run<D: Disk, L: Link>(
     node.numbers_are_covered();
     for i in 0..calls.len() {
         let call = &calls[i];
-        if let Err(fault) = node.apply(link, call.0, call.1.copy()) {
+        if let Err(fault) = node.apply_in_place(link, call.0, &call.1) {
             return Err((i, fault));
         }
     }

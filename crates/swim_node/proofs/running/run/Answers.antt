@@ -39,7 +39,7 @@ loop-i-preserved g c =
     take_more c.args.calls.now c.loop-i.i c.index-calls-i.result c.loop-i-test.true ∙ ap (λ (d : Tag × Event). take c.loop-i.i c.args.calls.now ++ d ∷ []) (sym c.index-calls-i.is) in
     let ok = c.in_default.ensures.ok in
     record {
-      ran = rw more (ran-snoc c.args.node.now c.loop-i.node c.apply.new.self (take c.loop-i.i c.args.calls.now) c.index-calls-i.result ok.0 c.loop-i.invariant.ran ok.1.entries ok.1.tag_is (ok.1.event_is ∙ c.copy.ensures) c.in_default.ensures.base c.in_default.ensures.owner c.in_default.ensures.first);
+      ran = rw more (ran-snoc c.args.node.now c.loop-i.node c.apply_in_place.new.self (take c.loop-i.i c.args.calls.now) c.index-calls-i.result ok.0 c.loop-i.invariant.ran ok.1.entries ok.1.tag_is ok.1.event_is c.in_default.ensures.base c.in_default.ensures.owner c.in_default.ensures.first);
       name = c.in_default.ensures.link ∙ c.loop-i.invariant.name;
       disk = c.in_default.ensures.disk ∙ c.loop-i.invariant.disk;
       sends = (

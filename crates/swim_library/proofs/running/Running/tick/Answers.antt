@@ -1,5 +1,6 @@
-use Rattle.std.proofs.Common.{Ok, Err}
+use Rattle.std.proofs.Common.{Ok, Err, refl}
 use Rattle.std.specs.Prelude.{Result, OnOk}
+use Rattle.swim_rules.specs.Deals.{deal_from}
 use Rattle.swim_library.proofs.running.Running.tick.Goals as goal
 
 after_ok : {T E A B : Type 0} (result : Result T E) → (A → B) → OnOk result A → OnOk result B
@@ -8,9 +9,9 @@ after_ok (Err fault) gives a = a
 
 pub returns-clause-entered : goal.returns-clause-entered
 returns-clause-entered c = after_ok c.enter.result (λ enters. (
-  c.from_first-deal.result,
+  deal_from 0,
   record {
     enters = enters;
-    undrawn = λ _. (c.from_first-deal.ensures, c.ends_period.ensures.otherwise c.if-ends_period.false);
+    undrawn = λ _. (refl, c.ends_period.ensures.otherwise c.if-ends_period.false);
   },
 )) c.enter.ensures.entered

@@ -40,7 +40,7 @@ stands c =
     let filled : length (take c.self.inside.len c.self.inside.places.items) ≡ c.self.inside.len = length-take-le c.self.inside.len c.self.inside.places.items c.self.invariant.0 in
     omega (arith, c.requires.room)
 
-filled : (c : goal.After-self-3-1) → take (c.self.inside.len + 1) (slice_set c.self.inside.places.items c.self.inside.len c.fill.new.entry) ≡ take c.self.inside.len c.self.inside.places.items ++ entry_with c.args.tag c.args.event c.args.done c.args.answer.now c.args.status ∷ []
+filled : (c : goal.After-self-3-1) → take (c.self.inside.len + 1) (slice_set c.self.inside.places.items c.self.inside.len c.fill.new.entry) ≡ take c.self.inside.len c.self.inside.places.items ++ entry_with c.args.tag c.args.event.now c.args.done c.args.answer.now c.args.status ∷ []
 filled c =
     take_more_set c.self.inside.places.items c.self.inside.len c.fill.new.entry (stands c)
     ∙ ap (λ (e : Entry). take c.self.inside.len c.self.inside.places.items ++ e ∷ []) c.fill.ensures
@@ -49,10 +49,10 @@ pub invariant_of-self : goal.invariant_of-self
 invariant_of-self c =
     let xs : List Entry = take c.self.inside.len c.self.inside.places.items in
     let same : length (slice_set c.self.inside.places.items c.self.inside.len c.fill.new.entry) ≡ length c.self.inside.places.items = length-set c.self.inside.places.items c.self.inside.len c.fill.new.entry in
-    let more = turns-snoc c.self.inside.turns xs (entry_with c.args.tag c.args.event c.args.done c.args.answer.now c.args.status) (omega (arith, c.self.told, c.requires.caller)) c.self.invariant.1 in (
+    let more = turns-snoc c.self.inside.turns xs (entry_with c.args.tag c.args.event.now c.args.done c.args.answer.now c.args.status) (omega (arith, c.self.told, c.requires.caller)) c.self.invariant.1 in (
       omega (arith, same, stands c),
       subst (λ (es : List Entry). AreTurns (slice_set c.self.inside.turns c.args.tag.caller (slice_index c.self.inside.turns c.args.tag.caller + 1)) es) (sym (filled c)) more,
     )
 
 pub returns : goal.returns
-returns c = filled c ∙ ap (λ (v : JournalView). v.entries ++ entry_with c.args.tag c.args.event c.args.done c.args.answer.now c.args.status ∷ []) c.self.view_is
+returns c = filled c ∙ ap (λ (v : JournalView). v.entries ++ entry_with c.args.tag c.args.event.now c.args.done c.args.answer.now c.args.status ∷ []) c.self.view_is

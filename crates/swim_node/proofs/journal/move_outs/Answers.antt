@@ -2,7 +2,7 @@ use Rattle.std.proofs.Common.{◌≡◌, ◌≤◌, ◌-◌, take, length, ap, �
 use Rattle.std.proofs.Math.Seq.{take-length}
 use Rattle.std.specs.List.{slice_range}
 use Rattle.arrayvec.specs.Iter.{drain_items}
-use Rattle.swim_node.proofs.filling.move_outs.Goals as goal
+use Rattle.swim_node.proofs.journal.move_outs.Goals as goal
 
 pub loop-out-init : goal.loop-out-init
 loop-out-init c =

@@ -2,7 +2,7 @@ use Rattle.std.proofs.Common.{◌≡◌, ◌∙◌, take, sym, ap, ◌++◌, ◌
 use Rattle.std.proofs.lemmas.List.{take_more}
 use Rattle.swim_member.specs.declared.answer.Out.{Out}
 use Rattle.swim_node.proofs.Lists.{sends-snoc}
-use Rattle.swim_node.proofs.sending.send_all.Goals as goal
+use Rattle.swim_node.proofs.entering.send_all.Goals as goal
 
 pub loop-out-preserved : goal.loop-out-preserved
 loop-out-preserved g c =

@@ -1,5 +1,5 @@
 use Rattle.std.proofs.Common.{◌∙◌, ap, ◌++◌, ◌∷◌, [], List, ℕ}
-use Rattle.swim_node.proofs.sending.send_one.Goals as goal
+use Rattle.swim_node.proofs.entering.send_one.Goals as goal
 
 pub returns-in-Ok-clause-took : goal.returns-in-Ok-clause-took
 returns-in-Ok-clause-took g c tells =

@@ -1,41 +1,12 @@
-//! Counts over outcomes, and the greatest own number of datagrams.
+//! The greatest own number of datagrams.
 
-ghost use Rattle.std.specs.Prelude.{◌≡◌, ◌≤◌, ◌==◌, length, map};
+ghost use Rattle.std.specs.Prelude.{◌≡◌, ◌==◌, map};
 ghost use Rattle.std.specs.List.{filter};
-ghost use Rattle.swim_member.specs.declared.answer.TheConstants.{OUTS_MAX};
 ghost use Rattle.swim_member.specs.Fit.{own_numbers_in};
-ghost use Rattle.swim_node.specs.History.{lost_in, taken_in};
 ghost use Rattle.swim_node.specs.Owns.{greatest_with, greater_of};
 
-use crate::Outcome;
 use swim_member::Out;
 use swim_wire::{Endpoint, Update};
-
-pub(crate) fn count_taken(outcomes: &[Outcome]) -> usize
-    requires { length outcomes.now ≤ OUTS_MAX }
-    ensures { result ≡ taken_in outcomes.now }
-{
-    let mut count = 0;
-    for outcome in outcomes {
-        if *outcome == Outcome::Taken {
-            count += 1;
-        }
-    }
-    count
-}
-
-pub(crate) fn count_lost(outcomes: &[Outcome]) -> usize
-    requires { length outcomes.now ≤ OUTS_MAX }
-    ensures { result ≡ lost_in outcomes.now }
-{
-    let mut count = 0;
-    for outcome in outcomes {
-        if *outcome == Outcome::Lost {
-            count += 1;
-        }
-    }
-    count
-}
 
 /// The greater of a number, if there is one, and another.
 fn greater(most: Option<u64>, number: u64) -> Option<u64>

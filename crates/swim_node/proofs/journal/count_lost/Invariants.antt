@@ -1,6 +1,6 @@
 use Rattle.std.proofs.Common.{◌≡◌, ◌≤◌, ◌+◌, drop}
 use Rattle.swim_node.specs.History.{lost_in}
-use Rattle.swim_node.proofs.counts.count_lost.Given as goal
+use Rattle.swim_node.proofs.journal.count_lost.Given as goal
 
 -- the count so far, and of what is left
 abbrev pub invariant-loop-outcome : goal.invariant-loop-outcome
