@@ -137,7 +137,6 @@ fn write_endpoints(endpoints: &[Endpoint], out: &mut [SwimEndpoint])
 
 impl Running {
     /// Enters an event, or, where none is given, the tick that reads no deal. While datagrams of an earlier one wait, nothing happens.
-    #[inline(always)]
     pub(crate) fn enter(&mut self, event: Option<&Event>) -> Result<(), Refusal>
         ensures entered { OnOk result (MatchOption event.entry
             (EntersEvent self.old self.new undealt_tick)

@@ -29,16 +29,15 @@ fn kept_of(bytes: &[u8]) -> ArrayVec<u8, RECEIVED_MAX>
     }
 }
 
-/// Enters an event in the member that a handle leads to. It is inlined, as `Running::enter` is.
-#[inline(always)]
-fn enter(member: &mut SwimMember, event: Event) -> u32
+/// Enters an event in the member that a handle leads to.
+fn enter(member: &mut SwimMember, event: &Event) -> u32
     ensures { TriesToEnter member.old member.new result
-        (λ before after. EntersEvent before after event) }
+        (λ before after. EntersEvent before after event.now) }
 {
     match take(member) {
         None => code(Err(Refusal::Closed)),
         Some(mut running) => {
-            let done = running.enter(Some(&event));
+            let done = running.enter(Some(event));
             put(member, running);
             code(done)
         }
@@ -125,7 +124,7 @@ pub extern "C" fn swim_library_receive(
         None => code(Err(Refusal::Closed)),
         Some(from) => {
             let bytes = kept_of(bytes);
-            enter(member, Event::Datagram { from, bytes })
+            enter(member, &Event::Datagram { from, bytes })
         }
     }
 }
@@ -136,7 +135,7 @@ pub extern "C" fn swim_library_receive_failed(member: &mut SwimMember) -> u32
     ensures { TriesToEnter member.old member.new result
         (λ before after. EntersEvent before after ReceiveFailed) }
 {
-    enter(member, Event::ReceiveFailed)
+    enter(member, &Event::ReceiveFailed)
 }
 
 /// So many datagrams were not sent.
@@ -145,7 +144,7 @@ pub extern "C" fn swim_library_send_failed(member: &mut SwimMember, count: u32) 
     ensures { TriesToEnter member.old member.new result
         (λ before after. EntersEvent before after (SendFailed count)) }
 {
-    enter(member, Event::SendFailed { count })
+    enter(member, &Event::SendFailed { count })
 }
 
 /// The member asks another for all that it knows.
@@ -158,7 +157,7 @@ pub extern "C" fn swim_library_join(member: &mut SwimMember, peer: &SwimEndpoint
 {
     match peer.endpoint() {
         None => code(Err(Refusal::NoEndpoint)),
-        Some(peer) => enter(member, Event::Join { peer }),
+        Some(peer) => enter(member, &Event::Join { peer }),
     }
 }
 
@@ -168,7 +167,7 @@ pub extern "C" fn swim_library_leave(member: &mut SwimMember) -> u32
     ensures { TriesToEnter member.old member.new result
         (λ before after. EntersEvent before after Leave) }
 {
-    enter(member, Event::Leave)
+    enter(member, &Event::Leave)
 }
 
 /// Hands out the next datagram that waits.
