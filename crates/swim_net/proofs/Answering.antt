@@ -1,7 +1,7 @@
 -- What a socket has answered is what it gives.
-use Rattle.std.proofs.Common.{◌≡◌, ℕ, ◌+◌, List, [], ◌∷◌, ◌++◌, refl, ap, subst, sym, ◌∙◌, append-nil, arith}
+use Rattle.std.proofs.Common.{◌≡◌, ℕ, List, [], ◌∷◌, ◌++◌, refl, ap, subst, sym, ◌∙◌, append-nil}
 use Rattle.std.specs.Prelude.{Option, Result, ⊤}
-use Rattle.std.proofs.lemmas.List.Elements.{All-nil}
+use Rattle.std.proofs.lemmas.List.Elements.{All-nil, All-push}
 use Rattle.arrayvec.specs.ArrayVec.{ArrayVec}
 use Rattle.swim_shell.specs.Inbounds.{Came, came_of, failures_in, Took}
 use Rattle.swim_shell.specs.declared.inbound.ReceiveFault.{ReceiveFault}
@@ -25,3 +25,7 @@ took_one old new c e = record { told = λ _. e; failed = ap failures_in e ∙ fa
 -- what the first receive brought
 pub brings_first : (old new : List Receive) (came : Came) → BringsOne old new came → BringsLast old new came
 brings_first old new came one = record { before = []; none = All-nil HadNothing; last = subst (λ (l : List Receive). BringsOne l new came) (sym (append-nil old)) one }
+
+-- what the second receive brought, where the first found nothing
+pub brings_second : (old mid new : List Receive) (first : Receive) (came : Came) → mid ≡ old ++ first ∷ [] → HadNothing first → BringsOne mid new came → BringsLast old new came
+brings_second old mid new first came is none one = record { before = first ∷ []; none = All-push HadNothing [] first (All-nil HadNothing) none; last = subst (λ (l : List Receive). BringsOne l new came) is one }

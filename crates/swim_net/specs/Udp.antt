@@ -45,10 +45,6 @@ HadNothing (bytes, Err e) = error_kind e ≡ kinds.WouldBlock
 abbrev pub BringsOne : List Receive → List Receive → Came → Type 0
 BringsOne old new came = (receive : Receive) × (new ≡ old ++ receive ∷ []) × IsBrought receive came
 
--- one more receive, which found nothing
-abbrev pub FindsNone : List Receive → List Receive → Type 0
-FindsNone old new = (receive : Receive) × (new ≡ old ++ receive ∷ []) × HadNothing receive
-
 -- one more receive, by which this came, after those that found nothing
 pub record BringsLast (old new : List Receive) (came : Came) : Type 0 where
   pub before : List Receive

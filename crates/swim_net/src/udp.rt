@@ -82,10 +82,6 @@ fn went_by(answer: &io::Result<usize>, length: usize) -> Went
 }
 
 impl<'a, C: Clock + Log> UdpLink<'a, C> {
-    ghost use Rattle.std.specs.Prelude.{◌≡◌, false, length};
-    ghost use Rattle.swim_shell.specs.Tries.{Tried};
-    ghost use Rattle.swim_net.specs.Udp.{EndsAs, SendsAgain, sends_of};
-
     /// A link over a bound socket that never waits.
     fn new(socket: UdpSocket, clock: &'a C) -> UdpLink<'a, C> {
         UdpLink {
@@ -95,32 +91,13 @@ impl<'a, C: Clock + Log> UdpLink<'a, C> {
             failures: Trace::new(),
         }
     }
-
-    /// Sends one datagram, and says whether it went out whole. A send that may be tried again is, some times.
-    fn send_whole(&mut self, to: Endpoint, bytes: &[u8]) -> bool
-        ensures tried { Tried (SendsAgain to bytes.now) (EndsAs to bytes.now result)
-            SENDS_MAX (result ≡ false) (sends_of self.old) (sends_of self.new) }
-        ensures failures { self.new.failures ≡ self.old.failures }
-    {
-        for _ in 0..SENDS_MAX {
-            let answer = self.socket.send(bytes, address_of(to));
-            match went_by(&answer, bytes.len()) {
-                Went::Whole => return true,
-                Went::Lost => {
-                    self.unsent.tell(self.clock, to, &answer);
-                    return false;
-                }
-                Went::Interrupted => {}
-                Went::NoRoom => pause(self.clock),
-            }
-        }
-        false
-    }
 }
 
 impl<'a, C: Clock + Log> Link for UdpLink<'a, C> {
-    ghost use Rattle.std.specs.Prelude.{[], length};
+    ghost use Rattle.std.specs.Prelude.{◌≡◌, ◌+◌, [], length, is_ok, IsErr, MatchResult};
     ghost use Rattle.swim_node.specs.Link.{link_number};
+    ghost use Rattle.swim_shell.specs.Tries.{Tried};
+    ghost use Rattle.swim_net.specs.Udp.{EndsAs, SendsAgain, sends_of};
 
     ghost name = { λ _. link_number 0 };
 
@@ -130,9 +107,26 @@ impl<'a, C: Clock + Log> Link for UdpLink<'a, C> {
 
     ghost failures = { λ l. length l.failures };
 
-    fn send(&mut self, to: Endpoint, bytes: &[u8]) -> Result<(), LinkFault> {
-        if self.send_whole(to, bytes) {
-            return Ok(());
+    fn send(&mut self, to: Endpoint, bytes: &[u8]) -> Result<(), LinkFault>
+        ensures failures { MatchResult result
+            (λ _. length self.new.failures ≡ length self.old.failures)
+            (λ _. length self.new.failures ≡ length self.old.failures + 1) }
+
+        // A send that may be tried again is, some times.
+        ensures tried { Tried (SendsAgain to bytes.now) (EndsAs to bytes.now (is_ok result))
+            SENDS_MAX (IsErr result) (sends_of self.old) (sends_of self.new) }
+    {
+        for _ in 0..SENDS_MAX {
+            let answer = self.socket.send(bytes, address_of(to));
+            match went_by(&answer, bytes.len()) {
+                Went::Whole => return Ok(()),
+                Went::Lost => {
+                    self.unsent.tell(self.clock, to, &answer);
+                    break;
+                }
+                Went::Interrupted => {}
+                Went::NoRoom => pause(self.clock),
+            }
         }
         self.failures = self.failures.and(&());
         Err(LinkFault)
@@ -205,7 +199,7 @@ pub fn take(
 }
 
 impl<'a, C: Clock> UdpInbound<'a, C> {
-    ghost use Rattle.swim_net.specs.Udp.{BringsOne, FindsNone, IsBrought, receives_of};
+    ghost use Rattle.swim_net.specs.Udp.{IsBrought, receives_of};
 
     /// Takes an answer of the system.
     #[tactic(auto, using(crate::proofs::Answering::answers_more))]
@@ -229,41 +223,6 @@ impl<'a, C: Clock> UdpInbound<'a, C> {
         });
         taken
     }
-
-    /// What has come; none where nothing has come yet. The system cuts a datagram that is longer than a member keeps.
-    fn receive_now(
-        &mut self,
-        into: &mut ArrayVec<u8, RECEIVED_MAX>,
-    ) -> Option<Result<Option<Endpoint>, ReceiveFault>>
-        ensures some { IfSome result (λ answer. came_in self.new.answers
-            ≡ came_in self.old.answers ++ came_of answer into.new.items ∷ []) }
-        ensures none { IfNone result (came_in self.new.answers ≡ came_in self.old.answers) }
-        ensures brought { IfSome result (λ answer. BringsOne (receives_of self.old)
-            (receives_of self.new) (came_of answer into.new.items)) }
-        ensures waits { IfNone result (FindsNone (receives_of self.old) (receives_of self.new)) }
-    {
-        let mut bytes = [0u8; RECEIVED_MAX];
-        match self.socket.receive(&mut bytes) {
-            Err(error) if error.kind() == ErrorKind::WouldBlock => None,
-            received => Some(self.answer(received, &bytes, into)),
-        }
-    }
-
-    /// What has come after a wait.
-    fn receive_at_last(
-        &mut self,
-        into: &mut ArrayVec<u8, RECEIVED_MAX>,
-    ) -> Result<Option<Endpoint>, ReceiveFault>
-        ensures told { came_in self.new.answers ≡ came_in self.old.answers
-            ++ came_of result into.new.items ∷ [] }
-        ensures brought { BringsOne (receives_of self.old) (receives_of self.new)
-            (came_of result into.new.items) }
-    {
-        self.waits.wait(self.clock, self.wait);
-        let mut bytes = [0u8; RECEIVED_MAX];
-        let received = self.socket.receive(&mut bytes);
-        self.answer(received, &bytes, into)
-    }
 }
 
 impl<'a, C: Clock> Alarmed for UdpInbound<'a, C> {
@@ -282,7 +241,7 @@ impl<'a, C: Clock> Inbound for UdpInbound<'a, C> {
 
     ghost failures = { λ i. failures_in (came_in i.answers) };
 
-    #[tactic(auto, using(crate::proofs::Answering::took_one, crate::proofs::Answering::brings_first))]
+    #[tactic(auto, using(crate::proofs::Answering::took_one))]
     fn receive(
         &mut self,
         into: &mut ArrayVec<u8, RECEIVED_MAX>,
@@ -295,9 +254,15 @@ impl<'a, C: Clock> Inbound for UdpInbound<'a, C> {
         ensures brought { BringsLast (receives_of self.old) (receives_of self.new)
             (came_of result into.new.items) }
     {
-        match self.receive_now(into) {
-            Some(received) => received,
-            None => self.receive_at_last(into),
+        // The system cuts a datagram that is longer than a member keeps.
+        let mut bytes = [0u8; RECEIVED_MAX];
+        match self.socket.receive(&mut bytes) {
+            Err(error) if error.kind() == ErrorKind::WouldBlock => {
+                self.waits.wait(self.clock, self.wait);
+                let received = self.socket.receive(&mut bytes);
+                self.answer(received, &bytes, into)
+            }
+            received => self.answer(received, &bytes, into),
         }
     }
 }

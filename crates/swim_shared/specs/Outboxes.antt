@@ -1,6 +1,6 @@
 -- Rings as links, and what a link was handed from one.
-use Rattle.std.specs.Prelude.{◌≡◌, ℕ, ◌+◌, ◌-◌, ◌^◌, min, Bool, if◌then◌else◌}
-use Rattle.std.specs.Prelude.{List, [], ◌∷◌, ◌++◌, map}
+use Rattle.std.specs.Prelude.{◌≡◌, ℕ, ◌+◌, ◌-◌, ◌^◌, min}
+use Rattle.std.specs.Prelude.{List, ◌++◌, map}
 use Rattle.rtrb.specs.Ring.{sent, received, known_items}
 use Rattle.rtrb.specs.declared.producer.Producer.{Producer}
 use Rattle.rtrb.specs.declared.consumer.Consumer.{Consumer}
@@ -54,13 +54,6 @@ module _ {L : Type 0} (tells : Type 0) (took : L → List (ℕ × List ℕ)) (fa
     pub out_is : out' ≡ out ++ all_of fates
     pub took_is : tells → took new ≡ took old ++ kept_of fates
     pub failures_is : failures new ≡ failures old + lost_of fates
-
-  -- the same of one datagram
-  pub record HandedOne (out out' : List (ℕ × List ℕ)) (old new : L) (taken : Bool) : Type 0 where
-    pub datagram : ℕ × List ℕ
-    pub out_is : out' ≡ out ++ datagram ∷ []
-    pub took_is : tells → took new ≡ (if taken then took old ++ datagram ∷ [] else took old)
-    pub failures_is : failures new ≡ (if taken then failures old else failures old + 1)
 
 -- what is owed after the failures that the link told in between, at most 2^32 - 1
 abbrev pub owed_after : ℕ → ℕ → ℕ → ℕ

@@ -8,11 +8,10 @@ ghost use Rattle.swim_shared.specs.Taken.{taken_of};
 ghost use Rattle.swim_shared.specs.Outboxes.{Handed, owed_after};
 ghost use Rattle.swim_shared.specs.Odd.{odd_of, AllBegin, AllWatchesBegin};
 
-use crate::hand::hand;
 use crate::name::Name;
 use crate::outbox::Outbox;
 use crate::pass::Pass;
-use crate::sender::{Sender, more_owed};
+use crate::sender::{Sender, hand, more_owed};
 use crate::shared::Shared;
 use crate::watch::Watch;
 use std::sync::Wait;

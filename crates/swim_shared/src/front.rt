@@ -69,8 +69,9 @@ impl Front {
         }
     }
 
-    /// The shorter of two beginnings of one history begins the longer.
-    pub fn compare(&self, longer: &Front)
+    /// That the shorter of two beginnings of one history begins the longer. It does nothing: its
+    /// contract is what counts.
+    pub fn shorter_begins_longer(&self, longer: &Front)
         requires book { longer.now.book ≡ self.now.book }
         requires longer { length self.now.entries ≤ length longer.now.entries }
         ensures { IsPrefix self.now.entries longer.now.entries }

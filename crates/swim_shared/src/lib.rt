@@ -23,7 +23,6 @@
 mod close_sent;
 mod fault;
 mod front;
-mod hand;
 mod law;
 mod locked;
 mod name;

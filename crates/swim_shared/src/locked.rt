@@ -124,7 +124,7 @@ impl<N: Name, D: Disk, L: Link, R: Wait + Drop> Locked<N, D, L, R> {
         ensures err { IfErr result (λ f. self.new.journal ≡ self.old.journal) }
         ensures pen { OnErr result (self.new.has_pen ≡ true) }
     {
-        pass.front().compare(&self.front);
+        pass.front().shorter_begins_longer(&self.front);
         self.node.journal_is_legal();
         let tag = Tag {
             caller: pass.caller(),
@@ -232,8 +232,8 @@ impl<N: Name, D: Disk, L: Link, R: Wait + Drop> Locked<N, D, L, R> {
         if pass.front().len() > published.len() || watch.len() > published.len() {
             return false;
         }
-        pass.front().compare(published);
-        watch.front().compare(published);
+        pass.front().shorter_begins_longer(published);
+        watch.front().shorter_begins_longer(published);
         watch.learn(published.again());
         true
     }

@@ -23,7 +23,7 @@ impl<N: Name, D: Disk, L: Link, R: Wait + Drop> Locked<N, D, L, R> {
         if pass.front().len() > self.front.len() {
             return false;
         }
-        pass.front().compare(&self.front);
+        pass.front().shorter_begins_longer(&self.front);
         self.node.turns(pass.caller()) == pass.calls()
     }
 
@@ -35,7 +35,7 @@ impl<N: Name, D: Disk, L: Link, R: Wait + Drop> Locked<N, D, L, R> {
         if watch.len() > self.front.len() {
             return false;
         }
-        watch.front().compare(&self.front);
+        watch.front().shorter_begins_longer(&self.front);
         true
     }
 

@@ -1,9 +1,9 @@
-//! Who takes datagrams out of the ring.
+//! Who takes datagrams out of the ring, and hands them to a link.
 
 ghost use Rattle.std.specs.Prelude.{◌≡◌, ◌+◌, ◌-◌, ◌≤◌, ◌^◌, length, min};
-ghost use Rattle.swim_shared.specs.Outboxes.{ring_from, got, Handed};
+ghost use Rattle.rtrb.specs.Ring.{received, known_items};
+ghost use Rattle.swim_shared.specs.Outboxes.{ring_from, got, through, Handed};
 
-use crate::hand::hand;
 use crate::packet::Packet;
 use rtrb::Consumer;
 use std::marker::Model;
@@ -88,6 +88,30 @@ impl Sender {
     {
         self.owed = 0;
     }
+}
+
+/// Hands so many datagrams to the link, in order, whatever became of the one before. It says how
+/// many the link refused.
+pub(crate) fn hand<L: Link>(ring: &mut Consumer<Packet>, count: usize, link: &mut L) -> usize
+    requires { count ≤ length (known_items ring.old) }
+    ensures ring { ring_from ring.new ≡ ring_from ring.old }
+    ensures link { L.name link.new ≡ L.name link.old }
+    ensures handed { Handed L.tells L.took L.failures (got ring.old) (got ring.new)
+        link.old link.new }
+    ensures items { through ring.new ≡ through ring.old }
+    ensures count { length (received ring.new) ≡ length (received ring.old) + count }
+    ensures few { result ≤ count }
+    ensures lost { L.failures link.new ≡ L.failures link.old + result }
+{
+    let mut lost = 0usize;
+    for i in 0..count {
+        let _ = i;
+        let packet = ring.pop_known();
+        if link.send(packet.to, &packet.bytes).is_err() {
+            lost += 1;
+        }
+    }
+    lost
 }
 
 /// What is owed after so many losses more.

@@ -104,7 +104,7 @@ fn take_in<N: Name>(front: &mut Front, shown: &Shown) -> Option<Status>
     if shown.front.len() < front.len() {
         return None;
     }
-    front.compare(&shown.front);
+    front.shorter_begins_longer(&shown.front);
     *front = shown.front.again();
     Some(shown.status)
 }

@@ -54,13 +54,15 @@ impl<I: Inbound> Receiver<I> {
         }
     }
 
-    /// What the inbound gives next; none where nothing came.
-    #[tactic(auto, using(crate::proofs::Receiving::takes_answer))]
+    /// What is entered next: what waits, or else what the inbound gives; none where nothing came.
+    #[tactic(auto, using(crate::proofs::Receiving::takes_answer, crate::proofs::Receiving::takes_kept))]
     fn receive(&mut self) -> Option<Event>
-        requires { self.old.kept ≡ None }
         ensures takes { Takes I.tells self.old self.new result }
         ensures kept { self.new.kept ≡ None }
     {
+        if let Some(event) = self.kept.take() {
+            return Some(event);
+        }
         let mut bytes = ArrayVec::new();
         match self.inbound.receive(&mut bytes) {
             Ok(Some(from)) => {
@@ -75,18 +77,6 @@ impl<I: Inbound> Receiver<I> {
                 self.failed = self.failed.saturating_add(1).min(FAILURES_MAX);
                 Some(Event::ReceiveFailed)
             }
-        }
-    }
-
-    /// What is entered next: what waits, or else what the inbound gives; none where nothing came.
-    #[tactic(auto, using(crate::proofs::Receiving::takes_kept))]
-    fn take(&mut self) -> Option<Event>
-        ensures takes { Takes I.tells self.old self.new result }
-        ensures kept { self.new.kept ≡ None }
-    {
-        match self.kept.take() {
-            Some(event) => Some(event),
-            None => self.receive(),
         }
     }
 }
@@ -107,7 +97,7 @@ impl<C: Caller, I: Inbound> Worker<C> for Receiver<I> {
 
     #[tactic(auto, using(crate::proofs::Receiving::receiving_nothing, crate::proofs::Receiving::receiving_turn))]
     fn turn(&mut self, caller: &mut C) -> Option<WorkerEnd> {
-        let taken = self.take()?;
+        let taken = self.receive()?;
         match caller.call(taken.copy()) {
             Ok(_) if self.failed >= FAILURES_MAX => Some(WorkerEnd::Fault),
             Ok(_) => None,

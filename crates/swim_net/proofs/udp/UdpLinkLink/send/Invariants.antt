@@ -1,7 +1,7 @@
 use Rattle.std.proofs.Common.{◌≡◌}
 use Rattle.swim_shell.proofs.Trying.{Trying}
 use Rattle.swim_net.specs.Udp.{SendsAgain, sends_of}
-use Rattle.swim_net.proofs.udp.UdpLink.send_whole.Given as goal
+use Rattle.swim_net.proofs.udp.UdpLinkLink.send.Given as goal
 
 -- the sends so far, after each of which it was tried again
 abbrev pub invariant-loop : goal.invariant-loop

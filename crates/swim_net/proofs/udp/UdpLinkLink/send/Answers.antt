@@ -2,8 +2,8 @@ use Rattle.std.proofs.Common.{refl, subst, sym}
 use Rattle.swim_shell.proofs.Trying.{trying_more}
 use Rattle.swim_net.specs.Datagrams.{MayRetry}
 use Rattle.swim_net.specs.Udp.{SendsAgain, sends_of}
-use Rattle.swim_net.proofs.udp.UdpLink.send_whole.Goals.{in-Interrupted, in-NoRoom}
-use Rattle.swim_net.proofs.udp.UdpLink.send_whole.Goals as goal
+use Rattle.swim_net.proofs.udp.UdpLinkLink.send.Goals.{in-Interrupted, in-NoRoom}
+use Rattle.swim_net.proofs.udp.UdpLinkLink.send.Goals as goal
 
 -- one more send, after which it is tried again
 pub loop-preserved : goal.loop-preserved

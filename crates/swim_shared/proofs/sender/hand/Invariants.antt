@@ -1,7 +1,7 @@
 use Rattle.std.proofs.Common.{◌≡◌, ◌+◌, ◌≤◌, length}
 use Rattle.rtrb.specs.Ring.{received, known_items}
 use Rattle.swim_shared.specs.Outboxes.{ring_from, got, through, Handed}
-use Rattle.swim_shared.proofs.hand.hand.Given as goal
+use Rattle.swim_shared.proofs.sender.hand.Given as goal
 
 -- so many came out of the ring, and each was handed to the link
 abbrev pub invariant-loop-i : goal.invariant-loop-i
