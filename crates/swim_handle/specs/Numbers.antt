@@ -9,8 +9,8 @@ use Rattle.swim_node.specs.declared.entry.Reply.{Reply}
 use Rattle.swim_wire.specs.Decoding.{decoded}
 use Rattle.swim_wire.specs.Said.{number_said}
 use Rattle.swim_handle.specs.Notes.{has_note}
-use Rattle.swim_handle.specs.declared.number_log.NumberLog.{NumberLog}
-use Rattle.swim_handle.specs.declared.number_log.TheConstants.{LIVES_MAX}
+use Rattle.swim_handle.specs.declared.call_log.NumberLog.{NumberLog}
+use Rattle.swim_handle.specs.declared.call_log.TheConstants.{LIVES_MAX}
 
 -- what the datagram of an event says of a member; nothing if it is of no datagram
 abbrev pub said_in : ℕ → Event → Option ℕ

@@ -2,14 +2,11 @@
 
 ghost use Rattle.std.specs.Prelude.{◌≡◌, [], false};
 ghost use Rattle.swim_node.specs.History.{IsLegal};
-ghost use Rattle.swim_member.specs.declared.note.Note.TheVariants as noted;
 ghost use Rattle.swim_handle.specs.Identities.{Tells};
-ghost use Rattle.swim_handle.specs.Notes.{has_note};
 ghost use Rattle.swim_handle.specs.Views.{view_of};
 
 use crate::board::{CounterRow, SharedCounters};
-use crate::call_log::CallLog;
-use crate::note_log::has_note;
+use crate::call_log::{CallLog, is_expulsion};
 use crate::pace::Pace;
 use crate::parts::{CallerParts, IntoParts};
 use log::Log;
@@ -17,7 +14,7 @@ use std::marker::Model;
 use std::sync::Wait;
 use std::time::Clock;
 use swim_disk::Disk;
-use swim_member::{Event, Note};
+use swim_member::Event;
 use swim_node::{Link, Reply, Status};
 use swim_shared::{CallFault, Name, Pass, Shared, Watch};
 use swim_shell::{Caller, Counters, Observer, Refusal, Who};
@@ -48,13 +45,6 @@ impl<'a, N: Name, D: Disk, L: Link, R: Wait + Drop, W: Wait + Log + Clock> Model
     ghost Value = { HandleView };
 
     ghost view = { λ h. record { known = view_of h.pass h.is_spent h.asked; log = h.log } };
-}
-
-/// Whether the call that was answered so expelled the member.
-fn is_expulsion(reply: &Reply) -> bool
-    ensures { result ≡ has_note noted.Expelled reply.now.notes.items }
-{
-    has_note(reply.notes.as_slice(), Note::Expelled)
 }
 
 impl<'a, N: Name, D: Disk, L: Link, R: Wait + Drop, W: Wait + Log + Clock> Handle<

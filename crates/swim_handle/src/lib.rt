@@ -3,23 +3,19 @@
 
 mod board;
 mod call_log;
-mod company;
 mod crew;
 mod handle;
 mod identity;
 mod note_log;
 mod note_words;
-mod notify;
-mod number_log;
 mod pace;
 mod parts;
 
 pub use board::{CounterRow, SharedCounters};
-pub use call_log::CallLog;
+pub use call_log::{CallLog, NumberLog};
 pub use crew::Crew;
 pub use handle::{Handle, StatusCaller};
 pub use identity::Identity;
 pub use note_log::{LOGGED_MAX, NoteLog};
-pub use number_log::NumberLog;
-pub use pace::Pace;
+pub use pace::{Notifying, Pace, Resting};
 pub use parts::{CallerParts, IntoParts};

@@ -1,7 +1,6 @@
 //! What the workers write to the log: the notes of their calls, and how many they left out.
 
 ghost use Rattle.std.specs.Prelude.{◌≡◌, ◌<◌, ◌+◌, ◌↔◌, min, IsTrue, false};
-ghost use Rattle.swim_handle.specs.Notes.{has_note};
 
 use crate::note_words::{NoteLine, note_level};
 use log::{Log, log};
@@ -63,19 +62,6 @@ pub struct NoteLog {
     has_left_out: bool,
     has_stopped: bool,
     kinds: [Kind; NOTE_KINDS],
-}
-
-/// Whether one of the notes has the number of this one.
-pub(crate) fn has_note(notes: &[Note], wanted: Note) -> bool
-    ensures { result ≡ has_note wanted notes.now }
-{
-    let number = wanted.number();
-    for note in notes {
-        if note.number() == number {
-            return true;
-        }
-    }
-    false
 }
 
 impl NoteLog {

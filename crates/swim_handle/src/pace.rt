@@ -1,14 +1,60 @@
-//! What tells the workers of an era that there is something to do, and that the era is over.
+//! What tells the workers of an era that there is something to do, and that the era is over. All but the sender notify it between two
+//! turns, and it rests until they do, so that what a call put into the outbox goes out at once and nobody spins.
 
 ghost use Rattle.std.specs.Prelude.{◌≡◌, if◌then◌else◌};
 ghost use Rattle.swim_shell.specs.declared.gate.Turn.TheVariants as turning;
 
-use crate::notify::Notify;
 use std::sync::Wait;
-use std::sync::atomic::{AtomicBool, Ordering};
+use std::sync::atomic::{AtomicBool, AtomicU64, Ordering};
 use std::thread::Parker;
 use std::time::{Clock, Duration};
-use swim_shell::Turn;
+use swim_shell::{Gate, Turn};
+
+/// How long a wait lasts at most, in milliseconds.
+const WAIT_MILLIS: u64 = 100;
+
+/// Any thread notifies, and one waits. No notification is lost: each lets one wait pass. A call puts fewer datagrams into
+/// the outbox than the sender takes in a turn, so a turn for each notification keeps up.
+#[derive(Drop)]
+struct Notify {
+    /// The notifications that no wait has taken yet.
+    left: AtomicU64,
+    parker: Parker,
+}
+
+impl Notify {
+    /// Without a notification.
+    fn new() -> Notify {
+        Notify {
+            left: AtomicU64::new(0),
+            parker: Parker::new(),
+        }
+    }
+
+    /// Lets one wait pass.
+    fn notify(&self) {
+        self.left.fetch_add(1, Ordering::SeqCst);
+        self.parker.unpark();
+    }
+
+    /// Takes a notification that was not taken yet, and says whether there was one. Only the thread that waits may ask.
+    fn take(&self) -> bool {
+        if self.left.load(Ordering::SeqCst) == 0 {
+            return false;
+        }
+        self.left.fetch_sub(1, Ordering::SeqCst);
+        true
+    }
+
+    /// Waits for a notification, a tenth of a second at most.
+    fn wait<R: Wait>(&self, rt: &R) {
+        if !self.take() {
+            self.parker
+                .park_timeout(rt, Duration::from_millis(WAIT_MILLIS));
+            self.take();
+        }
+    }
+}
 
 /// Whether a worker goes on in an era that is over, or is not.
 fn turn_if_over(is_over: bool) -> Turn
@@ -43,11 +89,6 @@ impl Pace {
         self.to_send.notify();
     }
 
-    /// Waits for a notification, or until the era is over. One thread at a time may wait.
-    pub fn wait_to_send<R: Wait>(&self, rt: &R) {
-        self.to_send.wait(rt);
-    }
-
     /// The era is over: whoever rests, and whoever waits to send, is woken. A rest that begins later ends at once.
     pub fn end(&self) {
         self.has_ended.store(true, Ordering::SeqCst);
@@ -65,5 +106,58 @@ impl Pace {
     /// Whether a worker goes on: until one has ended.
     pub fn turn(&self) -> Turn {
         turn_if_over(self.has_ended.load(Ordering::SeqCst))
+    }
+}
+
+/// Notifies the sender, and lets its worker go on, which waits for its input itself.
+#[derive(Drop)]
+pub struct Notifying<'a> {
+    pace: &'a Pace,
+}
+
+impl<'a> Notifying<'a> {
+    /// A gate that notifies.
+    pub fn new(pace: &'a Pace) -> Notifying<'a> {
+        Notifying { pace }
+    }
+}
+
+impl<'a> Gate for Notifying<'a> {
+    ghost use Rattle.std.specs.Prelude.{[]};
+
+    ghost tells = { ⊥ };
+
+    ghost turns = { λ _. [] };
+
+    fn turn(&mut self) -> Turn {
+        self.pace.notify();
+        self.pace.turn()
+    }
+}
+
+/// Rests until the sender is notified.
+#[derive(Drop)]
+pub struct Resting<'a, R: Wait> {
+    rt: &'a R,
+    pace: &'a Pace,
+}
+
+impl<'a, R: Wait> Resting<'a, R> {
+    /// A gate that waits for a notification.
+    pub fn new(rt: &'a R, pace: &'a Pace) -> Resting<'a, R> {
+        Resting { rt, pace }
+    }
+}
+
+impl<'a, R: Wait> Gate for Resting<'a, R> {
+    ghost use Rattle.std.specs.Prelude.{[]};
+
+    ghost tells = { ⊥ };
+
+    ghost turns = { λ _. [] };
+
+    fn turn(&mut self) -> Turn {
+        self.pace.to_send.wait(self.rt);
+        self.pace.turn()
     }
 }

@@ -2,16 +2,15 @@
 
 ghost use Rattle.swim_serve.specs.Works.{LeftBy, Received, Sent, Ticked};
 
-use crate::gates::{Notifying, Pacing, Resting};
 use crate::job::{Job, Left, Manned};
 use crate::shutdown::Shutdown;
 use crate::threads::{Back, Work, serve};
-use crate::tick_timer::TickTimer;
+use crate::tick_timer::{Pacing, TickTimer};
 use log::Log;
 use std::sync::Wait;
 use std::thread::Threads;
 use std::time::Clock;
-use swim_handle::{Crew, IntoParts};
+use swim_handle::{Crew, IntoParts, Notifying, Resting};
 use swim_shell::{Alarm, Inbound, Outgoing, Receiver, Refusal, SendWorker, Ticker, WorkerEnd};
 
 /// The workers of an era, each with its caller, and control.

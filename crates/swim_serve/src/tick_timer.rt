@@ -1,10 +1,13 @@
-//! When ticks are due.
+//! When ticks are due, and the gate by which the ticker rests until then.
 
 ghost use Rattle.std.specs.Prelude.{◌≡◌, ◌+◌, ◌-◌, ◌*◌, ◌<◌, ◌≤◌, ◌↔◌, min, max, IsTrue, false};
 ghost use Rattle.std.specs.Prelude.{IfSome, IsSome};
 ghost use Rattle.std.specs.Duration.{as_nanos, max_nanos};
 
+use std::sync::Wait;
 use std::time::{Clock, Duration};
+use swim_handle::Pace;
+use swim_shell::{Gate, Turn};
 
 /// When ticks are due, from one era to the next: an era's end puts no tick off, and neither does what a tick takes. It also
 /// ends eras that are not full: after so many ticks of a life, twice as many, and so on. The peers that the member knows are
@@ -51,7 +54,7 @@ impl TickTimer {
     }
 
     /// Whether an era ends now for the ticks that were made; the next one does when there are twice as many.
-    pub(crate) fn ends_era(&mut self) -> bool
+    fn ends_era(&mut self) -> bool
         ensures yes { IsTrue result ↔ (self.old.end_at ≤ self.old.made) }
         ensures no { result ≡ false → self.new ≡ self.old }
         ensures next { IsTrue result → self.new ≡ record self.old {
@@ -98,7 +101,7 @@ impl TickTimer {
     }
 
     /// How long it is until a tick is due. A clock that cannot be read says a tick.
-    pub(crate) fn left<C: Clock>(&mut self, clock: &C) -> Duration
+    fn left<C: Clock>(&mut self, clock: &C) -> Duration
         ensures tick { self.new.tick ≡ self.old.tick }
         ensures era { (self.new.made ≡ self.old.made) × (self.new.end_at ≡ self.old.end_at) }
         ensures same { IfSome self.old.due (λ due. self.new.due ≡ Some due) }
@@ -110,7 +113,7 @@ impl TickTimer {
     }
 
     /// The tick that was due is made. One that is late by more than a tick puts the others off.
-    pub(crate) fn go_on<C: Clock>(&mut self, clock: &C)
+    fn go_on<C: Clock>(&mut self, clock: &C)
         ensures made { self.new.made ≡ min (self.old.made + 1) u64.MAX }
         ensures same { (self.new.tick ≡ self.old.tick) × (self.new.end_at ≡ self.old.end_at) }
     {
@@ -134,5 +137,43 @@ impl TickTimer {
         if let Some(due) = self.due {
             self.due = Some(due.saturating_sub(self.tick));
         }
+    }
+}
+
+/// Notifies the sender, and rests until a tick is due before its worker goes on, or until a worker ends. It stops its worker
+/// where so many ticks were made that an era is to end.
+#[derive(Drop)]
+pub struct Pacing<'a, R: Wait + Clock> {
+    rt: &'a R,
+    pace: &'a Pace,
+    timer: &'a mut TickTimer,
+}
+
+impl<'a, R: Wait + Clock> Pacing<'a, R> {
+    /// A gate that notifies once a tick.
+    pub fn new(rt: &'a R, pace: &'a Pace, timer: &'a mut TickTimer) -> Pacing<'a, R> {
+        Pacing { rt, pace, timer }
+    }
+}
+
+impl<'a, R: Wait + Clock> Gate for Pacing<'a, R> {
+    ghost use Rattle.std.specs.Prelude.{[]};
+
+    ghost tells = { ⊥ };
+
+    ghost turns = { λ _. [] };
+
+    fn turn(&mut self) -> Turn {
+        self.pace.notify();
+        if self.timer.ends_era() {
+            return Turn::Stop;
+        }
+        let left = self.timer.left(self.rt);
+        self.pace.rest(self.rt, left);
+        let turn = self.pace.turn();
+        if turn == Turn::Go {
+            self.timer.go_on(self.rt);
+        }
+        turn
     }
 }

@@ -6,8 +6,8 @@ use std::sync::Wait;
 use std::test::Fail;
 use std::thread::Threads;
 use std::time::{Clock, Duration, Instant};
-use swim_handle::{Crew, Pace};
-use swim_serve::{Job, Notifying, Pacing, Resting, Shutdown, TickTimer, serve};
+use swim_handle::{Crew, Notifying, Pace, Resting};
+use swim_serve::{Job, Pacing, Shutdown, TickTimer, serve};
 
 /// How often each test tries.
 const ROUNDS: u32 = 20;
