@@ -1,5 +1,5 @@
 -- By whom a member came to know somebody.
-use Rattle.std.specs.Prelude.{ℕ, ◌==◌, ◌&&◌, Bool, not, if◌then◌else◌, Option, Some, None}
+use Rattle.std.specs.Prelude.{ℕ, ◌==◌, ◌&&◌, Bool, not, if◌then◌else◌, Option, None}
 use Rattle.swim_node.specs.declared.entry.Status.{Status}
 
 -- the member holds nobody for alive or suspected

@@ -1,5 +1,5 @@
 -- What is read and written is what the stream below gives and takes.
-use Rattle.std.proofs.Common.{ℕ, List, refl, ◌∙◌, subst}
+use Rattle.std.proofs.Common.{ℕ, List, ◌∙◌, subst}
 use Rattle.std.specs.Prelude.{Option, Some, None, Result, Ok, Err}
 use Rattle.std.specs.Io.KnownBytes.{Keeps, WriteAppends}
 use Rattle.swim_shell.proofs.Writing.{keeps_same as keeps_same_bytes}

@@ -3,7 +3,7 @@ use Rattle.std.proofs.Common.{◌≡◌, ◌∙◌, ℕ, ◌≤◌, List, [], �
 use Rattle.std.proofs.lemmas.List.{append-nil}
 use Rattle.swim_disk.specs.Disk.{DiskState}
 use Rattle.swim_state.specs.declared.owner.Owner.{Owner}
-use Rattle.swim_state.specs.Held.{Covers, Held, HeldSince, Through}
+use Rattle.swim_state.specs.Held.{Covers, Held, Through}
 use Rattle.swim_node.specs.declared.entry.Entry.{Entry}
 use Rattle.swim_node.specs.History.{Base, granted_of}
 use Rattle.swim_node.specs.Node.{NodeView}
