@@ -18,14 +18,15 @@ use crate::shapes::SwimEndpoint;
 use arrayvec::ArrayVec;
 use swim_member::{Event, RECEIVED_MAX};
 
-/// The bytes of a datagram that a member looks at.
-fn kept_of(bytes: &[u8]) -> ArrayVec<u8, RECEIVED_MAX>
-    ensures { result.items ≡ first RECEIVED_MAX bytes.now }
+/// Puts the bytes of a datagram that a member looks at into its event, which has none yet. They are put where they stay: an event that
+/// is made around them moves as many as it has room for.
+#[inline(always)]
+fn put_bytes(event: &mut Event, bytes: &[u8])
+    ensures { (from : ℕ) → event.old ≡ Datagram from (record { items = [] })
+        → event.new ≡ Datagram from (record { items = first RECEIVED_MAX bytes.now }) }
 {
-    let mut kept = ArrayVec::new();
-    match kept.try_extend_from_slice(&bytes[..RECEIVED_MAX.min(bytes.len())]) {
-        Ok(()) => kept,
-        Err(_) => unreachable!(),
+    if let Event::Datagram { bytes: kept, .. } = event {
+        let _ = kept.try_extend_from_slice(&bytes[..RECEIVED_MAX.min(bytes.len())]);
     }
 }
 
@@ -123,8 +124,12 @@ pub extern "C" fn swim_library_receive(
         None if member.is_open() => code(Ok(())),
         None => code(Err(Refusal::Closed)),
         Some(from) => {
-            let bytes = kept_of(bytes);
-            enter(member, &Event::Datagram { from, bytes })
+            let mut event = Event::Datagram {
+                from,
+                bytes: ArrayVec::new(),
+            };
+            put_bytes(&mut event, bytes);
+            enter(member, &event)
         }
     }
 }
