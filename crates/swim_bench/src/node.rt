@@ -127,7 +127,7 @@ fn source_of(entry: &Entry) -> u32 {
 
 /// Where the last datagram of an entry went, or 0.
 fn target_of(entry: &Entry) -> u32 {
-    match entry.outs.last() {
+    match entry.outs.as_slice().last() {
         Some(sent) => sent.to.address(),
         None => 0,
     }
@@ -161,7 +161,7 @@ fn write_entry(entry: &Entry, out: &mut [u8])
     requires texts { HasTexts entry.now }
     requires room { SHOWN ≤ length out.old }
 {
-    write_all(&entry.outs, out);
+    write_all(entry.outs.as_slice(), out);
     if let Event::Datagram { bytes, .. } = &entry.event {
         copy(bytes, &mut out[512..1024]);
     }

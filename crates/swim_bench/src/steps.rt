@@ -43,7 +43,7 @@ fn turn_of(
     let granted = member.number();
     let judged = member.judge(event, read);
     member.act(event, judged, read, granted, answer);
-    write_all(&answer.outs, out)
+    write_all(answer.outs.as_slice(), out)
 }
 
 /// Answers the same ping in each turn, and answers how many datagrams were sent. The last one's text

@@ -11,7 +11,7 @@ ghost use Rattle.swim_group.specs.Real.{HasRun, HasSoundRun, IsReadable, IsNoEve
 use crate::fault::GroupFault;
 use crate::group::Group;
 use arrayvec::ArrayVec;
-use swim_member::{Event, Member, OUTS_MAX, Out};
+use swim_member::{Event, Member, OUTS_MAX, Out, Outs};
 use swim_wire::{Datagram, decode, encode};
 
 /// A copy of a datagram with its destination.
@@ -36,7 +36,7 @@ fn copy(out: &Out) -> Out
 }
 
 /// Keeps copies of datagrams as far as there is room. The rest is lost.
-pub(crate) fn keep(kept: &mut Vec<Out>, room: usize, outs: &ArrayVec<Out, OUTS_MAX>)
+pub(crate) fn keep(kept: &mut Vec<Out>, room: usize, outs: &Outs)
     requires within { length kept.old.items ≤ room }
     requires memory { vec_len kept.old + OUTS_MAX ≤ vec_capacity kept.old }
     ensures kept { kept.new.items ≡ take room (kept.old.items ++ outs.now.items) }

@@ -15,7 +15,7 @@ use swim_detect_group::{
     nodes_find_the_silent, nodes_have_causes, only_the_gone_are_suspected, stopped_are_found,
     suspected_were_accused,
 };
-use swim_member::{Answer, Deal, Event, Member, Out, Phase, Settings};
+use swim_member::{Answer, Deal, Event, Member, Out, Outs, Phase, Settings};
 use swim_node::{Entry, Reply, Save, Status, Tag};
 use swim_rules::Row;
 use swim_simulate::{Deadline, Lapse, Shadow, cause_at_tick, looks_keep_the_law};
@@ -221,8 +221,8 @@ fn the_deadline_is_when_the_silent_is_found(rt: HostRuntime) {
 fn entry_that_tells(event: Event, update: Update) -> Entry {
     let mut out = Out::default();
     let _ = out.datagram.updates.try_push(update);
-    let mut outs = ArrayVec::new();
-    let _ = outs.try_push(out);
+    let mut outs = Outs::new();
+    outs.push(&out);
     Entry {
         tag: Tag { caller: 0, turn: 0 },
         event,

@@ -1,5 +1,5 @@
 -- Ping-reqs for a probe that was not answered.
-use Rattle.std.proofs.Common.{◌≡◌, ℕ, zero, suc, ◌+◌, ◌≤◌, ◌&&◌, nat_lt, Bool, true, false, cond, not, refl, sym, ◌∙◌, ap, List, [], ◌∷◌, ◌++◌, map, take, drop, length, Option, Some, None, add-one, arith}
+use Rattle.std.proofs.Common.{◌≡◌, ℕ, zero, suc, ◌+◌, ◌≤◌, ◌&&◌, nat_lt, Bool, true, false, cond, not, refl, sym, ◌∙◌, ap, List, [], ◌∷◌, ◌++◌, map, take, drop, length, Option, Some, None, if◌then◌else◌, add-one, arith}
 use Rattle.std.specs.List.{filter, slice_get}
 use Rattle.std.proofs.lemmas.List.{map-append, take_all}
 use Rattle.swim_gossip.proofs.Falling.{take-again}
@@ -13,7 +13,7 @@ use Rattle.swim_member.specs.Events.{Ask, perform, each_from, outs}
 use Rattle.swim_member.specs.Probe.{ask, ask_one, helpers_about, is_at}
 use Rattle.swim_member.specs.Member.{is_eligible_name, row_name}
 use Rattle.swim_member.specs.Send.{send, datagram, carried_updates}
-use Rattle.swim_member.specs.Machinery.Steps.{apply, apply_all, after, outs_by, after_asks, outs_of_asks, open_probe, asked_probe, is_helper}
+use Rattle.swim_member.specs.Machinery.Steps.{apply, apply_all, after, outs_by, after_asks, outs_of_asks, open_probe, is_helper}
 
 rest-some : (xs : List ℕ) (k y : ℕ) (ys : List ℕ) → drop k xs ≡ y ∷ ys → (slice_get xs k ≡ Some y) × (drop (suc k) xs ≡ ys)
 rest-some [] zero y ys e = absurd (cc)
@@ -25,6 +25,10 @@ rest-none : (xs : List ℕ) (k : ℕ) → drop k xs ≡ [] → (slice_get xs k �
 rest-none [] k e = (refl, refl)
 rest-none (x ∷ xs) zero e = absurd (cc)
 rest-none (x ∷ xs) (suc k) e = rest-none xs k e
+
+-- the probe about which others are asked now, if there is one
+abbrev pub asked_probe : State → Option Probe
+asked_probe s = if is_at s s.settings.direct then open_probe s s.probe else None
 
 -- the k-th ping-req about this probe, if there is one
 abbrev ask_about : State → Option Probe → ℕ → List Change

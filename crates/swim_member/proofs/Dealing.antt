@@ -1,24 +1,18 @@
 -- Lists that are dealt: nobody stands in them twice.
-use Rattle.std.proofs.Common.{◌≡◌, ◌≢◌, ℕ, zero, suc, ◌+◌, ◌%◌, ◌<◌, ◌≤◌, ◌==◌, Bool, true, false, cond, refl, sym, ◌∙◌, ap, List, [], ◌∷◌, map, length, Option, Some, None, slice_get, take, get_or, ◌||◌, arith}
-use Rattle.std.specs.List.{filter, find, position_or_len, cons_option, list_any, IsDistinct, AllByRecursion, range_with_len}
-use Rattle.std.proofs.lemmas.Bool.{ne_eqb, eqb-true, eqb-false, false≢true}
-use Rattle.std.proofs.lemmas.Option.{slice_get-get_or, slice_get_past, slice_get_read}
-use Rattle.std.proofs.lemmas.List.{take_more, drop_more, take_all, length-drop, get_or-set_other}
-use Rattle.std.proofs.lemmas.List.Folds.{list_any-append, find_at}
-use Rattle.std.proofs.lemmas.Grind.{get_or-set_at}
+use Rattle.std.proofs.Common.{◌≡◌, ◌≢◌, ℕ, zero, suc, ◌+◌, ◌<◌, ◌≤◌, ◌==◌, Bool, true, false, cond, refl, sym, ◌∙◌, ap, List, [], ◌∷◌, map, length, Option, Some, None, slice_get, take, get_or, arith}
+use Rattle.std.specs.List.{filter, find, cons_option, IsDistinct, AllByRecursion}
+use Rattle.std.proofs.lemmas.Bool.{ne_eqb, eqb-false, false≢true}
+use Rattle.std.proofs.lemmas.Option.{slice_get_past, slice_get_read}
+use Rattle.std.proofs.lemmas.List.{drop_more, take_all, length-drop}
 use Rattle.std.specs.Slice.{IsItemAt}
 use Rattle.std.specs.Option.{option_copied, is_some}
-use Rattle.std.proofs.Common.{Bor, set, ◌-◌, ◌++◌, drop, append_assoc}
-use Rattle.std.proofs.lemmas.Nat.{mod_below}
-use Rattle.std.proofs.lemmas.List.FromFn.{length-map-range_with_len}
-use Rattle.std.proofs.lemmas.List.Elements.{All-from_recursion}
+use Rattle.std.proofs.Common.{Bor, ◌-◌, ◌++◌, drop, append_assoc}
 use Rattle.swim_rules.specs.declared.table.Row.{Row}
 use Rattle.swim_rules.specs.Rows.{is_eligible, AreAbove, AreInOrder}
 use Rattle.swim_rules.proofs.Tables.{order-above}
-use Rattle.swim_rules.specs.Deals.{IsDeal, deal_from}
 use Rattle.swim_member.specs.Member.{row_name}
 use Rattle.swim_member.specs.Turn.{dealt}
-use Rattle.swim_rules.proofs.Dealing.{another, none-twice}
+use Rattle.swim_rules.proofs.Dealing.{another}
 
 -- what a slice gives at a place
 pub copied-item : (xs : List ℕ) (i : ℕ) (r : Option (Bor ℕ)) → IsItemAt xs i r → option_copied r ≡ slice_get xs i
@@ -29,9 +23,9 @@ copied-item xs i (Some x) h = sym (slice_get_read xs (length xs) i x.now refl h.
 pub rest-whole : (place : ℕ) (xs : List ℕ) → take (length xs - place) (drop place xs) ≡ drop place xs
 rest-whole place xs = let short : length (drop place xs) ≡ length xs - place = length-drop place xs in take_all (length xs - place) (drop place xs) (omega arith)
 
--- what stands where the first one stands that passes
-pub copied-first : (p : ℕ → Bool) (xs : List ℕ) (place : ℕ) (r : Option (Bor ℕ)) → place ≡ position_or_len p xs → IsItemAt xs place r → option_copied r ≡ find p xs
-copied-first p xs place r e h = copied-item xs place r h ∙ ap (slice_get xs) e ∙ sym (find_at p xs)
+-- one that passes is the first of those from it on that does
+pub find-here : (p : ℕ → Bool) (xs : List ℕ) (i d : ℕ) → i < length xs → p (get_or xs i d) ≡ true → find p (drop i xs) ≡ Some (get_or xs i d)
+find-here p xs i d l h = ap (find p) (drop_more xs i d l) ∙ ap (λ b. cond b (Some (get_or xs i d)) (find p (drop (i + 1) xs))) h
 
 -- Lists that are dealt
 

@@ -11,7 +11,7 @@ use Rattle.swim_wire.specs.declared.update.UpdateKind.TheVariants.{Alive, Suspec
 use Rattle.swim_rules.specs.declared.table.Row.{Row}
 use Rattle.swim_rules.specs.declared.table.Heard.TheVariants.{Accepted, Kept}
 use Rattle.swim_rules.specs.Rules.{beats}
-use Rattle.swim_rules.specs.Rows.{Members, IsTable, AreInOrder, answer_to, heard_as, rows_after, hear_rows, put_row, remove_row, row_of, is_due, is_kind, confirm_of, due_confirm, due_to_forget, heard_row, remove_option}
+use Rattle.swim_rules.specs.Rows.{Members, IsTable, AreInOrder, answer_to, heard_as, rows_after, hear_rows, put_row, remove_row, row_of, is_due, is_kind, confirm_of, due_confirm, due_to_forget, heard_row, hear_option, remove_option}
 use Rattle.swim_rules.proofs.Changes.{found_here, found_other, hear-found}
 use Rattle.swim_gossip.specs.declared.buffer.Waiting.{Waiting}
 use Rattle.swim_gossip.specs.Queue.{Gossip, offered_queue, without, raise_all}
@@ -21,7 +21,8 @@ use Rattle.swim_member.specs.Checks.{rules_of}
 use Rattle.swim_member.specs.State.{State}
 use Rattle.swim_member.specs.Fit.{may_say, may_wait, may_stand}
 use Rattle.swim_member.proofs.Lows.{all-raised, all-without, say-offered, say-spoken, stand-put, stand-remove, low-found}
-use Rattle.swim_member.specs.Expiry.{expire_first}
+use Rattle.swim_member.specs.Events.{Forget, perform}
+use Rattle.swim_member.specs.Expiry.{expire_first, forget_first}
 use Rattle.swim_member.specs.Machinery.Steps.{apply_all, is_live, rows_heard}
 use Rattle.swim_member.specs.Machinery.Kept.{AllWait, IsKept, is_row}
 use Rattle.swim_member.proofs.Waits.{wait-put, wait-own, wait-room, wait-forgotten, wait-raised}
@@ -110,23 +111,32 @@ expired-row members now u e = by_row (find (is_due Suspect members.suspect now) 
     by_row None f k = absurd (cc)
     by_row (Some r) f k = record { row = r; found = f; update = cc }
 
-pub expired-accepted : (members : Members) (now : ℕ) (u : Update) → IsTable members → due_confirm members now ≡ Some u → answer_to members.rules members.rows u ≡ Accepted
+expired-accepted : (members : Members) (now : ℕ) (u : Update) → IsTable members → due_confirm members now ≡ Some u → answer_to members.rules members.rows u ≡ Accepted
 expired-accepted members now u h e =
     let x : ExpiredRow members now u = expired-row members now u e in
     ap (answer_to members.rules members.rows) (sym x.update) ∙ due-accepted members.rules members.suspect now members.rows x.row h.order x.found
 
-pub expired-other : (members : Members) (now : ℕ) (u : Update) → IsTable members → due_confirm members now ≡ Some u → u.who ≢ members.me
+expired-other : (members : Members) (now : ℕ) (u : Update) → IsTable members → due_confirm members now ≡ Some u → u.who ≢ members.me
 expired-other members now u h e k =
     let x : ExpiredRow members now u = expired-row members now u e in
     found_other (is_due Suspect members.suspect now) members.me members.rows x.row x.found h.others (ap (λ (v : Update). v.who) x.update ∙ k)
 
 -- its number is that of the row
-pub expired-low : (me : ℕ) (members : Members) (now : ℕ) (u : Update) → list_all (may_stand me) members.rows ≡ true → due_confirm members now ≡ Some u → u.number ≤ 2 ^ 62
+expired-low : (me : ℕ) (members : Members) (now : ℕ) (u : Update) → list_all (may_stand me) members.rows ≡ true → due_confirm members now ≡ Some u → u.number ≤ 2 ^ 62
 expired-low me members now u h e =
     let x : ExpiredRow members now u = expired-row members now u e in
     let low : x.row.update.number ≤ 2 ^ 62 = low-found me (is_due Suspect members.suspect now) members.rows x.row h x.found in
     let same : x.row.update.number ≡ u.number = ap (λ (v : Update). v.number) x.update in
     omega arith
+
+-- a Suspect expires
+pub keep-expired : (s : Settings) (n t : ℕ) (members after : Members) (b : Gossip) (made : List Relay) (u : Update) → due_confirm members t ≡ Some u → after ≡ record members { rows = hear_option members.rules members.rows (due_confirm members t) t } → IsTable after → IsKept s n t members b made → IsKept s n t after (record b { queue = offered_queue b.queue u }) made
+keep-expired s n t members after b made u e k table h =
+    keep-heard s n t members after b made u t (λ i. expired-other members t u h.table e (i ∙ sym h.me)) (expired-low s.me members t u h.stand e) (expired-accepted members t u h.table e)
+    (k ∙ ap (λ o. record members { rows = hear_option members.rules members.rows o t }) e) table h
+
+pub room-expired : (s : Settings) (n t : ℕ) (members after : Members) (b : Gossip) (made : List Relay) (u : Update) → due_confirm members t ≡ Some u → after ≡ record members { rows = hear_option members.rules members.rows (due_confirm members t) t } → IsTable after → IsKept s n t members b made → length (without u.who b.queue) < 257
+room-expired s n t members after b made u e k table h = wait-room s.me after.rows b.queue u (IsKept.wait (keep-expired s n t members after b made u e k table h)) table.most
 
 -- the state after a Suspect expired
 pub expired-state : (s : State) (members after : Members) (queue : List Waiting) (u : Update) → members.rows ≡ s.rows → members.rules ≡ rules_of s.settings → members.suspect ≡ s.settings.suspect → IsTable members → due_confirm members s.time ≡ Some u → after.rows ≡ hear_rows members.rules members.rows u s.time → queue ≡ offered_queue s.queue u → record s { rows = after.rows; queue = queue } ≡ apply_all (expire_first (find (is_due Suspect s.settings.suspect s.time) s.rows)) s
@@ -142,6 +152,15 @@ expired-state s members after queue u same by_rules ticks h e k q =
     ap (λ rows. record s { rows = rows; queue = queue }) heard
     ∙ ap (λ w. record s { rows = rows_heard s (confirm_of x.row); queue = w }) (q ∙ ap (offered_queue s.queue) (sym x.update))
     ∙ ap (λ o. apply_all (expire_first o) s) (sym found)
+
+-- where no row is due, what is done with the first that is due is what is done with none
+pub nothing-due : {A Done : Type 0} (f : Row → A) (done : Option Row → Done) (kind : UpdateKind) (ticks wanted now : ℕ) (rows : List Row) → ticks ≡ wanted → option_map f (find (is_due kind ticks now) rows) ≡ None → done (find (is_due kind wanted now) rows) ≡ done None
+nothing-due f done kind ticks wanted now rows same e =
+    ap (λ n. done (find (is_due kind n now) rows)) (sym same) ∙ ap done (none (find (is_due kind ticks now) rows) e)
+  where
+    none : (o : Option Row) → option_map f o ≡ None → o ≡ None
+    none None k = refl
+    none (Some r) k = absurd (cc)
 
 -- the row that was forgotten
 pub record ForgottenRow (members : Members) (now x : ℕ) : Type 0 where
@@ -182,6 +201,18 @@ keep-forgotten s n t members after b made now x e k table h =
       say = all-without (may_say s.me n) x b.queue h.say;
       live = h.live;
     }
+
+-- the state after it was forgotten
+pub forgotten-state : (s : State) (members after : Members) (queue : List Waiting) (x : ℕ) → members.rows ≡ s.rows → members.forget ≡ s.settings.forget → due_to_forget members s.time ≡ Some x → after ≡ record members { rows = remove_option members.rows (due_to_forget members s.time) } → queue ≡ without x s.queue → record s { rows = after.rows; queue = queue } ≡ apply_all (perform s Forget) s
+forgotten-state s members after queue x same ticks e k q =
+    let f : ForgottenRow members s.time x = forgotten-row members s.time x e in
+    let found : find (is_due Confirm s.settings.forget s.time) s.rows ≡ Some f.row =
+    ap (λ n. find (is_due Confirm n s.time) s.rows) (sym ticks) ∙ ap (λ rows. find (is_due Confirm members.forget s.time) rows) (sym same) ∙ f.found in
+    let rows : after.rows ≡ remove_row s.rows f.row.update.who =
+    ap (λ (m : Members). m.rows) k ∙ ap (remove_option members.rows) e ∙ ap (λ rows. remove_row rows x) same ∙ ap (remove_row s.rows) (sym f.name) in
+    ap (λ rows. record s { rows = rows; queue = queue }) rows
+    ∙ ap (λ w. record s { rows = remove_row s.rows f.row.update.who; queue = w }) (q ∙ ap (λ y. without y s.queue) (sym f.name))
+    ∙ ap (λ o. apply_all (forget_first o) s) (sym found)
 
 -- other relays, all of them live at this time
 pub keep-made : (s : Settings) (n t now : ℕ) (members : Members) (b : Gossip) (made left : List Relay) → now ≤ 2 ^ 62 → filter (is_live now s.period) left ≡ left → IsKept s n t members b made → IsKept s n now members b left

@@ -10,6 +10,7 @@ pub mod Examples
 pub mod Asking
 pub mod Dealing
 pub mod Turning
+pub mod Moments
 pub mod Ticking
 pub mod Undealt
 pub mod Showing

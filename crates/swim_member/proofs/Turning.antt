@@ -1,9 +1,8 @@
 -- What a look for a target changes: the turn goes on or begins anew, and then the target is pinged.
-use Rattle.std.proofs.Common.{◌≡◌, ℕ, ◌+◌, ◌%◌, true, ap, sym, ◌∙◌, refl, List, [], ◌∷◌, ◌++◌, Option, Some, None}
+use Rattle.std.proofs.Common.{◌≡◌, ℕ, ◌+◌, ap, sym, refl, List, [], ◌∷◌, ◌++◌, Option, Some, None}
 use Rattle.swim_member.specs.State.{State, Change, Looked}
 use Rattle.swim_member.specs.Events.{outs, notes}
-use Rattle.std.proofs.lemmas.Bool.{eq-eqb}
-use Rattle.swim_member.specs.Probe.{is_at, probe_of}
+use Rattle.swim_member.specs.Probe.{probe_of}
 use Rattle.swim_member.specs.Turn.{next_listed, passed_over, eligible_names, dealt, begin_turn, take_turn, look}
 use Rattle.swim_member.specs.Machinery.Steps.{apply_all}
 use Rattle.swim_member.specs.Machinery.Turns.{target, target_of, turned, turned_by}
@@ -20,6 +19,17 @@ notes-look s deal = by_next (next_listed s)
     begun (x ∷ names) = refl
 
     by_next : (o : Option ℕ) → notes (looked s (take_turn s deal o)) ≡ []
+    by_next (Some x) = refl
+    by_next None = begun (dealt (eligible_names s) deal)
+
+pub time-look : (s : State) (deal : List ℕ) → (apply_all (look s deal) s).time ≡ s.time
+time-look s deal = by_next (next_listed s)
+  where
+    begun : (made : List ℕ) → (apply_all (looked s (begin_turn s made)) s).time ≡ s.time
+    begun [] = refl
+    begun (x ∷ names) = refl
+
+    by_next : (o : Option ℕ) → (apply_all (looked s (take_turn s deal o)) s).time ≡ s.time
     by_next (Some x) = refl
     by_next None = begun (dealt (eligible_names s) deal)
 
@@ -83,10 +93,6 @@ turned-number s deal = by_next (next_listed s)
     by_next : (o : Option ℕ) → (turned_by s o (dealt (eligible_names s) deal)).number ≡ s.number
     by_next None = refl
     by_next (Some x) = refl
-
--- a look is due
-pub now-due : (t s : State) → t ≡ s → t.time % t.settings.period ≡ 0 → is_at s 0 ≡ true
-now-due t s e h = ap (λ (x : State). is_at x 0) (sym e) ∙ eq-eqb (t.time % t.settings.period) 0 h
 
 -- the turn came to the next listed member
 pub turned-next : (s : State) (deal : List ℕ) (x : ℕ) → next_listed s ≡ Some x → record s { place = s.place + (passed_over s + 1) } ≡ turned s deal

@@ -1,31 +1,26 @@
 -- A tick that ends no period does the same, whatever it deals.
 use Rattle.std.proofs.Common.{◌≡◌, ℕ, zero, suc, ◌+◌, ◌%◌, ◌==◌, Bool, true, false, cond, refl, sym, ◌∙◌, ap, List, [], ◌∷◌, ◌++◌, replicate, Option, Some, None}
 use Rattle.std.specs.List.{find}
-use Rattle.swim_rules.specs.declared.table.Heard.{Heard as Hearing}
-use Rattle.swim_rules.specs.declared.table.Heard.TheVariants.{Accepted}
 use Rattle.swim_rules.specs.declared.table.Row.{Row}
-use Rattle.swim_rules.specs.Rows.{answer_to, is_kind, is_due, row_of}
-use Rattle.swim_wire.specs.declared.update.Update.{Update}
-use Rattle.swim_wire.specs.declared.update.UpdateKind.TheVariants.{Alive, Suspect, Confirm}
+use Rattle.swim_rules.specs.Rows.{is_due}
+use Rattle.swim_wire.specs.declared.update.UpdateKind.TheVariants.{Suspect, Confirm}
 use Rattle.swim_member.specs.declared.event.Event.TheVariants.{Tick}
 use Rattle.swim_member.specs.Judged as judged
 use Rattle.swim_member.specs.declared.note.Note.TheVariants as note
 use Rattle.swim_member.specs.declared.settings.Settings.{Settings}
 use Rattle.swim_member.specs.declared.state.Phase.{Phase}
 use Rattle.swim_member.specs.declared.state.Phase.TheVariants.{Running, Left, Expelled}
-use Rattle.swim_member.specs.declared.state.Probe.{Probe}
 use Rattle.swim_member.specs.declared.tick.TheConstants.{LAST_TIME}
-use Rattle.swim_member.specs.Checks.{rules_of}
 use Rattle.swim_member.specs.Events.{Action, Advance, Expire, Forget, Blame, Probe_next, Ask, perform, actions_of, each_from, Step, state_of, answer_in, tick_with, DealIsOfNoMatter}
 use Rattle.swim_member.specs.Expiry.{expire_first, forget_first}
-use Rattle.swim_member.specs.Hearing.{heard_with, hear_other}
 use Rattle.swim_member.specs.Judge.{judge_in}
-use Rattle.swim_member.specs.Probe.{blame, suspect_target, suspect_of, is_at, ends_period}
+use Rattle.swim_member.specs.Probe.{blame, is_at, ends_period}
 use Rattle.swim_member.specs.State.{State}
 use Rattle.swim_member.specs.Turn.{look}
 use Rattle.swim_member.specs.Machinery.Steps.{apply_all, changes_from, step_news, after}
 use Rattle.swim_member.proofs.Actions.{after-append, settings-apply_all, settings-after, news-append}
 use Rattle.swim_member.proofs.Logs.{answer-step, state_of-snoc}
+use Rattle.swim_member.proofs.Ticking.{time-blamed}
 
 -- Time goes on by nothing but its advance
 
@@ -43,29 +38,12 @@ time-forget s = by_row (find (is_due Confirm s.settings.forget s.time) s.rows)
     by_row None = refl
     by_row (Some r) = refl
 
-time-heard_with : (s : State) (h : Hearing) (u : Update) → (apply_all (heard_with h u) s).time ≡ s.time
-time-heard_with s Accepted u = refl
-time-heard_with s _ u = refl
-
 time-blame : (s : State) → (apply_all (perform s Blame) s).time ≡ s.time
-time-blame s = at (is_at s 0) s.probe
+time-blame s = at (is_at s 0)
   where
-    of_kind : (r : Row) (b : Bool) → (apply_all (cond b (hear_other s (suspect_of r)) []) s).time ≡ s.time
-    of_kind r true = time-heard_with s (answer_to (rules_of s.settings) s.rows (suspect_of r)) (suspect_of r)
-    of_kind r false = refl
-
-    of_row : (o : Option Row) → (apply_all (suspect_target s o) s).time ≡ s.time
-    of_row None = refl
-    of_row (Some r) = of_kind r (is_kind Alive r.update.kind)
-
-    of_answer : (q : Probe) (b : Bool) → (apply_all (cond b [] (suspect_target s (row_of s.rows q.target))) s).time ≡ s.time
-    of_answer q true = refl
-    of_answer q false = of_row (row_of s.rows q.target)
-
-    at : (b : Bool) (o : Option Probe) → (apply_all (cond b (blame s o) []) s).time ≡ s.time
-    at false o = refl
-    at true None = refl
-    at true (Some q) = of_answer q q.answered
+    at : (b : Bool) → (apply_all (cond b (blame s s.probe) []) s).time ≡ s.time
+    at false = refl
+    at true = time-blamed s
 
 time-replicate : (m : Action) → ((s : State) → (apply_all (perform s m) s).time ≡ s.time) → (n : ℕ) (s : State) → (after s (replicate n m)).time ≡ s.time
 time-replicate m h zero s = refl

@@ -1,15 +1,12 @@
 //! What a step answers. It is lent downwards: whoever has something to say says it there.
 
-ghost use Rattle.std.specs.Prelude.{◌≡◌, ◌<◌, ◌≤◌, [], ◌∷◌, ◌++◌, length, map, slice_index_or, slice_set};
-ghost use Rattle.swim_gossip.specs.Queue.{picked_updates, raise_all};
-ghost use Rattle.swim_member.specs.declared.answer.Out.{Out as Outs};
+ghost use Rattle.std.specs.Prelude.{◌≡◌, ◌<◌, [], ◌∷◌, ◌++◌, length};
 ghost use Rattle.swim_member.specs.Events.{no_answer};
-ghost use Rattle.swim_member.specs.Machinery.Adding.{carrying};
 
 use crate::note::Note;
+use crate::send::Outs;
 use crate::settings::HELPERS_MAX;
 use arrayvec::ArrayVec;
-use swim_gossip::{Buffer, Visits};
 use swim_wire::{Datagram, Endpoint, Kind, Rules, UPDATES_MAX, Update};
 
 /// The most datagrams that a step sends: `helpers + 2`, at the most helpers.
@@ -50,30 +47,11 @@ impl Default for Out {
     }
 }
 
-/// Puts what waits into a datagram that carries nothing yet.
-fn fill(outs: &mut [Out], at: usize, buffer: &mut Buffer, limit: u32)
-    requires at { at < length outs.old }
-    requires empty { (o : Outs) → (slice_index_or outs.old at o).datagram.updates.items ≡ [] }
-    requires limit { limit ≤ buffer.old.most }
-    ensures outs { (o : Outs) → outs.new ≡ slice_set outs.old at (carrying
-        (slice_index_or outs.old at o) (picked_updates limit UPDATES_MAX buffer.old.queue)) }
-    ensures counted { buffer.new ≡ record buffer.old {
-      queue = map (raise_all (picked_updates limit UPDATES_MAX buffer.old.queue)) buffer.old.queue;
-    } }
-{
-    buffer.pick_into(
-        limit,
-        UPDATES_MAX,
-        &mut outs[at].datagram.updates,
-        &mut Visits::new(),
-    );
-}
-
 /// What a step gives.
 #[derive(Drop)]
 pub struct Answer {
     /// What is sent, in order.
-    pub outs: ArrayVec<Out, OUTS_MAX>,
+    pub outs: Outs,
     /// What is taken note of, in order.
     pub notes: ArrayVec<Note, NOTES_MAX>,
     /// The updates that are shown, in the order of their members.
@@ -86,7 +64,7 @@ impl Answer {
         ensures { result ≡ no_answer }
     {
         Answer {
-            outs: ArrayVec::new(),
+            outs: Outs::new(),
             notes: ArrayVec::new(),
             page: ArrayVec::new(),
         }
@@ -102,33 +80,13 @@ impl Answer {
     }
 
     /// Sends a datagram, after those before it.
-    pub(crate) fn send(&mut self, out: Out)
+    pub(crate) fn send(&mut self, out: &Out)
         requires { length self.old.outs.items < OUTS_MAX }
-        ensures outs { self.new.outs.items ≡ self.old.outs.items ++ out ∷ [] }
+        ensures outs { self.new.outs.items ≡ self.old.outs.items ++ out.now ∷ [] }
         ensures notes { self.new.notes ≡ self.old.notes }
         ensures page { self.new.page ≡ self.old.page }
     {
         self.outs.push(out);
-    }
-
-    /// Sends a datagram, after those before it, with what waits. The updates are put where they are sent from, since a list
-    /// that is given is moved.
-    pub(crate) fn send_picked(&mut self, out: Out, buffer: &mut Buffer, limit: u32)
-        requires room { length self.old.outs.items < OUTS_MAX }
-        requires empty { out.datagram.updates.items ≡ [] }
-        requires limit { limit ≤ buffer.old.most }
-        ensures outs { self.new.outs.items ≡ self.old.outs.items
-            ++ carrying out (picked_updates limit UPDATES_MAX buffer.old.queue) ∷ [] }
-        ensures notes { self.new.notes ≡ self.old.notes }
-        ensures page { self.new.page ≡ self.old.page }
-        ensures counted { buffer.new ≡ record buffer.old {
-          queue = map (raise_all (picked_updates limit UPDATES_MAX buffer.old.queue))
-              buffer.old.queue;
-        } }
-    {
-        let at = self.outs.len();
-        self.send(out);
-        fill(&mut self.outs, at, buffer, limit);
     }
 
     /// Takes a note, after those before it.

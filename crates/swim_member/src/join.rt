@@ -102,7 +102,7 @@ impl Member {
         let mut updates = ArrayVec::new();
         updates.push(self.own());
         self.joining = Some(Joining { peer, seq, cursor });
-        answer.send(Out {
+        answer.send(&Out {
             to: peer,
             datagram: Datagram {
                 version: self.settings.rules_of(),
@@ -138,7 +138,7 @@ impl Member {
             (outs (on_join self.now join.now)) 1 (notes (on_join self.now join.now)) }
     {
         let updates = self.page_after(join.subject);
-        answer.send(Out {
+        answer.send(&Out {
             to: join.sender,
             datagram: Datagram {
                 version: self.settings.rules_of(),

@@ -4,7 +4,6 @@
 
 mod answer;
 mod event;
-mod expiry;
 mod hearing;
 mod join;
 mod judge;
@@ -15,7 +14,6 @@ mod own_number;
 mod probe;
 mod receive;
 mod relay;
-mod reply;
 mod resume;
 mod send;
 mod settings;
@@ -31,6 +29,7 @@ pub use member::{Member, RELAYS_MAX};
 pub use note::Note;
 pub use own_number::OwnNumber;
 pub use resume::{MemberState, ResumeFault};
+pub use send::Outs;
 pub use settings::{BLOCK_MAX, HELPERS_MAX, Settings, SettingsFault};
 pub use state::{Counts, Joining, Phase, Probe, Relay};
 pub use swim_rules::Deal;

@@ -1,14 +1,15 @@
 //! The probe (SWIM, section 3.1): its target is pinged, others are asked about one that does not answer, and
 //! at the end of the period it is suspected (SWIM, section 4.2).
 
-ghost use Rattle.std.specs.Prelude.{◌≡◌, ◌<◌, ◌≤◌, ◌+◌, ◌++◌, nat_lt, map, take, length, []};
+ghost use Rattle.std.specs.Prelude.{◌≡◌, ◌<◌, ◌≤◌, ◌+◌, ◌++◌, nat_lt, map, take, length, [], true};
 ghost use Rattle.std.specs.List.{filter};
-ghost use Rattle.swim_rules.specs.Rows.{is_eligible, row_of};
+ghost use Rattle.swim_rules.specs.Rows.{is_eligible};
 ghost use Rattle.swim_member.specs.declared.answer.TheConstants.{OUTS_MAX};
 ghost use Rattle.swim_member.specs.Member.{row_name};
-ghost use Rattle.swim_member.specs.Probe.{suspect_of, suspect_target, probe_of};
-ghost use Rattle.swim_member.specs.Events.{Blame, Probe_next, Ask, each_from, perform, outs, notes};
-ghost use Rattle.swim_member.specs.Machinery.Steps.{apply_all, after, outs_by, is_helper, after_asks, outs_of_asks, asked_probe};
+ghost use Rattle.swim_member.specs.Probe.{suspect_of, is_at, blame};
+ghost use Rattle.swim_member.specs.Turn.{look};
+ghost use Rattle.swim_member.specs.Events.{Ask, each_from, outs, notes};
+ghost use Rattle.swim_member.specs.Machinery.Steps.{apply_all, after, outs_by, is_helper, after_asks, outs_of_asks, open_probe};
 ghost use Rattle.swim_member.specs.Machinery.Adding.{Adds, HasRoom};
 
 use crate::answer::Answer;
@@ -81,46 +82,39 @@ fn helpers_about(rows: &[Row], target: Endpoint, most: usize) -> ArrayVec<Endpoi
 }
 
 impl Member {
-    /// Suspects a member whose row is Alive.
-    fn suspect(&mut self, who: Endpoint, answer: &mut Answer)
+    /// At the end of a period, suspects the target of a probe that was not answered, if its row is Alive.
+    #[inline(never)]
+    pub(crate) fn blame(&mut self, answer: &mut Answer)
         requires { HasRoom answer.old }
-        ensures state { self.new
-            ≡ apply_all (suspect_target self.old (row_of self.old.rows who)) self.old }
+        ensures state { self.new ≡ apply_all (blame self.old self.old.probe) self.old }
         ensures answer { Adds self.old self.new answer.old answer.new [] 0
-            (notes (suspect_target self.old (row_of self.old.rows who))) }
+            (notes (blame self.old self.old.probe)) }
     {
-        if let Some(row) = self.table.get(who) {
+        let Some(probe) = self.probe else {
+            return;
+        };
+        if probe.answered {
+            return;
+        }
+        if let Some(row) = self.table.get(probe.target) {
             if row.update.kind == UpdateKind::Alive {
                 self.hear_other(&suspect_of(&row), answer);
             }
         }
     }
 
-    /// At the end of a period, suspects the target of a probe that was not answered.
+    /// At the end of a period, begins a probe of the member to which the turn comes, by a ping.
     #[inline(never)]
-    pub(crate) fn blame(&mut self, answer: &mut Answer)
-        requires { HasRoom answer.old }
-        ensures state { self.new ≡ apply_all (perform self.old Blame) self.old }
-        ensures answer { Adds self.old self.new answer.old answer.new [] 0
-            (notes (perform self.old Blame)) }
-    {
-        if self.time % self.settings.period != 0 {
-            return;
-        }
-        if let Some(probe) = self.probe {
-            if !probe.answered {
-                self.suspect(probe.target, answer);
-            }
-        }
-    }
-
-    /// Begins a probe of a member by a ping.
-    fn begin_probe(&mut self, target: Endpoint, answer: &mut Answer)
+    pub(crate) fn probe_next(&mut self, deal: &Deal, answer: &mut Answer)
         requires { length answer.old.outs.items < OUTS_MAX }
-        ensures state { self.new ≡ apply_all (probe_of self.old target) self.old }
+        ensures state { self.new ≡ apply_all (look self.old deal.now) self.old }
         ensures answer { Adds self.old self.new answer.old answer.new
-            (outs (probe_of self.old target)) 1 [] }
+            (outs (look self.old deal.now)) 1 [] }
     {
+        let Some(target) = self.take_turn(deal) else {
+            self.probe = None;
+            return;
+        };
         let seq = self.take_seq();
         self.probe = Some(Probe {
             target,
@@ -130,31 +124,10 @@ impl Member {
         self.send(target, Kind::Ping, seq, target, answer);
     }
 
-    /// At the end of a period, pings the member to which the turn comes.
-    #[inline(never)]
-    pub(crate) fn probe_next(&mut self, deal: &Deal, answer: &mut Answer)
-        requires { length answer.old.outs.items < OUTS_MAX }
-        ensures state { self.new ≡ apply_all (perform self.old (Probe_next deal.now)) self.old }
-        ensures answer { Adds self.old self.new answer.old answer.new
-            (outs (perform self.old (Probe_next deal.now))) 1 [] }
+    /// The probe, where it is not answered and its target is Alive or Suspect.
+    fn open_probe(&self) -> Option<Probe>
+        ensures { result ≡ open_probe self.now self.now.probe }
     {
-        if self.time % self.settings.period != 0 {
-            return;
-        }
-        match self.take_turn(deal) {
-            None => self.probe = None,
-            Some(target) => self.begin_probe(target, answer),
-        }
-    }
-
-    /// The probe about which others are asked now, if there is one: `direct` ticks into a period, and
-    /// not answered.
-    fn asking(&self) -> Option<Probe>
-        ensures { result ≡ asked_probe self.now }
-    {
-        if self.time % self.settings.period != self.settings.direct {
-            return None;
-        }
         match self.probe {
             Some(probe) if !probe.answered && self.is_eligible(probe.target) => Some(probe),
             _ => None,
@@ -173,15 +146,16 @@ impl Member {
         }
     }
 
-    /// Where the moment has come, asks other members to ping a target that did not answer.
+    /// `direct` ticks into a period, asks other members to ping a target that did not answer.
     #[inline(never)]
     pub(crate) fn ask_all(&mut self, answer: &mut Answer)
-        requires { length answer.old.outs.items ≤ 2 }
+        requires moment { is_at self.old self.old.settings.direct ≡ true }
+        requires room { length answer.old.outs.items ≤ 2 }
         ensures state { self.new ≡ after self.old (each_from 0 HELPERS_MAX (λ k. Ask k)) }
         ensures answer { Adds self.old self.new answer.old answer.new
             (outs_by self.old (each_from 0 HELPERS_MAX (λ k. Ask k))) self.old.settings.helpers [] }
     {
-        if let Some(probe) = self.asking() {
+        if let Some(probe) = self.open_probe() {
             let helpers = helpers_about(self.table.rows(), probe.target, self.settings.helpers);
             self.ask_each(&probe, &helpers, answer);
         }

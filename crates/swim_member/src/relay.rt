@@ -2,12 +2,12 @@
 //! ack that it waits for is passed on.
 
 ghost use Rattle.std.specs.Prelude.{◌≡◌, ◌≢◌, ◌<◌, length};
-ghost use Rattle.std.specs.List.{find, filter};
+ghost use Rattle.std.specs.List.{find};
 ghost use Rattle.swim_member.specs.declared.member.TheConstants.{RELAYS_MAX};
 ghost use Rattle.swim_member.specs.Readings.{is_relay, without_relay};
 ghost use Rattle.swim_member.specs.Relay.{on_ping_req, relay_ping, on_other_ack, is_for, is_answered};
 ghost use Rattle.swim_member.specs.Events.{outs, notes};
-ghost use Rattle.swim_member.specs.Machinery.Steps.{apply_all, relay_place, is_live};
+ghost use Rattle.swim_member.specs.Machinery.Steps.{apply_all, relay_place};
 ghost use Rattle.swim_member.specs.Machinery.Adding.{Adds, HasRoom};
 
 use crate::answer::Answer;
@@ -74,13 +74,6 @@ fn remove_relay(relays: &mut ArrayVec<Relay, RELAYS_MAX>, relay: &Relay)
     if place < relays.len() {
         relays.remove(place);
     }
-}
-
-/// Keeps the relays that were made less than a period ago.
-pub(crate) fn keep_live(relays: &mut ArrayVec<Relay, RELAYS_MAX>, now: u64, period: u64)
-    ensures { relays.new.items ≡ filter (is_live now period) relays.old.items }
-{
-    relays.retain(|relay| now.saturating_sub(relay.made) < period);
 }
 
 impl Member {

@@ -467,6 +467,7 @@ impl Member {
             number: state.number,
             phase: state.phase,
             time: state.time,
+            moment: state.time % settings.period,
             table,
             buffer: Buffer::with_queue(state.queue, settings.lambda * 9),
             seq: state.seq,

@@ -1,6 +1,6 @@
 //! Datagrams that are sent, with what they carry.
 
-ghost use Rattle.std.specs.Prelude.{◌≡◌, ◌*◌, ◌<◌, ◌≤◌, [], ◌∷◌, true, map, length};
+ghost use Rattle.std.specs.Prelude.{◌≡◌, ◌*◌, ◌<◌, ◌≤◌, [], ◌∷◌, ◌++◌, true, map, length};
 ghost use Rattle.std.specs.List.{filter, list_all};
 ghost use Rattle.swim_member.specs.Fit.{may_say};
 ghost use Rattle.swim_rules.specs.Rows.{is_eligible};
@@ -13,10 +13,102 @@ ghost use Rattle.swim_member.specs.Machinery.Steps.{apply};
 ghost use Rattle.swim_member.specs.Machinery.Adding.{Adds};
 ghost use Rattle.swim_member.specs.declared.answer.TheConstants.{OUTS_MAX};
 
-use crate::answer::{Answer, Out};
+use crate::answer::{Answer, OUTS_MAX, Out};
 use crate::member::Member;
-use arrayvec::ArrayVec;
-use swim_wire::{Cursor, Datagram, Endpoint, Kind};
+use std::marker::Model;
+use swim_gossip::Visits;
+use swim_wire::{Cursor, Endpoint, Kind, UPDATES_MAX};
+
+/// The datagrams of a step, in order. A place keeps what was once written there, and the next datagram is written over it: a
+/// datagram has 752 bytes, of which one without updates needs 32.
+#[derive(Drop)]
+pub struct Outs {
+    places: [Out; OUTS_MAX],
+    len: usize,
+}
+
+impl Model for Outs {
+    ghost use Rattle.std.specs.Prelude.{◌≡◌, ◌≤◌, length, take};
+    ghost use Rattle.arrayvec.specs.ArrayVec.{ArrayVec};
+    ghost use Rattle.swim_member.specs.declared.answer.Out.{Out};
+    ghost use Rattle.swim_member.specs.declared.answer.TheConstants.{OUTS_MAX};
+
+    ghost Value = { ArrayVec Out };
+
+    ghost view = { λ o. record { items = take o.len o.places } };
+
+    ghost invariant = { λ o. (o.len ≤ OUTS_MAX) × (length o.places ≡ OUTS_MAX) };
+}
+
+impl Outs {
+    /// No datagram.
+    pub fn new() -> Outs
+        ensures { result.items ≡ [] }
+    {
+        Outs {
+            places: Default::default(),
+            len: 0,
+        }
+    }
+
+    /// How many there are.
+    pub fn len(&self) -> usize
+        ensures value { result ≡ length self.now.items }
+        ensures fits { result ≤ OUTS_MAX }
+    {
+        self.len
+    }
+
+    /// The datagrams, in order.
+    pub fn as_slice(&self) -> &[Out]
+        ensures value { result.now ≡ self.now.items }
+        ensures fits { length result.now ≤ OUTS_MAX }
+    {
+        &self.places[..self.len]
+    }
+
+    /// Takes back all of them.
+    pub fn clear(&mut self)
+        ensures { self.new.items ≡ [] }
+    {
+        self.len = 0;
+    }
+
+    /// Adds the same datagram, after those before it.
+    pub fn push(&mut self, out: &Out)
+        requires { length self.old.items < OUTS_MAX }
+        ensures { self.new.items ≡ self.old.items ++ out.now ∷ [] }
+    {
+        write_over(&mut self.places[self.len], out);
+        self.len += 1;
+    }
+
+    /// Holds the same datagrams as another list from now on.
+    pub fn copy_from(&mut self, other: &Outs)
+        ensures { self.new.items ≡ other.now.items }
+    {
+        self.clear();
+        for out in other.as_slice() {
+            self.push(out);
+        }
+    }
+}
+
+/// Makes a place hold the same datagram. Of its updates no more is written than there are, here or there.
+fn write_over(place: &mut Out, out: &Out)
+    ensures { place.new ≡ out.now }
+{
+    let (there, datagram) = (&mut place.datagram, &out.datagram);
+    place.to = out.to;
+    there.version = datagram.version;
+    there.kind = datagram.kind;
+    there.group = datagram.group;
+    there.seq = datagram.seq;
+    there.sender = datagram.sender;
+    there.subject = datagram.subject;
+    there.updates.clear();
+    let _ = there.updates.try_extend_from_slice(&datagram.updates);
+}
 
 /// The number of binary digits of `n`.
 fn bits_of(n: usize) -> u32
@@ -46,14 +138,6 @@ fn bits_of(n: usize) -> u32
 }
 
 impl Member {
-    /// How often an update is sent.
-    fn limit(&self) -> u32
-        ensures value { result ≡ limit self.now }
-        ensures bound { result ≤ self.now.settings.lambda * 9 }
-    {
-        self.settings.lambda * bits_of(1 + self.table.count())
-    }
-
     /// Takes the next sequence.
     pub(crate) fn take_seq(&mut self) -> u32
         ensures seq { result ≡ self.old.seq }
@@ -64,7 +148,8 @@ impl Member {
         seq
     }
 
-    /// Sends a ping, a ping-req or an ack, with what waits.
+    /// Sends a ping, a ping-req or an ack, with what waits. It is written over the next place, in each field: a datagram that
+    /// is given is moved.
     pub(crate) fn send(
         &mut self,
         to: Endpoint,
@@ -81,19 +166,23 @@ impl Member {
     {
         // so what is sent has a text
         subject.is_above_zero();
-        let limit = self.limit();
-        let out = Out {
-            to,
-            datagram: Datagram {
-                version: self.settings.rules_of(),
-                kind,
-                group: self.settings.group,
-                seq,
-                sender: self.settings.me,
-                subject: Cursor::at(subject),
-                updates: ArrayVec::new(),
-            },
-        };
-        answer.send_picked(out, &mut self.buffer, limit);
+        let limit = self.settings.lambda * bits_of(1 + self.table.count());
+        let outs = &mut answer.outs;
+        let place = &mut outs.places[outs.len];
+        place.to = to;
+        place.datagram.version = self.settings.rules_of();
+        place.datagram.kind = kind;
+        place.datagram.group = self.settings.group;
+        place.datagram.seq = seq;
+        place.datagram.sender = self.settings.me;
+        place.datagram.subject = Cursor::at(subject);
+        place.datagram.updates.clear();
+        self.buffer.pick_into(
+            limit,
+            UPDATES_MAX,
+            &mut place.datagram.updates,
+            &mut Visits::new(),
+        );
+        outs.len += 1;
     }
 }

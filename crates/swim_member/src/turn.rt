@@ -33,18 +33,6 @@ impl Model for TurnList {
     ghost invariant = { λ t. IsTurn t.listed.items t.place };
 }
 
-/// Where the first of these members that is eligible stands, or how many there are.
-fn first_eligible(table: &Table, members: &[Endpoint]) -> usize
-    ensures { result ≡ position_or_len (is_eligible_in table.now.rows) members.now }
-{
-    for (i, member) in members.iter().enumerate() {
-        if has_eligible(table, *member) {
-            return i;
-        }
-    }
-    members.len()
-}
-
 /// The members of the rows that are Alive or Suspect.
 fn eligible_names(rows: &[Row]) -> ArrayVec<Endpoint, ROWS_MAX>
     requires { length rows.now ≤ ROWS_MAX }
@@ -123,13 +111,13 @@ impl TurnList {
             ≡ self.old.place + (position_or_len (is_eligible_in table.now.rows)
             (drop self.old.place self.old.listed) + 1)) }
     {
-        let left = &self.listed[self.place..];
-        let over = first_eligible(table, left);
-        let next = left.get(over).copied();
-        if next.is_some() {
-            self.place += over + 1;
+        for (over, member) in self.listed[self.place..].iter().enumerate() {
+            if has_eligible(table, *member) {
+                self.place += over + 1;
+                return Some(*member);
+            }
         }
-        next
+        None
     }
 
     /// Makes a new list of the members that are eligible, in the order of the deal, and gives the

@@ -1,6 +1,6 @@
 //! What a call does beside the journal: its event is judged, the number that it wants is saved, the member acts, and what it says is sent.
 
-ghost use Rattle.std.specs.Prelude.{◌≡◌, ◌≤◌, All, ◌^◌, IfSome, ◌+◌, ◌++◌, ◌∷◌, [], length};
+ghost use Rattle.std.specs.Prelude.{◌≡◌, ◌≤◌, ◌^◌, ◌+◌, ◌++◌, ◌∷◌, [], length, All, IfSome};
 ghost use Rattle.swim_member.specs.Events.{no_answer};
 ghost use Rattle.swim_member.specs.Judge.{wanted, HasDeal};
 ghost use Rattle.swim_node.specs.History.{lost_in};
@@ -8,7 +8,6 @@ ghost use Rattle.swim_node.specs.Machinery.Entering.{Steps};
 ghost use Rattle.swim_node.specs.Peers.{known_peers};
 ghost use Rattle.swim_node.specs.Saving.{Saved};
 ghost use Rattle.swim_node.specs.Sending.{Sends, taken_by};
-ghost use Rattle.swim_node.specs.Sending.{Sends};
 ghost use Rattle.swim_wire.specs.Spelling.{HasText};
 ghost use Rattle.swim_wire.specs.declared.update.TheConstants.{NUMBER_MAX};
 
@@ -107,7 +106,7 @@ pub(crate) fn enter<D: Disk, L: Link>(
     let judged = member.judge(event, read);
     let save = save(store, member, judged.wanted());
     member.act(event, judged, read, store.ceiling(), answer);
-    let outcomes = send_all(link, &answer.outs);
+    let outcomes = send_all(link, answer.outs.as_slice());
     Done {
         granted: store.ceiling(),
         save,

@@ -3,8 +3,8 @@
 ghost use Rattle.std.specs.Prelude.{◌≡◌};
 
 use arrayvec::ArrayVec;
-use swim_member::{Event, NOTES_MAX, Note, OUTS_MAX, Out, Phase};
-use swim_wire::{UPDATES_MAX, Update};
+use swim_member::{Event, NOTES_MAX, Note, OUTS_MAX, Outs, Phase};
+use swim_wire::{UPDATES_MAX, Update, copied};
 
 /// Who calls, and for which time in this era.
 #[derive(Clone, Copy, Debug, PartialEq, Eq)]
@@ -76,6 +76,21 @@ pub struct Reply {
     pub lost: usize,
 }
 
+impl Reply {
+    /// The same once more, which takes no memory.
+    pub fn copy(&self) -> Reply
+        ensures { result ≡ self.now }
+    {
+        Reply {
+            status: self.status,
+            notes: copied(&self.notes),
+            page: copied(&self.page),
+            sent: self.sent,
+            lost: self.lost,
+        }
+    }
+}
+
 /// One answered call: 9,416 bytes of plain data, of which the places for ten datagrams are most.
 #[derive(Drop)]
 pub struct Entry {
@@ -88,7 +103,7 @@ pub struct Entry {
     /// How that ceiling came about.
     pub save: Save,
     /// The datagrams, each with its destination, in order.
-    pub outs: ArrayVec<Out, OUTS_MAX>,
+    pub outs: Outs,
     /// What became of each of them.
     pub outcomes: ArrayVec<Outcome, OUTS_MAX>,
     /// What the caller was told.

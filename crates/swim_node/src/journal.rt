@@ -7,14 +7,13 @@ ghost use Rattle.swim_node.specs.declared.opening.TheConstants.{LIMIT_MAX};
 ghost use Rattle.swim_node.specs.History.{calls_by, lost_in, taken_in};
 ghost use Rattle.swim_node.specs.Node.{entry_with, reply_with};
 
-use crate::copies::copy_event;
 use crate::entering::Done;
 use crate::{Entry, Outcome, Reply, Save, Status, Tag};
 use arrayvec::ArrayVec;
 use std::alloc::{AllocError, Global};
 use std::marker::Model;
 use std::mem;
-use swim_member::{Answer, Event, OUTS_MAX, Out, Phase};
+use swim_member::{Answer, Event, OUTS_MAX, Outs, Phase};
 
 fn count_taken(outcomes: &[Outcome]) -> usize
     requires { length outcomes.now ≤ OUTS_MAX }
@@ -42,17 +41,6 @@ fn count_lost(outcomes: &[Outcome]) -> usize
     count
 }
 
-/// Moves the datagrams of one list to another, which loses what it had.
-fn move_outs(from: &mut ArrayVec<Out, OUTS_MAX>, to: &mut ArrayVec<Out, OUTS_MAX>)
-    ensures { to.new.items ≡ from.old.items }
-{
-    to.clear();
-    let count = from.len();
-    for out in from.drain(..count) {
-        to.push(out);
-    }
-}
-
 /// Fills in what the caller is told.
 fn fill_reply(reply: &mut Reply, done: &Done, answer: &Answer, status: Status)
     requires { length done.now.outcomes.items ≤ OUTS_MAX }
@@ -67,9 +55,35 @@ fn fill_reply(reply: &mut Reply, done: &Done, answer: &Answer, status: Status)
     reply.lost = count_lost(&done.outcomes);
 }
 
-/// Fills in the entry of a call, with the status after it. The answer loses its datagrams.
-fn fill(entry: &mut Entry, tag: Tag, event: &Event, done: Done, answer: &mut Answer, status: Status)
-    ensures { entry.new ≡ entry_with tag event.now done answer.old status }
+/// Makes a place hold the same event. A tick moves no more than its deal there, and a datagram its bytes; else it moves as many
+/// bytes as the largest event has.
+fn copy_event(event: &Event, place: &mut Event)
+    ensures { place.new ≡ event.now }
+{
+    if let Event::Tick { deal } = event {
+        if let Event::Tick { deal: there } = place {
+            *there = *deal;
+            return;
+        }
+    }
+    if let Event::Datagram { from, bytes } = event {
+        if let Event::Datagram {
+            from: sender,
+            bytes: there,
+        } = place
+        {
+            *sender = *from;
+            there.clear();
+            let _ = there.try_extend_from_slice(bytes);
+            return;
+        }
+    }
+    *place = event.copy();
+}
+
+/// Fills in the entry of a call, with the status after it.
+fn fill(entry: &mut Entry, tag: Tag, event: &Event, done: Done, answer: &Answer, status: Status)
+    ensures { entry.new ≡ entry_with tag event.now done answer.now status }
 {
     fill_reply(&mut entry.reply, &done, answer, status);
     entry.tag = tag;
@@ -77,7 +91,7 @@ fn fill(entry: &mut Entry, tag: Tag, event: &Event, done: Done, answer: &mut Ans
     entry.granted = done.granted;
     entry.save = done.save;
     entry.outcomes = done.outcomes;
-    move_outs(&mut answer.outs, &mut entry.outs);
+    entry.outs.copy_from(&answer.outs);
 }
 
 /// The entries of an era.
@@ -128,7 +142,7 @@ impl Journal {
                 event: Event::Leave,
                 granted: 0,
                 save: Save::Kept,
-                outs: ArrayVec::new(),
+                outs: Outs::new(),
                 outcomes: ArrayVec::new(),
                 reply: Reply {
                     status: Status {
@@ -155,14 +169,14 @@ impl Journal {
         tag: Tag,
         event: &Event,
         done: Done,
-        answer: &mut Answer,
+        answer: &Answer,
         status: Status,
     )
         requires room { length self.old.entries < self.old.room }
         requires few { length self.old.entries < LIMIT_MAX }
         requires caller { tag.caller < 16 }
         ensures { self.new.entries
-            ≡ self.old.entries ++ entry_with tag event.now done answer.old status ∷ [] }
+            ≡ self.old.entries ++ entry_with tag event.now done answer.now status ∷ [] }
     {
         self.turns[tag.caller as usize] += 1;
         fill(&mut self.places[self.len], tag, event, done, answer, status);

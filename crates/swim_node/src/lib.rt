@@ -4,12 +4,10 @@
 
 mod base;
 mod beginning;
-mod copies;
 mod entering;
 mod entry;
 mod era;
 mod fault;
-mod greatest;
 mod journal;
 mod keeping;
 mod laws;

@@ -1,35 +1,32 @@
 //! The node.
 
-ghost use Rattle.std.specs.Prelude.{◌≡◌, ◌≢◌, ◌↔◌, ◌+◌, ◌<◌, ◌≤◌, ◌++◌, ◌∷◌, [], List, length, IfErr, IfOk, IsTrue, OnOk, OnErr, All, None, false};
+ghost use Rattle.std.specs.Prelude.{◌≡◌, ◌≢◌, ◌↔◌, ◌==◌, ◌+◌, ◌<◌, ◌≤◌, ◌++◌, ◌∷◌, [], List, length, map, IfErr, IfOk, IsTrue, OnOk, OnErr, All, None, false};
+ghost use Rattle.std.specs.List.{filter};
 ghost use Rattle.swim_state.specs.Alone.{IsBeside, LeavesAlone, target_in};
 ghost use Rattle.swim_state.specs.Held.{Held, HeldSince, HasPeers, Through, Covers};
 ghost use Rattle.swim_node.specs.declared.opening.TheConstants.{LIMIT_MAX};
 ghost use Rattle.swim_node.specs.History.{calls_by, state_after, status_at, steps, status_of, IsLegal, granted_of};
-ghost use Rattle.swim_node.specs.Owns.{owns, AreAtMost, AreAtLeast};
+ghost use Rattle.swim_node.specs.Owns.{owns, AreAtMost, AreAtLeast, greatest_with, greater_of};
 ghost use Rattle.swim_node.specs.Keeping.{KeepsGiven};
-ghost use Rattle.swim_node.specs.Lives.{EndsEra, GoesOn, MayEnd};
-ghost use Rattle.swim_node.specs.Node.{Added, IsTurn, Refused, base_of, granted_base, next_base, store_of};
+ghost use Rattle.swim_node.specs.Lives.{GoesOn, MayEnd};
+ghost use Rattle.swim_node.specs.Node.{Added, IsTurn, Refused, base_of, granted_base, store_of};
 ghost use Rattle.swim_node.specs.Peers.{known_peers};
-ghost use Rattle.swim_node.specs.Probing.{GoesInTurns};
 ghost use Rattle.swim_node.specs.Sending.{Sends, HasTexts};
-ghost use Rattle.swim_member.specs.Events.{DealIsOfNoMatter, state_of};
+ghost use Rattle.swim_member.specs.Events.{DealIsOfNoMatter};
+ghost use Rattle.swim_member.specs.Fit.{own_numbers_in};
 ghost use Rattle.swim_member.specs.Probe.{ends_period};
-ghost use Rattle.swim_member.specs.Resuming.{resume_fault};
 
 use crate::base::Base;
-use crate::copies::copy_reply;
 use crate::entering::enter;
-use crate::greatest::greatest_own;
 use crate::journal::Journal;
 use crate::keeping::keep;
 use crate::peers::known_peers;
-use crate::{ApplyFault, Entry, Era, Link, Reply, Room, Status, Tag};
+use crate::{ApplyFault, Entry, Link, Reply, Status, Tag};
 use std::marker::Model;
-use std::mem;
 use swim_disk::Disk;
-use swim_member::{Answer, Event, Member};
+use swim_member::{Answer, Event, Member, Out};
 use swim_state::{Peers, SaveFault, Store};
-use swim_wire::{Datagram, NUMBER_MAX};
+use swim_wire::{Datagram, Endpoint, NUMBER_MAX, Update};
 
 /// A member with its state file and its journal.
 #[derive(Drop)]
@@ -67,6 +64,41 @@ impl<D: Disk> Model for Node<D> {
         × (D.keeps_model → Held n.store.owner (D.state n.store.disk) n.store.ceiling) };
 }
 
+/// The greater of a number, if there is one, and another.
+fn greater(most: Option<u64>, number: u64) -> Option<u64>
+    ensures { result ≡ greater_of most number }
+{
+    match most {
+        None => Some(number),
+        Some(old) => Some(number.max(old)),
+    }
+}
+
+/// The greatest number so far and of the updates about `me`.
+fn greatest_in(updates: &[Update], me: Endpoint, most: Option<u64>) -> Option<u64>
+    ensures { result
+        ≡ greatest_with most (map (λ u. u.number) (filter (λ u. u.who == me) updates.now)) }
+{
+    let mut greatest = most;
+    for update in updates {
+        if update.who == me {
+            greatest = greater(greatest, update.number);
+        }
+    }
+    greatest
+}
+
+/// The greatest number so far and of the updates about `me` in these datagrams.
+pub(crate) fn greatest_own(outs: &[Out], me: Endpoint, most: Option<u64>) -> Option<u64>
+    ensures { result ≡ greatest_with most (own_numbers_in me outs.now) }
+{
+    let mut greatest = most;
+    for out in outs {
+        greatest = greatest_in(&out.datagram.updates, me, greatest);
+    }
+    greatest
+}
+
 /// The status of a member after so many entries of an era.
 pub(crate) fn status_now(member: &Member, length: usize) -> Status
     ensures { result ≡ status_at member.now length }
@@ -79,22 +111,6 @@ pub(crate) fn status_now(member: &Member, length: usize) -> Status
         suspect: counts.suspect,
         confirmed: counts.confirmed,
         length,
-    }
-}
-
-/// The member as it stands now, as the base of an era.
-pub(crate) fn base_at(member: &Member, granted: u64, past: Option<u64>, limit: u32) -> Base
-    ensures base { base_of result
-        ≡ record { state = member.now; granted = granted; past = past; limit = limit } }
-    ensures reads { state_of member.now [] ≡ member.now }
-    ensures resumes { resume_fault member.now ≡ None }
-{
-    member.state_resumes();
-    Base {
-        state: member.base(),
-        granted,
-        past,
-        limit,
     }
 }
 
@@ -283,65 +299,6 @@ impl<D: Disk> Node<D> {
         kept
     }
 
-    /// Begins an era: what is now becomes the base, the journal is empty, and the callers' turns begin at 1 again. The
-    /// turn of probing goes on: the base has its list. In the era that ends the member has probed in turns.
-    pub fn rebase(&mut self)
-        ensures base { self.new.base ≡ next_base self.old.base self.old.entries }
-        ensures settings { self.new.base.state.settings ≡ self.old.base.state.settings }
-        ensures entries { self.new.entries ≡ [] }
-        ensures disk { self.new.disk ≡ self.old.disk }
-        ensures owner { self.new.owner ≡ self.old.owner }
-        ensures first { self.new.first ≡ self.old.first }
-        ensures peers { self.new.peers ≡ self.old.peers }
-        ensures broken { self.new.broken ≡ self.old.broken }
-        ensures living { EndsEra D.state self.old self.new }
-        ensures turns { GoesInTurns self.old.base self.old.entries }
-    {
-        self.base = base_at(
-            &self.member,
-            self.store.ceiling(),
-            self.most,
-            self.base.limit,
-        );
-        self.journal.clear();
-    }
-
-    /// Begins an era as `rebase` does, and gives the one that ended away. It takes no memory.
-    pub fn end_era(&mut self) -> Era
-        ensures era { result ≡ record { base = self.old.base; entries = self.old.entries } }
-        ensures legal { IsLegal self.old.base self.old.entries }
-        ensures begun { AreAtLeast self.old.first (owns self.old.base self.old.entries) }
-        ensures base { self.new.base ≡ next_base self.old.base self.old.entries }
-        ensures settings { self.new.base.state.settings ≡ self.old.base.state.settings }
-        ensures entries { self.new.entries ≡ [] }
-        ensures disk { self.new.disk ≡ self.old.disk }
-        ensures owner { self.new.owner ≡ self.old.owner }
-        ensures first { self.new.first ≡ self.old.first }
-        ensures peers { self.new.peers ≡ self.old.peers }
-        ensures broken { self.new.broken ≡ self.old.broken }
-        ensures living { EndsEra D.state self.old self.new }
-        ensures turns { GoesInTurns self.old.base self.old.entries }
-    {
-        let base = base_at(
-            &self.member,
-            self.store.ceiling(),
-            self.most,
-            self.base.limit,
-        );
-        Era {
-            base: mem::replace(&mut self.base, base),
-            entries: self.journal.take(),
-        }
-    }
-
-    /// Takes the room of an era that was let go, for the entries of this one, which has none yet.
-    pub fn furnish(&mut self, room: Room)
-        requires empty { self.old.entries ≡ [] }
-        ensures { self.new ≡ self.old }
-    {
-        self.journal.furnish(room.places);
-    }
-
     /// Whether a call may be entered: in turn, and while the era has room.
     fn admit(&self, tag: Tag) -> Result<(), ApplyFault>
         requires { tag.caller < 16 }
@@ -413,9 +370,13 @@ impl<D: Disk> Node<D> {
             &mut self.read,
             &mut self.answer,
         );
-        self.most = greatest_own(&self.answer.outs, self.member.settings().me, self.most);
+        self.most = greatest_own(
+            self.answer.outs.as_slice(),
+            self.member.settings().me,
+            self.most,
+        );
         let status = status_now(&self.member, self.journal.entries().len() + 1);
-        self.journal.add(tag, event, done, &mut self.answer, status);
+        self.journal.add(tag, event, done, &self.answer, status);
         Ok(())
     }
 
@@ -463,6 +424,6 @@ impl<D: Disk> Node<D> {
             (D.state self.old.disk) (D.state self.new.disk) }
     {
         self.apply_in_place(link, tag, &event)?;
-        Ok(copy_reply(&self.last().reply))
+        Ok(self.last().reply.copy())
     }
 }

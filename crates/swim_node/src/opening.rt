@@ -5,8 +5,8 @@ ghost use Rattle.swim_member.specs.Checks.{AreSound};
 ghost use Rattle.swim_node.specs.Node.{disk_of, owner_of};
 ghost use Rattle.swim_node.specs.Opening.{BeginsLife, OpensFile, RefusesLife};
 
+use crate::base::base_at;
 use crate::journal::Journal;
-use crate::node::base_at;
 use crate::{Node, OpenFault};
 use std::alloc::Global;
 use swim_disk::Disk;

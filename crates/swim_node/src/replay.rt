@@ -18,9 +18,8 @@ ghost use Rattle.swim_node.specs.declared.entry.Save.{Save as Saved};
 use crate::base::Base;
 use crate::beginning::check_bounds;
 use crate::entering::Done;
-use crate::greatest::greatest_own;
 use crate::journal::Journal;
-use crate::node::status_now;
+use crate::node::{greatest_own, status_now};
 use crate::{ApplyFault, BeginFault, Beginning, Entry, Outcome, Save, Tag};
 use arrayvec::ArrayVec;
 use std::alloc::Global;
@@ -271,10 +270,14 @@ impl Replay {
             &mut self.answer,
         );
         self.granted = done.granted;
-        self.most = greatest_own(&self.answer.outs, self.member.settings().me, self.most);
+        self.most = greatest_own(
+            self.answer.outs.as_slice(),
+            self.member.settings().me,
+            self.most,
+        );
         let status = status_now(&self.member, self.journal.entries().len() + 1);
         self.journal
-            .add(cause.tag, &cause.event, done, &mut self.answer, status);
+            .add(cause.tag, &cause.event, done, &self.answer, status);
         Ok(())
     }
 }

@@ -99,19 +99,6 @@ impl<N: Name, D: Disk, L: Link, R: Wait + Drop> Locked<N, D, L, R> {
         }
     }
 
-    /// The right to add the next entry, before anything is entered.
-    fn claim(&mut self) -> Option<Pen>
-        ensures same { self.new ≡ record self.old { has_pen = false } }
-        ensures may { IfSome result (MayAdd (sight N.book self.old.journal)) }
-        ensures kept { IsTrue self.old.has_pen → IsSome result }
-    {
-        self.node.journal_is_legal();
-        match self.pen.take() {
-            Some(pen) => Some(pen),
-            None => self.front.claim(&self.head),
-        }
-    }
-
     /// One event of the node, for this pass.
     fn apply_for(&mut self, pen: Pen, pass: &Pass<N>, event: Event) -> Result<Reply, ApplyFault>
         requires may { MayAdd (sight N.book self.old.journal) pen }
@@ -130,13 +117,13 @@ impl<N: Name, D: Disk, L: Link, R: Wait + Drop> Locked<N, D, L, R> {
             caller: pass.caller(),
             turn: pass.calls() + 1,
         };
-        match self.node.apply(&mut self.link, tag, event) {
-            Ok(reply) => {
+        match self.node.apply_in_place(&mut self.link, tag, &event) {
+            Ok(()) => {
                 self.node.numbers_are_covered();
                 let entry = self.node.last();
                 self.pen = None;
                 self.front.add(&self.head, pen, entry);
-                Ok(reply)
+                Ok(entry.reply.copy())
             }
             Err(fault) => {
                 self.pen = Some(pen);
@@ -193,7 +180,12 @@ impl<N: Name, D: Disk, L: Link, R: Wait + Drop> Locked<N, D, L, R> {
         if pass.calls() >= u32::MAX - 1 || pass.front().len() > self.front.len() {
             return Err(CallFault::OutOfTurn);
         }
-        let Some(pen) = self.claim() else {
+        self.node.journal_is_legal();
+        let claimed = match self.pen.take() {
+            Some(pen) => Some(pen),
+            None => self.front.claim(&self.head),
+        };
+        let Some(pen) = claimed else {
             pass.spend(false);
             return Err(CallFault::Unread);
         };

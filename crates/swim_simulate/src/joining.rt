@@ -10,7 +10,7 @@ use crate::views::GroupViews;
 use arrayvec::{ArrayString, ArrayVec};
 use rand_chacha::ChaCha20Rng;
 use swim_join::{Intervals, Joiner, LIST_MAX};
-use swim_member::{Event, Settings};
+use swim_member::{Event, Outs, Settings};
 use swim_node::{Entry, Reply, Save, Status, Tag};
 use swim_plan::{Plan, PlanKey};
 use swim_shell::{COUNTERS, Caller, Counters, Observer, QuietClock, Refusal, Who};
@@ -84,7 +84,7 @@ impl Caller for AskedMember<'_> {
             event,
             granted: 0,
             save: Save::Kept,
-            outs: ArrayVec::new(),
+            outs: Outs::new(),
             outcomes: ArrayVec::new(),
             reply: Reply {
                 status: self.status,

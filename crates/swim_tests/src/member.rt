@@ -240,7 +240,7 @@ fn a_probe(rt: HostRuntime) {
 fn pinged(member: &mut Member, event: &Event) -> Option<Endpoint> {
     let granted = member.number();
     let answer = member.step(event, granted);
-    for out in &answer.outs {
+    for out in answer.outs.as_slice() {
         if out.datagram.kind == Kind::Ping {
             return Some(out.to);
         }

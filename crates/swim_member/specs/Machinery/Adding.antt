@@ -1,18 +1,12 @@
 -- What a part of a step adds to the answer that is lent to it.
 use Rattle.std.specs.Prelude.{◌≡◌, ℕ, ◌+◌, ◌<◌, ◌≤◌, List, ◌++◌, length, true}
 use Rattle.std.specs.List.{list_all}
-use Rattle.swim_wire.specs.declared.update.Update.{Update}
 use Rattle.swim_member.specs.declared.answer.Answer.{Answer}
 use Rattle.swim_member.specs.declared.answer.Out.{Out}
 use Rattle.swim_member.specs.declared.answer.TheConstants.{OUTS_MAX, NOTES_MAX}
 use Rattle.swim_member.specs.declared.note.Note.{Note}
 use Rattle.swim_member.specs.State.{State}
 use Rattle.swim_member.specs.Fit.{is_fit}
-
--- the same datagram with these updates
-abbrev pub carrying : Out → List Update → Out
-carrying out updates =
-    record out { datagram = record out.datagram { updates = record { items = updates } } }
 
 -- one more datagram and one more note find room
 pub record HasRoom (answer : Answer) : Type 0 where

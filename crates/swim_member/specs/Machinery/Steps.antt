@@ -27,7 +27,6 @@ use Rattle.swim_member.specs.Member.{row_name}
 use Rattle.swim_member.specs.Send.{send}
 use Rattle.swim_member.specs.Send.{datagram}
 use Rattle.swim_member.specs.Send.{carried_updates}
-use Rattle.swim_member.specs.Probe.{is_at}
 use Rattle.swim_member.specs.Member.{is_eligible_name}
 
 -- the relay is less than a period old
@@ -137,7 +136,3 @@ outs_of_asks s q (helper ∷ helpers) =
 abbrev pub open_probe : State → Option Probe → Option Probe
 open_probe s None = None
 open_probe s (Some q) = if not q.answered && is_eligible_name s q.target then Some q else None
-
--- the probe about which others are asked now, if there is one
-abbrev pub asked_probe : State → Option Probe
-asked_probe s = if is_at s s.settings.direct then open_probe s s.probe else None

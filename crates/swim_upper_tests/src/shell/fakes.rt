@@ -4,7 +4,7 @@ ghost use Rattle.std.specs.Prelude.{◌≡◌, ◌≤◌, length};
 
 use arrayvec::{ArrayString, ArrayVec};
 use std::io::{self, ErrorKind, Read, Write};
-use swim_member::{Event, Note, Phase};
+use swim_member::{Event, Note, Outs, Phase};
 use swim_node::{Entry, Reply, Save, Status, Tag};
 use swim_scenes::endpoint;
 use swim_shell::{COUNTERS, Caller, Counters, Gate, Observer, Refusal, Turn, VERSION, Who};
@@ -203,7 +203,7 @@ impl<const LIMIT: usize> Caller for Scripted<LIMIT> {
             event,
             granted: 0,
             save: Save::Kept,
-            outs: ArrayVec::new(),
+            outs: Outs::new(),
             outcomes: ArrayVec::new(),
             reply: reply(self.shown(), said),
         };

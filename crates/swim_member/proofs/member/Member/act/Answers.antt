@@ -48,5 +48,5 @@ returns-clause-stays c two h = rw c.obey.ensures.state (phase-stays c.args.self.
 pub returns-clause-base : goal.returns-clause-base
 returns-clause-base c =
     ap (λ (s : State). state_of s []) (sym c.self.view_is)
-    ∙ base-itself (the_view c.self.inside) c.self.invariant.table.order c.self.invariant.wait.apart c.self.invariant.live
+    ∙ base-itself (the_view c.self.inside) c.self.invariant.0.table.order c.self.invariant.0.wait.apart c.self.invariant.0.live
     ∙ c.self.view_is

@@ -5,13 +5,12 @@ use Rattle.swim_rules.specs.Rows.{is_eligible}
 use Rattle.swim_member.specs.State.{State}
 use Rattle.swim_member.specs.Member.{row_name}
 use Rattle.swim_member.specs.Probe.{helpers_about}
-use Rattle.swim_member.specs.Machinery.Steps.{asked_probe}
 use Rattle.swim_member.proofs.Adding.{adds-as}
-use Rattle.swim_member.proofs.Asking.{asks-all-state, asks-all-outs}
+use Rattle.swim_member.proofs.Asking.{asked_probe, asks-all-state, asks-all-outs}
 use Rattle.swim_member.proofs.member.Member.ask_all.Goals as goal
 
 is_asking : (c : goal.After-ask_each) → asked_probe c.args.self.now ≡ Some c.in-Some.probe
-is_asking c = sym c.asking.ensures ∙ c.in-Some.is
+is_asking c = rw c.requires.moment (sym c.open_probe.ensures ∙ c.in-Some.is)
 
 helpers : (c : goal.After-ask_each) → c.deref.result.now ≡ helpers_about c.args.self.now c.in-Some.probe.target
 helpers c =
@@ -22,7 +21,7 @@ helpers c =
 room : (c : goal.After-ask_each) → length c.deref.result.now ≤ 8
 room c =
     let count : length c.deref.result.now ≡ length c.helpers_about-helpers.result.items = ap length c.deref.ensures.0 in
-    omega (arith, c.helpers_about-helpers.ensures.room, c.self.invariant.sound.helpers_high)
+    omega (arith, c.helpers_about-helpers.ensures.room, c.self.invariant.0.sound.helpers_high)
 
 pub returns-in-Some-clause-state : goal.returns-in-Some-clause-state
 returns-in-Some-clause-state c =

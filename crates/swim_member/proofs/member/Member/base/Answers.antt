@@ -8,5 +8,5 @@ use Rattle.swim_member.proofs.member.Member.base.Goals as goal
 pub returns-clause-reads : goal.returns-clause-reads
 returns-clause-reads c =
     ap (λ (s : State). state_of s []) (sym c.self.view_is)
-    ∙ base-itself (the_view c.self.inside) c.self.invariant.table.order c.self.invariant.wait.apart c.self.invariant.live
+    ∙ base-itself (the_view c.self.inside) c.self.invariant.0.table.order c.self.invariant.0.wait.apart c.self.invariant.0.live
     ∙ c.self.view_is

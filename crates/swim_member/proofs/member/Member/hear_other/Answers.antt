@@ -9,10 +9,12 @@ pub offer-requires-clause-room : goal.offer-requires-clause-room
 offer-requires-clause-room c =
     let accepted : answer_to c.self.inside.table.rules c.self.inside.table.rows c.args.update.now ≡ Accepted = cc in
     room-heard c.self.inside.settings c.self.inside.number c.self.inside.time c.self.inside.table c.hear.new.self c.self.inside.buffer c.self.inside.relays.items c.args.update.now c.self.inside.time
-    (λ e. c.requires.other (e ∙ ap (λ (s : State). s.settings.me) c.self.view_is)) c.requires.number accepted c.hear.ensures.rows c.hear.ensures.kept c.self.invariant
+    (λ e. c.requires.other (e ∙ ap (λ (s : State). s.settings.me) c.self.view_is)) c.requires.number accepted c.hear.ensures.rows c.hear.ensures.kept c.self.invariant.0
 
 pub invariant_of-self : goal.invariant_of-self
 invariant_of-self c =
-    let accepted : answer_to c.self.inside.table.rules c.self.inside.table.rows c.args.update.now ≡ Accepted = cc in
-    rw c.offer.ensures.queue (keep-heard c.self.inside.settings c.self.inside.number c.self.inside.time c.self.inside.table c.hear.new.self c.self.inside.buffer c.self.inside.relays.items c.args.update.now c.self.inside.time
-    (λ e. c.requires.other (e ∙ ap (λ (s : State). s.settings.me) c.self.view_is)) c.requires.number accepted c.hear.ensures.rows c.hear.ensures.kept c.self.invariant)
+    let accepted : answer_to c.self.inside.table.rules c.self.inside.table.rows c.args.update.now ≡ Accepted = cc in (
+      rw c.offer.ensures.queue (keep-heard c.self.inside.settings c.self.inside.number c.self.inside.time c.self.inside.table c.hear.new.self c.self.inside.buffer c.self.inside.relays.items c.args.update.now c.self.inside.time
+          (λ e. c.requires.other (e ∙ ap (λ (s : State). s.settings.me) c.self.view_is)) c.requires.number accepted c.hear.ensures.rows c.hear.ensures.kept c.self.invariant.0),
+      c.self.invariant.1,
+    )

@@ -39,22 +39,24 @@ invariant_of-member c =
     let t : Passes (the_view c.state.inside) = tested (the_view c.state.inside) c.args.state c.state.view_is c.in_ok-check.ensures.ok in
     let me = c.state.inside.settings.me in
     let rows = c.state.inside.rows.items in
-    let stand = stand-rows me rows t.rows in
-    rw (c.with_rows-table.ensures, c.with_queue.ensures, c.rules_of.ensures) (record {
-      me = refl;
-      suspect = refl;
-      forget = refl;
-      rules = refl;
-      sound = subst (λ (s : State). AreSound s.settings) (sym c.state.view_is) c.requires.sound;
-      table = record { order = order-rows me rows t.rows; others = lacks-stand me rows stand; most = search (arith, rules) };
-      wait = wait-tested me rows c.state.inside.queue.items t.queue;
-      most = refl;
-      number = leb-true _ _ t.number;
-      time = leb-true _ _ t.time;
-      stand = stand;
-      say = t.said;
-      live = live-tested _ _ c.state.inside.relays.items t.relays;
-    })
+    let stand = stand-rows me rows t.rows in (
+      rw (c.with_rows-table.ensures, c.with_queue.ensures, c.rules_of.ensures) (record {
+        me = refl;
+        suspect = refl;
+        forget = refl;
+        rules = refl;
+        sound = subst (λ (s : State). AreSound s.settings) (sym c.state.view_is) c.requires.sound;
+        table = record { order = order-rows me rows t.rows; others = lacks-stand me rows stand; most = search (arith, rules) };
+        wait = wait-tested me rows c.state.inside.queue.items t.queue;
+        most = refl;
+        number = leb-true _ _ t.number;
+        time = leb-true _ _ t.time;
+        stand = stand;
+        say = t.said;
+        live = live-tested _ _ c.state.inside.relays.items t.relays;
+      }),
+      refl,
+    )
 
 pub returns-clause-base : goal.returns-clause-base
 returns-clause-base c =

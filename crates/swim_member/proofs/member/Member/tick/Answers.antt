@@ -1,29 +1,77 @@
-use Rattle.std.proofs.Common.{◌≡◌, ℕ, ◌++◌, List, [], None, false, replicate, refl, ap, sym, append-nil, ◌∙◌, arith, rules}
-use Rattle.swim_member.specs.declared.settings.Settings.{Settings}
+use Rattle.std.proofs.Common.{◌≡◌, [], None, false, refl, ap, sym, append-nil, ◌∙◌, arith}
+use Rattle.std.proofs.lemmas.Bool.{eq-eqb, ne_eqb}
 use Rattle.swim_member.specs.declared.answer.Answer.{Answer}
 use Rattle.swim_member.specs.State.{State}
-use Rattle.swim_member.specs.Probe.{is_at}
-use Rattle.swim_member.specs.Events.{Advance, Expire, Forget, Blame, Probe_next, Ask, each_from, perform, notes, outs}
-use Rattle.swim_member.specs.Machinery.Steps.{apply_all, after, outs_by, asked_probe}
+use Rattle.swim_member.specs.Probe.{is_at, blame}
+use Rattle.swim_member.specs.Events.{notes}
 use Rattle.swim_member.specs.Machinery.Adding.{Adds}
-use Rattle.swim_member.proofs.Asking.{asks-none-state, asks-none-outs}
+use Rattle.swim_member.proofs.Asking.{asked_probe, asks-none-state, asks-none-outs}
 use Rattle.swim_member.proofs.Adding.{adds-then, adds-as, adds-start}
-use Rattle.swim_member.proofs.Ticking.{Ticked, ticked-state, ticked-outs, ticked-notes, ticked-settings}
+use Rattle.swim_member.proofs.Ticking.{TickedAtEnd, end-ticked, end-outs, end-notes, TickedWithin, within-ticked, within-outs, within-notes, ticked-state, ticked-settings}
 use Rattle.swim_member.proofs.member.Member.tick.Goals as goal
 
--- between the moments of a probe, a tick is over once the rows have changed
-between : (s0 s1 s2 s : State) (deal : List ℕ) → s1 ≡ apply_all (perform s0 Advance) s0 → s2 ≡ after s1 (replicate 256 Expire) → s ≡ after s2 (replicate 256 Forget) → is_at s 0 ≡ false → is_at s s.settings.direct ≡ false → Ticked s0 s1 s2 s s s s deal
-between s0 s1 s2 s deal advanced expired forgotten early later =
-    record {
-      advanced = advanced;
-      expired = expired;
-      forgotten = forgotten;
-      blamed = rw early refl;
-      probed = rw early refl;
-      asked = sym (asks-none-state 8 0 s (rw later refl));
-    }
+-- at the end of a period
 
--- and nothing was said
+ended : (c : goal.After-probe_next) → TickedAtEnd c.args.self.now c.advance.new.self c.expire_all.new.self c.forget_all.new.self c.blame.new.self c.probe_next.new.self c.args.deal.now
+ended c = record {
+  begun = record { advanced = c.advance.ensures; expired = c.expire_all.ensures; forgotten = c.forget_all.ensures };
+  now = ap (λ (s : State). is_at s 0) (sym c.self.view_is) ∙ eq-eqb _ 0 (sym c.self.invariant.1 ∙ c.if-self-eq0.true);
+  later = let same : c.self.inside.settings.direct ≡ c.forget_all.new.self.settings.direct = ap (λ (s : State). s.settings.direct) c.self.view_is in omega (arith, c.self.invariant.0.sound.direct_low);
+  blames = c.blame.ensures.state;
+  looks = c.probe_next.ensures.state;
+}
+
+pub returns-then-self-eq0-clause-state : goal.returns-then-self-eq0-clause-state
+returns-then-self-eq0-clause-state c = ticked-state _ _ _ _ _ _ _ c.args.deal.now (end-ticked _ _ _ _ _ _ c.args.deal.now (ended c))
+
+pub returns-then-self-eq0-clause-answer : goal.returns-then-self-eq0-clause-answer
+returns-then-self-eq0-clause-answer c =
+    adds-as _ _ _ _ _ _ _ _ _ _
+    (end-outs _ _ _ _ _ _ c.args.deal.now (ended c))
+    (omega arith)
+    (append-nil (notes (blame c.forget_all.new.self c.forget_all.new.self.probe)) ∙ end-notes _ _ _ _ _ _ c.args.deal.now (ended c))
+    (adds-start c.args.self.now c.forget_all.new.self _ _ _ _ _ _ (ap (λ (a : Answer). a.outs.items) c.requires.nothing)
+    (adds-then _ _ _ _ _ _ _ _ _ _ _ _ c.blame.ensures.answer c.probe_next.ensures.answer))
+
+-- at the moment at which others are asked
+
+pub ask_all-requires-clause-moment : goal.ask_all-requires-clause-moment
+ask_all-requires-clause-moment c = ap (λ (s : State). is_at s s.settings.direct) (sym c.self.view_is) ∙ eq-eqb _ _ (sym c.self.invariant.1 ∙ c.if-self.true)
+
+asked : (c : goal.After-ask_all) → TickedWithin c.args.self.now c.advance.new.self c.expire_all.new.self c.forget_all.new.self c.ask_all.new.self
+asked c = record {
+  begun = record { advanced = c.advance.ensures; expired = c.expire_all.ensures; forgotten = c.forget_all.ensures };
+  within = ap (λ (s : State). is_at s 0) (sym c.self.view_is) ∙ ne_eqb _ 0 (λ e. c.if-self-eq0.false (c.self.invariant.1 ∙ e));
+  asked = c.ask_all.ensures.state;
+}
+
+pub returns-then-self-clause-state : goal.returns-then-self-clause-state
+returns-then-self-clause-state c = ticked-state _ _ _ _ _ _ _ c.args.deal.now (within-ticked _ _ _ _ _ c.args.deal.now (asked c))
+
+pub returns-then-self-clause-answer : goal.returns-then-self-clause-answer
+returns-then-self-clause-answer c =
+    let same = ticked-settings _ _ _ _ _ _ _ c.args.deal.now (within-ticked _ _ _ _ _ c.args.deal.now (asked c)) in
+    adds-as _ _ _ _ _ _ _ _ _ _
+    (within-outs _ _ _ _ _ c.args.deal.now (asked c))
+    (rw (← same) (omega arith))
+    (within-notes _ _ _ _ _ c.args.deal.now (asked c))
+    (adds-start c.args.self.now c.forget_all.new.self _ _ _ _ _ _ (ap (λ (a : Answer). a.outs.items) c.requires.nothing) c.ask_all.ensures.answer)
+
+-- at any other moment nothing is said
+
+rests : (c : goal.Else-self) → (asked_probe c.forget_all.new.self ≡ None) × TickedWithin c.args.self.now c.advance.new.self c.expire_all.new.self c.forget_all.new.self c.forget_all.new.self
+rests c =
+    let within : is_at c.forget_all.new.self 0 ≡ false = ap (λ (s : State). is_at s 0) (sym c.self.view_is) ∙ ne_eqb _ 0 (λ e. c.if-self-eq0.false (c.self.invariant.1 ∙ e)) in
+    let later : is_at c.forget_all.new.self c.forget_all.new.self.settings.direct ≡ false = ap (λ (s : State). is_at s s.settings.direct) (sym c.self.view_is) ∙ ne_eqb _ _ (λ e. c.if-self.false (c.self.invariant.1 ∙ e)) in
+    let none : asked_probe c.forget_all.new.self ≡ None = rw later refl in (
+      none,
+      record {
+        begun = record { advanced = c.advance.ensures; expired = c.expire_all.ensures; forgotten = c.forget_all.ensures };
+        within = within;
+        asked = sym (asks-none-state 8 0 c.forget_all.new.self none);
+      },
+    )
+
 nothing_said : (s0 s : State) (a : Answer) → a.outs.items ≡ [] → Adds s0 s a a [] 0 []
 nothing_said s0 s a h =
     record {
@@ -34,48 +82,13 @@ nothing_said s0 s a h =
       fit = λ k. rw h refl;
     }
 
-pub returns-then-is_between_probes-clause-state : goal.returns-then-is_between_probes-clause-state
-returns-then-is_between_probes-clause-state c =
-    let quiet = c.is_between_probes.ensures (search rules) in
-    ticked-state c.args.self.now c.advance.new.self c.expire_all.new.self c.forget_all.new.self c.forget_all.new.self c.forget_all.new.self c.forget_all.new.self c.args.deal.now
-    (between c.args.self.now c.advance.new.self c.expire_all.new.self c.forget_all.new.self c.args.deal.now c.advance.ensures c.expire_all.ensures c.forget_all.ensures quiet.0 quiet.1)
+pub returns-else-self-clause-state : goal.returns-else-self-clause-state
+returns-else-self-clause-state c = ticked-state _ _ _ _ _ _ _ c.args.deal.now (within-ticked _ _ _ _ _ c.args.deal.now (rests c).1)
 
-pub returns-then-is_between_probes-clause-answer : goal.returns-then-is_between_probes-clause-answer
-returns-then-is_between_probes-clause-answer c =
-    let quiet = c.is_between_probes.ensures (search rules) in
-    let s : State = c.forget_all.new.self in
-    let none : asked_probe s ≡ None = rw quiet.1 refl in
-    let parts : Ticked c.args.self.now c.advance.new.self c.expire_all.new.self s s s s c.args.deal.now =
-    between c.args.self.now c.advance.new.self c.expire_all.new.self s c.args.deal.now c.advance.ensures c.expire_all.ensures c.forget_all.ensures quiet.0 quiet.1 in
-    let unsent : outs (perform s (Probe_next c.args.deal.now)) ++ outs_by s (each_from 0 8 (λ k. Ask k)) ≡ [] = rw quiet.0 (asks-none-outs 8 0 s none) in
-    let unnoted : notes (perform s Blame) ≡ [] = rw quiet.0 refl in
-    adds-as c.args.self.now s c.args.answer.now c.args.answer.now [] _ 0 _ [] _
-    (sym unsent ∙ ticked-outs c.args.self.now c.advance.new.self c.expire_all.new.self s s s s c.args.deal.now parts)
-    (omega arith)
-    (sym unnoted ∙ ticked-notes c.args.self.now c.advance.new.self c.expire_all.new.self s s s s c.args.deal.now parts)
-    (nothing_said c.args.self.now s c.args.answer.now (ap (λ (a : Answer). a.outs.items) c.requires.nothing))
-
-by_parts : (c : goal.After-ask_all) → Ticked c.args.self.now c.advance.new.self c.expire_all.new.self c.forget_all.new.self c.blame.new.self c.probe_next.new.self c.ask_all.new.self c.args.deal.now
-by_parts c = record {
-  advanced = c.advance.ensures;
-  expired = c.expire_all.ensures;
-  forgotten = c.forget_all.ensures;
-  blamed = c.blame.ensures.state;
-  probed = c.probe_next.ensures.state;
-  asked = c.ask_all.ensures.state;
-}
-
-pub returns-clause-state : goal.returns-clause-state
-returns-clause-state c = ticked-state c.args.self.now c.advance.new.self c.expire_all.new.self c.forget_all.new.self c.blame.new.self c.probe_next.new.self c.ask_all.new.self c.args.deal.now (by_parts c)
-
-pub returns-clause-answer : goal.returns-clause-answer
-returns-clause-answer c =
-    let same : c.probe_next.new.self.settings.helpers ≡ c.args.self.now.settings.helpers =
-    ap (λ (s : Settings). s.helpers) (ticked-settings c.args.self.now c.advance.new.self c.expire_all.new.self c.forget_all.new.self c.blame.new.self c.probe_next.new.self c.ask_all.new.self c.args.deal.now (by_parts c)) in
+pub returns-else-self-clause-answer : goal.returns-else-self-clause-answer
+returns-else-self-clause-answer c =
     adds-as _ _ _ _ _ _ _ _ _ _
-    (ticked-outs c.args.self.now c.advance.new.self c.expire_all.new.self c.forget_all.new.self c.blame.new.self c.probe_next.new.self c.ask_all.new.self c.args.deal.now (by_parts c))
+    (sym (asks-none-outs 8 0 c.forget_all.new.self (rests c).0) ∙ within-outs _ _ _ _ _ c.args.deal.now (rests c).1)
     (omega arith)
-    (append-nil (notes (perform c.forget_all.new.self Blame) ++ []) ∙ append-nil (notes (perform c.forget_all.new.self Blame))
-    ∙ ticked-notes c.args.self.now c.advance.new.self c.expire_all.new.self c.forget_all.new.self c.blame.new.self c.probe_next.new.self c.ask_all.new.self c.args.deal.now (by_parts c))
-    (adds-start c.args.self.now c.forget_all.new.self _ _ _ _ _ _ (ap (λ (a : Answer). a.outs.items) c.requires.nothing)
-    (adds-then _ _ _ _ _ _ _ _ _ _ _ _ (adds-then _ _ _ _ _ _ _ _ _ _ _ _ c.blame.ensures.answer c.probe_next.ensures.answer) c.ask_all.ensures.answer))
+    (within-notes _ _ _ _ _ c.args.deal.now (rests c).1)
+    (nothing_said c.args.self.now c.forget_all.new.self c.args.answer.now (ap (λ (a : Answer). a.outs.items) c.requires.nothing))

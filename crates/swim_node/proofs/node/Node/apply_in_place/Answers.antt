@@ -44,7 +44,7 @@ returns-clause-living g c =
 pub invariant_of-self-2 : goal.invariant_of-self-2
 invariant_of-self-2 g c =
     let room = rw (← c.self.view_is) at c.in_ok-admit.ensures.ok.1 in (
-      rw (c.greatest_own-self-inside.ensures, c.settings.ensures, c.deref.ensures.0, c.add.ensures, c.reserve.ensures.entries)
+      rw (c.greatest_own-self-inside.ensures, c.settings.ensures, c.as_slice.ensures.value, c.add.ensures, c.reserve.ensures.entries)
           (node-snoc (base_of c.self.inside.base) c.self.inside.journal.entries (entry g c) c.self.inside.first c.self.inside.member c.enter-done.new.member c.self.inside.store.ceiling c.enter-done.new.store.ceiling c.self.inside.most c.self.invariant.0 (enters g c) room),
       c.enter-done.ensures.saved.covered,
     )

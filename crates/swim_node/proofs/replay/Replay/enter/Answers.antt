@@ -30,7 +30,7 @@ module _ (c : goal.After-add) where
 
 pub invariant_of-self-2 : goal.invariant_of-self-2
 invariant_of-self-2 c =
-    rw (c.greatest_own-self-inside.ensures, c.settings.ensures, c.deref.ensures.0, c.add.ensures, c.reserve.ensures.entries)
+    rw (c.greatest_own-self-inside.ensures, c.settings.ensures, c.as_slice.ensures.value, c.add.ensures, c.reserve.ensures.entries)
     (node-snoc (base c) c.self.inside.journal.entries (entry c) 0 c.self.inside.member c.enter_again-done.new.member c.self.inside.granted c.enter_again-done.result.granted c.self.inside.most c.self.invariant (enters c) (rw (← c.self.view_is) at c.in_ok-admit.ensures.ok.1))
 
 pub returns-clause-again : goal.returns-clause-again

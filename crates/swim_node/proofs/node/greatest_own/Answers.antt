@@ -7,7 +7,7 @@ use Rattle.swim_member.specs.declared.answer.Out.{Out}
 use Rattle.swim_member.specs.Fit.{own_numbers_in}
 use Rattle.swim_node.specs.Owns.{greatest_with}
 use Rattle.swim_node.proofs.Lists.{greatest_with-append}
-use Rattle.swim_node.proofs.greatest.greatest_own.Goals as goal
+use Rattle.swim_node.proofs.node.greatest_own.Goals as goal
 
 pub loop-out-preserved : goal.loop-out-preserved
 loop-out-preserved c =

@@ -1,7 +1,7 @@
 use Rattle.std.proofs.Common.{◌≡◌, ◌==◌, drop, map}
 use Rattle.std.specs.List.{filter}
 use Rattle.swim_node.specs.Owns.{greatest_with}
-use Rattle.swim_node.proofs.greatest.greatest_in.Given as goal
+use Rattle.swim_node.proofs.node.greatest_in.Given as goal
 
 -- the greatest so far, and of what is left
 abbrev pub invariant-loop-update : goal.invariant-loop-update

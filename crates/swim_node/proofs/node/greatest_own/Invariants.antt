@@ -1,7 +1,7 @@
 use Rattle.std.proofs.Common.{◌≡◌, drop}
 use Rattle.swim_member.specs.Fit.{own_numbers_in}
 use Rattle.swim_node.specs.Owns.{greatest_with}
-use Rattle.swim_node.proofs.greatest.greatest_own.Given as goal
+use Rattle.swim_node.proofs.node.greatest_own.Given as goal
 
 -- the greatest so far, and of what is left
 abbrev pub invariant-loop-out : goal.invariant-loop-out
