@@ -64,7 +64,7 @@ fn same_entry(rt: &impl Abort, entry: &Entry, other: &Entry) {
     same(rt, entry.outcomes.as_slice(), other.outcomes.as_slice());
     same_reply(rt, &entry.reply, &other.reply);
     same(rt, entry.outs.len(), other.outs.len());
-    for (out, other) in entry.outs.iter().zip(other.outs.iter()) {
+    for (out, other) in entry.outs.as_slice().iter().zip(other.outs.as_slice()) {
         same_out(rt, out, other);
     }
 }
@@ -121,11 +121,16 @@ fn call_all(rt: &impl Abort, node: &mut Node<Device>, plan: &Plan, link: &mut Me
     }
 }
 
-/// An era that is played again from the causes of these entries.
-fn played_again(rt: &impl Abort, alloc: Global, beginning: Beginning, entries: &[Entry]) -> Replay {
+/// How a beginning with sound settings is answered.
+fn begun(rt: &impl Abort, alloc: Global, beginning: Beginning) -> Result<Replay, BeginFault> {
     let sound = beginning.state.settings.check();
     sound.ok().expect(rt, "sound settings");
-    let mut again = Replay::begin(alloc, beginning).ok().expect(rt, "an era");
+    Replay::begin(alloc, beginning)
+}
+
+/// An era that is played again from the causes of these entries.
+fn played_again(rt: &impl Abort, alloc: Global, beginning: Beginning, entries: &[Entry]) -> Replay {
+    let mut again = begun(rt, alloc, beginning).ok().expect(rt, "an era");
     for entry in entries {
         holds(rt, entry.tag.caller < 16);
         same(rt, again.enter(Cause::of(entry)), Ok(()));
@@ -224,13 +229,7 @@ fn refused_beginnings(rt: HostRuntime) {
         holds(&rt, node.apply(&mut link, first, heard).is_ok());
         let mut beginning = node.beginning();
         spoil(&rt, &mut beginning, row);
-        beginning
-            .state
-            .settings
-            .check()
-            .ok()
-            .expect(&rt, "sound settings");
-        let begun = Replay::begin(rt.alloc(), beginning).map(|_| ());
-        same_at(&rt, &row, begun, want);
+        let answer = begun(&rt, rt.alloc(), beginning).map(|_| ());
+        same_at(&rt, &row, answer, want);
     }
 }
