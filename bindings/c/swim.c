@@ -1,7 +1,8 @@
 /*
  * The calls of swim.h over the proved ones, which have `library` in their names. Nothing of this file is proved: it refuses
- * null, a second call in a handle and a handle of before a fork, makes, opens and locks the file of a path, refuses descriptors
- * that would not do, goes over pages of rows, and has the texts.
+ * null, what is no handle, a second call in a handle and a handle of before a fork, makes, opens and locks the file of a path,
+ * refuses descriptors that would not do, counts ticks of other lengths by the proved ones of 100 ms, goes over pages of rows, and
+ * has the texts.
  */
 #define _GNU_SOURCE
 #include "swim.h"
@@ -28,6 +29,9 @@
 
 /* The rows of one page. */
 #define PAGE 30
+
+/* Milliseconds in a tick of the proved side. */
+#define TICK 100
 
 /* A row as the proved side has it. */
 struct row {
@@ -116,6 +120,7 @@ static const struct {
     {SWIM_FORKED, "SWIM_FORKED", "the handle was opened before this process was forked"},
     {SWIM_BAD_DESCRIPTOR, "SWIM_BAD_DESCRIPTOR", "the descriptor is not open for reading and writing, or it has O_APPEND"},
     {SWIM_TOO_MANY, "SWIM_TOO_MANY", "there are more than 8 seeds"},
+    {SWIM_NO_HANDLE, "SWIM_NO_HANDLE", "the struct is no handle: it did not begin with all bytes 0, or was written over"},
 };
 
 static const char *const notes_by_number[] = {
@@ -161,10 +166,25 @@ static uint32_t mark(struct swim_member *member) {
     return was;
 }
 
-/* Begins a call on a handle: nobody else may be in it. */
-static int begin(struct swim_member *member) {
+/* The mark of an open handle, as the proved side has it: the letters SWIMOPEN. */
+#define OPEN_MARK UINT64_C(0x5357494d4f50454e)
+
+/* Whether it is a handle: any other block would be busy for ever, or be marked by a call that has no right to it. */
+static int check_handle(const struct swim_member *member) {
+    uint64_t inside;
     if (member == NULL)
         return SWIM_NULL;
+    inside = __atomic_load_n(&member->inside.mark, __ATOMIC_RELAXED);
+    if ((inside != 0 && inside != OPEN_MARK) || __atomic_load_n(&member->busy, __ATOMIC_RELAXED) > 1)
+        return SWIM_NO_HANDLE;
+    return SWIM_OK;
+}
+
+/* Begins a call on a handle: nobody else may be in it. */
+static int begin(struct swim_member *member) {
+    int code = check_handle(member);
+    if (code != SWIM_OK)
+        return code;
     return mark(member) == 0 ? SWIM_OK : SWIM_BUSY;
 }
 
@@ -212,13 +232,23 @@ static int check_descriptor(int fd) {
     return (flags & O_ACCMODE) == O_RDWR && (flags & O_APPEND) == 0 ? SWIM_OK : SWIM_BAD_DESCRIPTOR;
 }
 
+/* Settings are judged before any file. The proved side judges them before it looks at the descriptor, and none is given here. */
 static int check_settings(const struct swim_settings *settings) {
+    int error = errno, code;
     if (settings == NULL)
         return SWIM_NULL;
     for (size_t i = 0; i < sizeof settings->reserved; i++)
         if (settings->reserved[i] != 0)
             return SWIM_BAD_RESERVED;
-    return SWIM_OK;
+    code = (int)swim_library_make_state(-1, settings);
+    errno = error;
+    return code == SWIM_FILE ? SWIM_OK : code;
+}
+
+/* The same for an opening, of which the handle is judged first. */
+static int check_opening(const struct swim_member *member, const struct swim_settings *settings) {
+    int code = check_handle(member);
+    return code == SWIM_OK ? check_settings(settings) : code;
 }
 
 int swim_make_state(int fd, const struct swim_settings *settings) {
@@ -281,25 +311,26 @@ static int open_on(struct swim_member *member, int fd, const struct swim_setting
     if (pthread_once(&once, watch_forks) != 0 || watch_failed)
         return SWIM_NO_MEMORY;
     code = (int)swim_library_open(&member->inside, fd, settings, limit);
-    if (code == SWIM_OK)
+    if (code == SWIM_OK) {
         member->forks = forks;
+        member->tick_ms = settings->tick_ms == 0 ? TICK : settings->tick_ms;
+    }
     return code;
 }
 
 int swim_open_descriptor(struct swim_member *member, int fd, const struct swim_settings *settings, uint32_t limit) {
-    int code = check_settings(settings);
-    if (member == NULL || code != SWIM_OK)
-        return member == NULL ? SWIM_NULL : code;
-    code = check_descriptor(fd);
+    int code = check_opening(member, settings);
+    if (code == SWIM_OK)
+        code = check_descriptor(fd);
     if (code == SWIM_OK)
         code = begin(member);
     return code == SWIM_OK ? ended(member, open_on(member, fd, settings, limit)) : code;
 }
 
 int swim_open(struct swim_member *member, const char *path, const struct swim_settings *settings, uint32_t limit) {
-    int fd;
-    if (member == NULL || path == NULL || settings == NULL)
-        return SWIM_NULL;
+    int fd, code = check_opening(member, settings);
+    if (path == NULL || code != SWIM_OK)
+        return path == NULL ? SWIM_NULL : code;
     fd = open(path, O_RDWR | O_CLOEXEC);
     if (fd < 0)
         return SWIM_FILE;
@@ -310,9 +341,9 @@ int swim_open(struct swim_member *member, const char *path, const struct swim_se
 }
 
 int swim_open_memory(struct swim_member *member, const struct swim_settings *settings, uint32_t limit) {
-    int fd, code;
-    if (member == NULL || settings == NULL)
-        return SWIM_NULL;
+    int fd, code = check_opening(member, settings);
+    if (code != SWIM_OK)
+        return code;
     fd = memfd_create("swim", MFD_CLOEXEC);
     if (fd < 0)
         return SWIM_FILE;
@@ -331,10 +362,35 @@ int swim_tick(struct swim_member *member, uint64_t random) {
     OWN(member, swim_library_tick(&member->inside, random));
 }
 
+/* The product of two numbers, or the greatest number. */
+static uint64_t times(uint64_t a, uint64_t b) { return b != 0 && a > UINT64_MAX / b ? UINT64_MAX : a * b; }
+
+/* The sum of two numbers, or the greatest number. */
+static uint64_t plus(uint64_t a, uint64_t b) { return a > UINT64_MAX - b ? UINT64_MAX : a + b; }
+
+/* What the proved side is told of the clock: so many of its milliseconds are over in a tick as it has in one. */
+static uint64_t to_proved(uint64_t now_ms, uint64_t tick_ms) {
+    return plus(times(now_ms / tick_ms, TICK), now_ms % tick_ms * TICK / tick_ms);
+}
+
+/* The first moment of the program's clock at which it is told so much. */
+static uint64_t from_proved(uint64_t told_ms, uint64_t tick_ms) {
+    return plus(times(told_ms / TICK, tick_ms), (told_ms % TICK * tick_ms + TICK - 1) / TICK);
+}
+
 int swim_advance(struct swim_member *member, uint64_t now_ms, uint64_t random, uint64_t *next_ms) {
+    uint64_t next, tick_ms;
+    int code;
     if (next_ms == NULL)
         return SWIM_NULL;
-    OWN(member, swim_library_advance(&member->inside, now_ms, random, next_ms));
+    code = begin_own(member);
+    if (code != SWIM_OK)
+        return code;
+    tick_ms = member->inside.mark == OPEN_MARK ? member->tick_ms : TICK; /* a closed handle has none */
+    code = (int)swim_library_advance(&member->inside, to_proved(now_ms, tick_ms), random, &next);
+    if (code == SWIM_OK)
+        *next_ms = from_proved(next, tick_ms);
+    return ended(member, code);
 }
 
 int swim_receive(struct swim_member *member, struct swim_endpoint from, const uint8_t *bytes, size_t length) {

@@ -24,7 +24,8 @@
  * Handles.    A `struct swim_member` is a block of the caller's: on the stack, static or allocated. It begins with all its
  *             bytes 0, which is closed, and is neither read nor written by the caller while it is open. It may be moved
  *             between calls, if what was left behind is never used again: two copies of an open one are two handles on one
- *             file. Each call on a closed one answers SWIM_CLOSED, a second swim_close too.
+ *             file. Each call on a closed one answers SWIM_CLOSED, a second swim_close too. A block that began with other
+ *             bytes, or was written over, is no handle: an opening and each call answer SWIM_NO_HANDLE, and do nothing.
  * Memory.     swim_open allocates what a member needs, by malloc, and swim_close frees it. With `limit` 1 no call between
  *             them allocates, also where it saves the state file. With more an event may, for the calls that are kept.
  *             The library keeps no pointer that it is given beyond the call.
@@ -34,8 +35,9 @@
  * Fork.       Open after the fork, as after daemon(). In the child of a fork a handle that was open answers SWIM_FORKED, so
  *             that no two processes say one number; swim_close frees it there, and should be called, since the state file
  *             stays locked as long as any process has it open. The parent goes on. (exec closes the file by itself.)
- * Time.       A tick is what the group agrees on: `swim run` ticks each 100 ms by its defaults, and so does swim_advance, by the
- *             clock that it is told of. Ticks that are late are skipped and never made up: see swim_tick.
+ * Time.       A tick is what the group agrees on: 100 ms by the defaults of `swim run`, and 50 ms in a group that `swim up` made.
+ *             `tick_ms` of the settings says it, and swim_advance makes ticks so, by the clock that it is told of. Ticks that
+ *             are late are skipped and never made up: see swim_tick.
  * The file.   One handle on a state file, and never an older copy of it. swim_open locks the file (flock), and answers
  *             SWIM_LOCKED where another has it.
  * Numbers.    Addresses and ports are in host order: 127.0.0.1 is 0x7f000001.
@@ -60,7 +62,7 @@ extern "C" {
  * may come.
  */
 #define SWIM_VERSION_MAJOR 1
-#define SWIM_VERSION_MINOR 2
+#define SWIM_VERSION_MINOR 3
 #define SWIM_VERSION (SWIM_VERSION_MAJOR * 1000u + SWIM_VERSION_MINOR)
 
 /* The most bytes of a datagram. */
@@ -127,7 +129,8 @@ enum swim_code {
     SWIM_FORKED = 52,        /* the handle was opened before this process was forked: it is the parent's */
     SWIM_BAD_DESCRIPTOR = 53, /* it is not open for both reading and writing, or it has O_APPEND */
 
-    SWIM_TOO_MANY = 54 /* more than SWIM_SEEDS_MAX seeds */
+    SWIM_TOO_MANY = 54,  /* more than SWIM_SEEDS_MAX seeds */
+    SWIM_NO_HANDLE = 55  /* the struct is no handle, neither closed nor open: it did not begin with all bytes 0, or was written over */
 };
 
 /* What an event may take note of. Many of 2, 3 or 18 mean that a member is set up wrongly: this one, or the one that sent. */
@@ -159,7 +162,8 @@ struct swim_endpoint {
 };
 
 /* What a member is told at its start. All members of a group have the same, but for the endpoint. Begin it with
-   SWIM_USUAL_SETTINGS, or with all bytes 0. It may be changed between two lives, but for group, address and port. */
+   SWIM_USUAL_SETTINGS, with SWIM_LAN_SETTINGS, or with all bytes 0. It may be changed between two lives, but for group, address
+   and port. Settings are judged before any file is looked at. */
 struct swim_settings {
     uint64_t group;   /* the group's number: datagrams of other groups are refused */
     uint64_t period;  /* ticks from one probe to the next, 2 to 1,000 */
@@ -172,11 +176,15 @@ struct swim_settings {
     uint32_t helpers; /* how many others are asked about a silent target, 0 to 8 */
     uint32_t rules;   /* by which rules the group lives, 1 or 2; take 2 for a new group */
     uint16_t port;    /* the own port, 1 to 65,535, host order */
-    uint8_t reserved[30]; /* all 0 */
+    uint16_t tick_ms; /* milliseconds in a tick of swim_advance, where 0 stands for 100 */
+    uint8_t reserved[28]; /* all 0 */
 };
 
 /* The defaults of `swim run`, by rules 2. Group, address and port are yours to set. */
-#define SWIM_USUAL_SETTINGS { 0, 10, 3, 50, 6000, 1, 0, 3, 3, 2, 0, { 0 } }
+#define SWIM_USUAL_SETTINGS { 0, 10, 3, 50, 6000, 1, 0, 3, 3, 2, 0, 100, { 0 } }
+
+/* The preset `lan`, by rules 2, with ticks of 50 ms: for a member of a group that `swim up` made, as the README's and the tutorial's. */
+#define SWIM_LAN_SETTINGS { 0, 10, 2, 80, 12000, 1, 0, 3, 5, 2, 0, 50, { 0 } }
 
 enum swim_kind { SWIM_ALIVE = 1, SWIM_SUSPECT = 2, SWIM_CONFIRM = 3 };
 
@@ -210,11 +218,12 @@ struct swim_member {
     struct swim_inside inside;
     uint32_t busy;  /* 1 while a call is in it */
     uint32_t forks; /* how often the process had been forked, counted from its first opening, when it was opened */
-    uint64_t reserved;
+    uint32_t tick_ms; /* of its settings */
+    uint32_t reserved;
 };
 
 /* What a handle begins with. */
-#define SWIM_CLOSED_MEMBER { { 0, NULL }, 0, 0, 0 }
+#define SWIM_CLOSED_MEMBER { { 0, NULL }, 0, 0, 0, 0 }
 
 /* SWIM_VERSION of the library that is linked. */
 uint32_t swim_version(void);
@@ -249,7 +258,8 @@ int swim_make_state(int fd, const struct swim_settings *settings);
  * Opens a member on the state file at a path, with an own number above all that it ever sent, and saves that before anything
  * is sent. The file is locked until swim_close. `limit` is how many calls are kept in memory before they are let go, 1 to
  * SWIM_LIMIT_MAX, at 9,416 bytes each. Nothing here reads them, so 1 is enough, and with 1 none is allocated later.
- * SWIM_OK, SWIM_NULL, SWIM_IS_OPEN, SWIM_FILE, SWIM_LOCKED, SWIM_NO_MEMORY, SWIM_NO_ENDPOINT, SWIM_BAD_*, SWIM_OPEN_*.
+ * SWIM_OK, SWIM_NULL, SWIM_NO_HANDLE, SWIM_IS_OPEN, SWIM_FILE, SWIM_LOCKED, SWIM_NO_MEMORY, SWIM_NO_ENDPOINT, SWIM_BAD_*,
+ * SWIM_OPEN_*.
  */
 int swim_open(struct swim_member *member, const char *path, const struct swim_settings *settings, uint32_t limit);
 
@@ -267,7 +277,7 @@ int swim_open_memory(struct swim_member *member, const struct swim_settings *set
  * Ends a member, and frees what it has. Nothing is sent: swim_leave before it tells the group. The state file stays as it
  * is. SWIM_OK, SWIM_NULL, SWIM_CLOSED.
  *
- * All calls from here on may answer SWIM_BUSY, and all but this one SWIM_FORKED.
+ * All calls from here on may answer SWIM_NO_HANDLE and SWIM_BUSY, and all but this one SWIM_FORKED.
  */
 int swim_close(struct swim_member *member);
 
@@ -289,10 +299,10 @@ int swim_tick(struct swim_member *member, uint64_t random);
 
 /*
  * Time is what the program's clock says, in milliseconds: one that only rises, from whatever it counts, as CLOCK_MONOTONIC. Makes one
- * tick if one is due, however late it is, and says in *next_ms when to call again: when the next one is due, 100 ms after this one was,
- * or after now where that has passed. So ticks that are late are skipped. The first one is due 100 ms after the first call. Ticks of
- * 50 ms, as the preset `lan` of `swim run` has, are made by a clock that is told twice as fast. Hand in first what waits at the socket.
- * It may be called sooner, for example after each datagram. Use this or swim_tick, and not both.
+ * tick if one is due, however late it is, and says in *next_ms when to call again: when the next one is due, `tick_ms` of the settings
+ * after this one was, or after now where that has passed. So ticks that are late are skipped. The first one is due so long after the
+ * first call. Hand in first what waits at the socket. It may be called sooner, for example after each datagram. Use this or swim_tick,
+ * and not both.
  *
  * Once swim_seeds was called it joins, too, whom `swim run` would join: where nothing waits, a call may make one join, and *next_ms
  * may then be now or soon. At SWIM_NO_MEMORY nothing happened, or the tick was made and the join was not, which is then due at the

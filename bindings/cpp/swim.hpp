@@ -46,6 +46,15 @@ inline swim_settings usual(std::uint64_t group, std::uint32_t address, std::uint
     return settings;
 }
 
+// Those of a group that `swim up` made: the preset `lan`, with ticks of 50 ms, and rules 2.
+inline swim_settings lan(std::uint64_t group, std::uint32_t address, std::uint16_t port) {
+    swim_settings settings = SWIM_LAN_SETTINGS;
+    settings.group = group;
+    settings.address = address;
+    settings.port = port;
+    return settings;
+}
+
 // Makes a state file at a path where nothing is, whole or not at all.
 inline void make(const std::string &path, const swim_settings &settings) { must(swim_make(path.c_str(), &settings)); }
 

@@ -85,6 +85,8 @@ const (
 	ErrBadDescriptor Code = C.SWIM_BAD_DESCRIPTOR
 	// ErrTooMany is SWIM_TOO_MANY: more than SWIM_SEEDS_MAX seeds.
 	ErrTooMany Code = C.SWIM_TOO_MANY
+	// ErrNoHandle is SWIM_NO_HANDLE: the struct is no handle, neither closed nor open: it did not begin with all bytes 0, or was written over.
+	ErrNoHandle Code = C.SWIM_NO_HANDLE
 )
 
 // A Note says: what an event took note of.

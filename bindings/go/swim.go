@@ -12,6 +12,11 @@ static struct swim_settings usual_settings(void) {
     struct swim_settings settings = SWIM_USUAL_SETTINGS;
     return settings;
 }
+
+static struct swim_settings lan_settings(void) {
+    struct swim_settings settings = SWIM_LAN_SETTINGS;
+    return settings;
+}
 */
 import "C"
 
@@ -72,22 +77,31 @@ func check(code C.int, errno error) error {
 	return Code(code)
 }
 
-// Settings are what a member is told at its start. All members of a group have the same, but for Me.
+// Settings are what a member is told at its start. All members of a group have the same, but for Me. TickMs is how many milliseconds a tick
+// of Advance has, where 0 stands for 100.
 type Settings struct {
 	Group                                  uint64
 	Me                                     netip.AddrPort
 	Period, Direct, Suspect, Forget, Block uint64
 	Lambda, Helpers, Rules                 uint32
+	TickMs                                 uint16
 }
 
 // Usual are the defaults of `swim run`, by rules 2, for a member of this group at this IPv4 address and port.
 func Usual(group uint64, me netip.AddrPort) Settings {
-	usual := C.usual_settings()
+	return settingsOf(C.usual_settings(), group, me)
+}
+
+// Lan are those of a group that `swim up` made: the preset `lan`, with ticks of 50 ms, and rules 2.
+func Lan(group uint64, me netip.AddrPort) Settings { return settingsOf(C.lan_settings(), group, me) }
+
+func settingsOf(given C.struct_swim_settings, group uint64, me netip.AddrPort) Settings {
 	return Settings{
 		Group: group, Me: me,
-		Period: uint64(usual.period), Direct: uint64(usual.direct), Suspect: uint64(usual.suspect),
-		Forget: uint64(usual.forget), Block: uint64(usual.block),
-		Lambda: uint32(usual.lambda), Helpers: uint32(usual.helpers), Rules: uint32(usual.rules),
+		Period: uint64(given.period), Direct: uint64(given.direct), Suspect: uint64(given.suspect),
+		Forget: uint64(given.forget), Block: uint64(given.block),
+		Lambda: uint32(given.lambda), Helpers: uint32(given.helpers), Rules: uint32(given.rules),
+		TickMs: uint16(given.tick_ms),
 	}
 }
 
@@ -98,6 +112,7 @@ func (s Settings) toC() (C.struct_swim_settings, error) {
 		period: C.uint64_t(s.Period), direct: C.uint64_t(s.Direct), suspect: C.uint64_t(s.Suspect),
 		forget: C.uint64_t(s.Forget), block: C.uint64_t(s.Block),
 		lambda: C.uint32_t(s.Lambda), helpers: C.uint32_t(s.Helpers), rules: C.uint32_t(s.Rules),
+		tick_ms: C.uint16_t(s.TickMs),
 	}, err
 }
 
@@ -299,7 +314,7 @@ func (m *Member) Next(buffer *[DatagramMax]byte) (to netip.AddrPort, data []byte
 	return fromC(at.address, at.port), buffer[:length], nil
 }
 
-// A Row is what is held of a member.
+// A Row is what is held of a member. Number is its incarnation.
 type Row struct {
 	Who    netip.AddrPort
 	Kind   Kind
@@ -367,7 +382,7 @@ func (m *Member) StoredPeers() ([]netip.AddrPort, error) {
 	return all, nil
 }
 
-// A Status is what a status page shows. First is the number with which this life began.
+// A Status is what a status page shows. Number is the own incarnation, and First the one with which this life began.
 type Status struct {
 	Phase                     Phase
 	Number, First             uint64

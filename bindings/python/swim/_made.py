@@ -4,7 +4,7 @@ import ctypes as _c
 import enum
 from typing import Any, Dict, List, Tuple
 
-VERSION = 1002
+VERSION = 1003
 DATAGRAM_MAX = 512
 MEMBERS_MAX = 257
 NOTES_MAX = 32
@@ -22,6 +22,20 @@ USUAL: Dict[str, int] = {
     "lambda_": 3,
     "helpers": 3,
     "rules": 2,
+    "tick_ms": 100,
+}
+
+# The preset `lan`, by rules 2, with ticks of 50 ms.
+LAN: Dict[str, int] = {
+    "period": 10,
+    "direct": 2,
+    "suspect": 80,
+    "forget": 12000,
+    "block": 1,
+    "lambda_": 3,
+    "helpers": 5,
+    "rules": 2,
+    "tick_ms": 50,
 }
 
 
@@ -67,6 +81,7 @@ class Code(enum.IntEnum):
     FORKED = 52  # the handle was opened before this process was forked: it is the parent's
     BAD_DESCRIPTOR = 53  # it is not open for both reading and writing, or it has O_APPEND
     TOO_MANY = 54  # more than SWIM_SEEDS_MAX seeds
+    NO_HANDLE = 55  # the struct is no handle, neither closed nor open: it did not begin with all bytes 0, or was written over
 
 
 class Note(enum.IntEnum):
@@ -128,7 +143,8 @@ class swim_settings(_c.Structure):
         ("helpers", _c.c_uint32),
         ("rules", _c.c_uint32),
         ("port", _c.c_uint16),
-        ("reserved", _c.c_uint8 * 30),
+        ("tick_ms", _c.c_uint16),
+        ("reserved", _c.c_uint8 * 28),
     ]
 
 
@@ -166,7 +182,8 @@ class swim_member(_c.Structure):
         ("inside", swim_inside),
         ("busy", _c.c_uint32),
         ("forks", _c.c_uint32),
-        ("reserved", _c.c_uint64),
+        ("tick_ms", _c.c_uint32),
+        ("reserved", _c.c_uint32),
     ]
 
 

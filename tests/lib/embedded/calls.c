@@ -143,6 +143,41 @@ static uint64_t take_all(struct swim_member *m) {
     return most;
 }
 
+/* A block that never was a handle, or was written over, is refused by each call, which does not change it. */
+static void no_handles(void) {
+    struct swim_settings settings = sound();
+    struct swim_member all, before, busy = SWIM_CLOSED_MEMBER;
+    struct swim_endpoint to;
+    struct swim_row row, was;
+    struct swim_status status;
+    uint8_t bytes[SWIM_DATAGRAM_MAX], notes[SWIM_NOTES_MAX];
+    uint64_t next;
+    size_t n;
+    memset(&all, 0xa5, sizeof all);
+    before = all;
+    want("open what is no handle", swim_open(&all, "none.state", &settings, 1), SWIM_NO_HANDLE);
+    want("open descriptor", swim_open_descriptor(&all, -1, &settings, 1), SWIM_NO_HANDLE);
+    want("open memory", swim_open_memory(&all, &settings, 1), SWIM_NO_HANDLE);
+    want("tick", swim_tick(&all, 1), SWIM_NO_HANDLE);
+    want("advance", swim_advance(&all, 0, 1, &next), SWIM_NO_HANDLE);
+    want("receive", swim_receive(&all, peer, bytes, 0), SWIM_NO_HANDLE);
+    want("receive failed", swim_receive_failed(&all), SWIM_NO_HANDLE);
+    want("send failed", swim_send_failed(&all, 1), SWIM_NO_HANDLE);
+    want("seeds", swim_seeds(&all, &peer, 1, 1), SWIM_NO_HANDLE);
+    want("join", swim_join(&all, peer), SWIM_NO_HANDLE);
+    want("leave", swim_leave(&all), SWIM_NO_HANDLE);
+    want("next", swim_next_datagram(&all, &to, bytes, sizeof bytes, &n), SWIM_NO_HANDLE);
+    want("members", swim_members(&all, &row, 1, &n), SWIM_NO_HANDLE);
+    want("changes", swim_next_change(&all, &row, &was), SWIM_NO_HANDLE);
+    want("status", swim_get_status(&all, &status), SWIM_NO_HANDLE);
+    want("notes", swim_notes(&all, notes, &n), SWIM_NO_HANDLE);
+    want("keep peers", swim_keep_peers(&all), SWIM_NO_HANDLE);
+    want("close", swim_close(&all), SWIM_NO_HANDLE);
+    holds(memcmp(&all, &before, sizeof all) == 0, "and nothing is written over it");
+    busy.busy = 0xa5a5a5a5u;
+    want("tick what is busy as no call makes it", swim_tick(&busy, 1), SWIM_NO_HANDLE);
+}
+
 #define SETTING(field, value, code)                                                                                    \
     do {                                                                                                               \
         struct swim_settings s = sound();                                                                              \
@@ -230,7 +265,7 @@ static void misuse(void) {
     SETTING(address, 0xe0000000u, SWIM_BAD_ADDRESS);
     SETTING(address, 0xefffffffu, SWIM_BAD_ADDRESS);
     SETTING(reserved[0], 1, SWIM_BAD_RESERVED);
-    SETTING(reserved[29], 255, SWIM_BAD_RESERVED);
+    SETTING(reserved[27], 255, SWIM_BAD_RESERVED);
     for (uint32_t *address = (uint32_t[]){1, 0xdfffffffu, 0xf0000000u, 0xfffffffeu, 0}; *address != 0; address++) {
         struct swim_settings s = sound();
         s.address = *address;
@@ -239,8 +274,18 @@ static void misuse(void) {
     }
     settings.address = 0;
     want("make without an address", swim_make(path, &settings), SWIM_BAD_ADDRESS);
+    want("and where there is no folder", swim_make("no/folder/misuse.state", &settings), SWIM_BAD_ADDRESS);
+    want("open without an address where no file is", swim_open(&m, path, &settings, 1), SWIM_BAD_ADDRESS);
+    want("open a bad descriptor without an address", swim_open_descriptor(&m, -1, &settings, 1), SWIM_BAD_ADDRESS);
+    want("make a bad descriptor without an address", swim_make_state(-1, &settings), SWIM_BAD_ADDRESS);
     settings.address = LOOPBACK;
     holds(access(path, F_OK) != 0, "and nothing is left");
+    settings.period = 1;
+    want("open with a bad period where no file is", swim_open(&m, path, &settings, 1), SWIM_BAD_PERIOD);
+    settings.period = 10;
+    settings.port = 0;
+    want("open without a port where no file is", swim_open(&m, path, &settings, 1), SWIM_NO_ENDPOINT);
+    settings.port = ME_PORT;
     want("limit 0", swim_open_memory(&m, &settings, 0), SWIM_OPEN_LIMIT);
     want("limit great", swim_open_memory(&m, &settings, SWIM_LIMIT_MAX + 1), SWIM_OPEN_LIMIT);
     want("bad descriptor", swim_open_descriptor(&m, -1, &settings, 1), SWIM_FILE);
@@ -824,6 +869,59 @@ static void follow_clock(void) {
     want("close", swim_close(&m), SWIM_OK);
 }
 
+/* Time is `now`; gives how many datagrams were sent at it. The next tick is due a tick later; a long one has a hundredth of it to spare. */
+static int sent_in_tick(struct swim_member *m, uint64_t now, uint64_t length, uint64_t *next) {
+    uint8_t bytes[SWIM_DATAGRAM_MAX];
+    struct swim_endpoint to;
+    size_t size;
+    int sent = 0;
+    want("advance", swim_advance(m, now, draw(), next), SWIM_OK);
+    holds(*next <= now + length && now + length - *next <= length / 100, "the next tick is due a tick later");
+    while (swim_next_datagram(m, &to, bytes, sizeof bytes, &size) == SWIM_OK)
+        sent++;
+    return sent;
+}
+
+/* Ticks are as long as the settings say. Each second one sends a ping, as in follow_clock. */
+static void follow_ticks(uint16_t tick_ms) {
+    struct swim_member m = SWIM_CLOSED_MEMBER;
+    struct swim_settings settings = sound();
+    const uint64_t length = tick_ms == 0 ? 100 : tick_ms;
+    uint8_t bytes[SWIM_DATAGRAM_MAX];
+    uint64_t next;
+    int sent = 0;
+    settings.period = 2;
+    settings.direct = 1;
+    settings.helpers = 0;
+    settings.suspect = 10000;
+    settings.tick_ms = tick_ms;
+    want("open", swim_open_memory(&m, &settings, 1), SWIM_OK);
+    want("others", swim_receive(&m, peer, bytes, presence(bytes)), SWIM_OK);
+    take_all(&m);
+    sent_in_tick(&m, 1000, length, &next);
+    for (int i = 0; i < 40; i++) {
+        uint64_t due = next;
+        sent += sent_at(&m, due - 1, due) + sent_in_tick(&m, due, length, &next) + sent_at(&m, next - 1, next);
+    }
+    holds(sent == 20, "40 ticks, each when it is due");
+    sent = sent_in_tick(&m, next + 1000 * length, length, &next);
+    sent += sent_in_tick(&m, next, length, &next);
+    holds(sent == 1, "1,000 ticks that are late are one");
+    want("the end of the clock", swim_advance(&m, UINT64_MAX, 1, &next), SWIM_OK);
+    take_all(&m);
+    want("close", swim_close(&m), SWIM_OK);
+}
+
+/* By the settings of `lan` as docs/operate/SETTINGS.md has them. */
+static void follow_lan(void) {
+    const struct swim_settings lan = SWIM_LAN_SETTINGS;
+    const uint16_t lengths[] = {0, 1, 7, 20, 50, 99, 100, 101, 200, 60000, 65535};
+    holds(lan.period == 10 && lan.direct == 2 && lan.suspect == 80 && lan.forget == 12000 && lan.block == 1, "the times of lan");
+    holds(lan.lambda == 3 && lan.helpers == 5 && lan.rules == 2 && lan.tick_ms == 50, "the counts of lan");
+    for (size_t i = 0; i < sizeof lengths / sizeof *lengths; i++)
+        follow_ticks(lengths[i]);
+}
+
 /* The joins that a member sends as it is called when it wants to be: when they were sent, and to whom. */
 struct joins {
     struct swim_member *m;
@@ -926,7 +1024,7 @@ static void random_calls(uint64_t seed, long count) {
 
 int main(int argc, char **argv) {
     if (argc >= 2 && strcmp(argv[1], "misuse") == 0)
-        misuse();
+        misuse(), no_handles();
     else if (argc >= 2 && strcmp(argv[1], "refuse") == 0)
         refuse();
     else if (argc >= 2 && strcmp(argv[1], "fail") == 0)
@@ -936,7 +1034,7 @@ int main(int argc, char **argv) {
     else if (argc >= 2 && strcmp(argv[1], "changes") == 0)
         changes();
     else if (argc >= 2 && strcmp(argv[1], "clock") == 0)
-        follow_clock();
+        follow_clock(), follow_lan();
     else if (argc >= 2 && strcmp(argv[1], "seeds") == 0)
         seek();
     else if (argc >= 2 && strcmp(argv[1], "make") == 0)

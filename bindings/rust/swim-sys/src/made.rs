@@ -3,7 +3,7 @@
 use std::mem::size_of;
 use std::os::raw::{c_char, c_int, c_void};
 
-pub const SWIM_VERSION: u32 = 1002;
+pub const SWIM_VERSION: u32 = 1003;
 pub const SWIM_DATAGRAM_MAX: usize = 512;
 pub const SWIM_MEMBERS_MAX: usize = 257;
 pub const SWIM_NOTES_MAX: usize = 32;
@@ -50,6 +50,7 @@ pub const SWIM_BUSY: c_int = 51;
 pub const SWIM_FORKED: c_int = 52;
 pub const SWIM_BAD_DESCRIPTOR: c_int = 53;
 pub const SWIM_TOO_MANY: c_int = 54;
+pub const SWIM_NO_HANDLE: c_int = 55;
 
 pub const SWIM_NOTE_BAD_DATAGRAM: c_int = 1;
 pub const SWIM_NOTE_OTHER_GROUP: c_int = 2;
@@ -101,7 +102,8 @@ pub struct swim_settings {
     pub helpers: u32,
     pub rules: u32,
     pub port: u16,
-    pub reserved: [u8; 30],
+    pub tick_ms: u16,
+    pub reserved: [u8; 28],
 }
 
 /// `struct swim_row`.
@@ -143,7 +145,8 @@ pub struct swim_member {
     pub inside: swim_inside,
     pub busy: u32,
     pub forks: u32,
-    pub reserved: u64,
+    pub tick_ms: u32,
+    pub reserved: u32,
 }
 
 const _: () = assert!(size_of::<swim_endpoint>() == 8);
@@ -166,7 +169,25 @@ pub const SWIM_USUAL_SETTINGS: swim_settings = swim_settings {
     helpers: 3,
     rules: 2,
     port: 0,
-    reserved: [0; 30],
+    tick_ms: 100,
+    reserved: [0; 28],
+};
+
+/// The preset `lan`, by rules 2, with ticks of 50 ms. Group, address and port are yours to set.
+pub const SWIM_LAN_SETTINGS: swim_settings = swim_settings {
+    group: 0,
+    period: 10,
+    direct: 2,
+    suspect: 80,
+    forget: 12000,
+    block: 1,
+    address: 0,
+    lambda: 3,
+    helpers: 5,
+    rules: 2,
+    port: 0,
+    tick_ms: 50,
+    reserved: [0; 28],
 };
 
 extern "C" {

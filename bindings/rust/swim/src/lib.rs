@@ -93,7 +93,7 @@ fn done(code: c_int) -> Result<(), Fault> {
     }
 }
 
-/// What a member is told at its start; swim.h has the ranges.
+/// What a member is told at its start; swim.h has the ranges. Begin it with [`Settings::usual`] or [`Settings::lan`].
 #[derive(Clone, Copy, Debug, PartialEq, Eq)]
 pub struct Settings {
     /// The group's number.
@@ -116,23 +116,34 @@ pub struct Settings {
     pub helpers: u32,
     /// By which rules the group lives.
     pub rules: u32,
+    /// Milliseconds in a tick of [`Member::advance`], where 0 stands for 100.
+    pub tick_ms: u16,
 }
 
 impl Settings {
     /// The defaults of `swim run`, by rules 2.
     pub fn usual(group: u64, me: SocketAddrV4) -> Settings {
-        let usual = sys::SWIM_USUAL_SETTINGS;
+        Settings::of(&sys::SWIM_USUAL_SETTINGS, group, me)
+    }
+
+    /// Those of a group that `swim up` made: the preset `lan`, with ticks of 50 ms, and rules 2.
+    pub fn lan(group: u64, me: SocketAddrV4) -> Settings {
+        Settings::of(&sys::SWIM_LAN_SETTINGS, group, me)
+    }
+
+    fn of(given: &sys::swim_settings, group: u64, me: SocketAddrV4) -> Settings {
         Settings {
             group,
             me,
-            period: usual.period,
-            direct: usual.direct,
-            suspect: usual.suspect,
-            forget: usual.forget,
-            block: usual.block,
-            lambda: usual.lambda,
-            helpers: usual.helpers,
-            rules: usual.rules,
+            period: given.period,
+            direct: given.direct,
+            suspect: given.suspect,
+            forget: given.forget,
+            block: given.block,
+            lambda: given.lambda,
+            helpers: given.helpers,
+            rules: given.rules,
+            tick_ms: given.tick_ms,
         }
     }
 
@@ -150,6 +161,7 @@ impl Settings {
             helpers: self.helpers,
             rules: self.rules,
             port: me.port,
+            tick_ms: self.tick_ms,
             ..sys::SWIM_USUAL_SETTINGS
         }
     }
@@ -162,7 +174,7 @@ pub struct Row {
     pub kind: Kind,
     /// Its address and port.
     pub who: SocketAddrV4,
-    /// Its incarnation number.
+    /// Its incarnation.
     pub number: u64,
 }
 
@@ -186,14 +198,14 @@ pub struct Change {
     pub was: Option<Row>,
 }
 
-/// What a status page shows. `first` is the number with which this life began.
+/// What a status page shows. `first` is the incarnation with which this life began.
 #[derive(Clone, Copy, Debug, PartialEq, Eq)]
 pub struct Status {
     /// Whether the member takes part.
     pub phase: Phase,
-    /// The own incarnation number.
+    /// The own incarnation.
     pub number: u64,
-    /// The number with which this life began.
+    /// The incarnation with which this life began.
     pub first: u64,
     /// Other members that are held for alive.
     pub alive: u64,
@@ -279,6 +291,7 @@ impl Member {
                 },
                 busy: 0,
                 forks: 0,
+                tick_ms: 0,
                 reserved: 0,
             },
         };

@@ -83,6 +83,8 @@ pub enum Code {
     BadDescriptor,
     /// `SWIM_TOO_MANY`: more than SWIM_SEEDS_MAX seeds.
     TooMany,
+    /// `SWIM_NO_HANDLE`: the struct is no handle, neither closed nor open: it did not begin with all bytes 0, or was written over.
+    NoHandle,
     /// One that this crate does not know: the library is newer.
     Unknown(c_int),
 }
@@ -129,6 +131,7 @@ impl Code {
             sys::SWIM_FORKED => Code::Forked,
             sys::SWIM_BAD_DESCRIPTOR => Code::BadDescriptor,
             sys::SWIM_TOO_MANY => Code::TooMany,
+            sys::SWIM_NO_HANDLE => Code::NoHandle,
             _ => Code::Unknown(number),
         }
     }
@@ -174,6 +177,7 @@ impl Code {
             Code::Forked => sys::SWIM_FORKED,
             Code::BadDescriptor => sys::SWIM_BAD_DESCRIPTOR,
             Code::TooMany => sys::SWIM_TOO_MANY,
+            Code::NoHandle => sys::SWIM_NO_HANDLE,
             Code::Unknown(number) => number,
         }
     }
