@@ -11,7 +11,7 @@ import swim.aio
 
 
 async def run(path: str, settings: swim.Settings, peers: List[swim.Address], seconds: float) -> None:
-    async with swim.aio.Member(path, settings, peers) as member:
+    async with swim.aio.Member(path, settings, peers, leave=True) as member:
         await asyncio.sleep(seconds)
         for row in member.members():
             print(row.kind.name.lower(), f"{row.who[0]}:{row.who[1]}", row.number)

@@ -37,11 +37,12 @@ from . import _made
 from ._made import DATAGRAM_MAX, MEMBERS_MAX, NOTES_MAX, PEERS_MAX, SEEDS_MAX, Code, Kind, Note, Phase
 
 __all__ = [
-    "DATAGRAM_MAX", "MEMBERS_MAX", "SEEDS_MAX", "Change", "Closed", "Code", "Kind", "Locked", "Member", "Note", "Phase", "Row", "Settings",
-    "Status", "SwimError", "Waiting", "make", "version",
+    "DATAGRAM_MAX", "MEMBERS_MAX", "SEEDS_MAX", "Change", "Closed", "Code", "Forbidden", "IsFolder", "Kind", "Locked", "Member", "Missing",
+    "NoFolder", "Note", "Phase", "Present", "Row", "Settings", "Status", "SwimError", "Waiting", "make", "version",
 ]  # fmt: skip
 
 Address = Tuple[str, int]  # "127.0.0.1", 7000: as sockets have it
+Source = Union[Address, Tuple[str, int, int, int]]  # where a datagram came from, as recvfrom of a socket of IPv4 or of both kinds says it
 Path = Union[str, bytes, "os.PathLike[str]"]
 File = Union[Path, int]  # a path or, as open() takes it, a descriptor
 Data = Union[bytes, bytearray, memoryview]
@@ -70,13 +71,14 @@ _library = _load()
 
 
 class SwimError(OSError):
-    """A code of the library other than SWIM_OK: `code`, and `errno` with it where the system refused something, else None."""
+    """A code of the library other than SWIM_OK: `code`, and `errno` with it where the system refused something, else None. What Python
+    has a class for is of that class too: of a file that is not there a Missing, which is a FileNotFoundError."""
 
     def __init__(self, code: int, errno: int = 0):
         self.code = Code(code) if code in Code.__members__.values() else code
         self.name: str = _library.swim_name(code).decode().replace("SWIM_", "", 1)
         text = _library.swim_text(code).decode()
-        has_errno = errno != 0 and self.code in (Code.FILE, Code.OPEN_DEVICE, Code.MAKE_DEVICE, Code.KEEP_DEVICE)
+        has_errno = errno != 0 and self.code in _HAVE_ERRNO
         text = f"{self.name}: {text}" + (f" ({os.strerror(errno)})" if has_errno else "")
         super().__init__(*((errno, text) if has_errno else (text,)))
         self._text: str = text
@@ -101,12 +103,40 @@ class Locked(SwimError):
     """Another member or another process has the state file."""
 
 
+class Missing(SwimError, FileNotFoundError):
+    """The state file, or its folder, is not there."""
+
+
+class Present(SwimError, FileExistsError):
+    """Something is where the state file was to be made."""
+
+
+class Forbidden(SwimError, PermissionError):
+    """The system does not let this user open or make the file."""
+
+
+class IsFolder(SwimError, IsADirectoryError):
+    """A folder is where the state file was to be."""
+
+
+class NoFolder(SwimError, NotADirectoryError):
+    """A part of the path is no folder."""
+
+
 _CLASSES = {Code.CLOSED: Closed, Code.WAITING: Waiting, Code.LOCKED: Locked}
+_HAVE_ERRNO = (Code.FILE, Code.OPEN_DEVICE, Code.MAKE_DEVICE, Code.KEEP_DEVICE)
+_BY_ERRNO = {kind.__bases__[1]: kind for kind in (Missing, Present, Forbidden, IsFolder, NoFolder)}
+
+
+def _error(code: int, errno: int) -> SwimError:
+    """The error of a code and of what the system said, as the class that OSError would have."""
+    kind = _BY_ERRNO.get(type(OSError(errno, ""))) if code in _HAVE_ERRNO else _CLASSES.get(code)  # type: ignore[call-overload]
+    return (kind or SwimError)(code, errno)
 
 
 def _must(code: int) -> None:
     if code != Code.OK:
-        raise _CLASSES.get(code, SwimError)(code, _c.get_errno())  # type: ignore[call-overload]
+        raise _error(code, _c.get_errno())
 
 
 def _to_c(address: Address) -> _made.swim_endpoint:
@@ -121,7 +151,8 @@ def _from_c(address: int, port: int) -> Address:
 
 @dataclass(frozen=True)
 class Settings:
-    """What a member is told at its start, with the defaults of `swim run` and rules 2; swim.h has the ranges."""
+    """What a member is told at its start, with the defaults of `swim run` and rules 2, or by `lan` those of that preset; swim.h has the
+    ranges. They are judged where a member is made or opened, before its file is looked at."""
 
     group: int
     me: Address
@@ -133,19 +164,27 @@ class Settings:
     lambda_: int = _made.USUAL["lambda_"]
     helpers: int = _made.USUAL["helpers"]
     rules: int = _made.USUAL["rules"]
+    tick_ms: int = _made.USUAL["tick_ms"]
+
+    @classmethod
+    def lan(cls, group: int, me: Address, **others: int) -> "Settings":
+        """Those of a group that `swim up` made: the preset `lan`, with ticks of 50 ms, and rules 2. What is given besides counts."""
+        return cls(group, me, **{**_made.LAN, **others})
 
     def _to_c(self) -> _made.swim_settings:
         wide = {name: getattr(self, name) for name in ("group", "period", "direct", "suspect", "forget", "block")}
         words = {name: getattr(self, name) for name in ("lambda_", "helpers", "rules")}
         if any(not 0 <= n < 1 << 64 for n in wide.values()) or any(not 0 <= n < 1 << 32 for n in words.values()):
             raise ValueError("a setting does not fit its type")
+        if not 0 <= self.tick_ms < 1 << 16:
+            raise ValueError(f"tick_ms {self.tick_ms} is not 0 to 65,535")
         me = _to_c(self.me)
-        return _made.swim_settings(**wide, **words, address=me.address, port=me.port)
+        return _made.swim_settings(**wide, **words, address=me.address, port=me.port, tick_ms=self.tick_ms)
 
 
 @dataclass(frozen=True)
 class Row:
-    """What is held of a member."""
+    """What is held of a member. `number` is its incarnation."""
 
     kind: Kind
     who: Address
@@ -162,7 +201,7 @@ class Change:
 
 @dataclass(frozen=True)
 class Status:
-    """What a status page shows. `first` is the number with which this life began."""
+    """What a status page shows. `number` is the own incarnation, and `first` the one with which this life began."""
 
     phase: Phase
     number: int
@@ -192,7 +231,8 @@ def make(path: File, settings: Settings) -> None:
 
 class Member:
     """A member on its state file, or, where `path` is None, on one in memory, for tests. A file at a path is locked; a descriptor is
-    duplicated, and two members on its file are the caller's to rule out. Calls of several threads wait for one another."""
+    duplicated, and two members on its file are the caller's to rule out. Calls of several threads wait for one another. It is neither
+    copied nor pickled (TypeError): two of one life would be two members on one file."""
 
     def __init__(self, path: Optional[File], settings: Settings, limit: int = 1):
         self._lock = threading.Lock()
@@ -209,6 +249,10 @@ class Member:
 
     def __exit__(self, *why: object) -> None:
         self.close()
+
+    def __reduce_ex__(self, protocol: Any) -> Any:
+        """Asked by copy.copy, copy.deepcopy and pickle."""
+        raise TypeError("a swim member is one life of its state file, and is not copied")
 
     def __del__(self) -> None:
         if getattr(self, "_handle", None) is not None:
@@ -229,17 +273,17 @@ class Member:
 
     def advance(self, now: float, random: Optional[int] = None) -> float:
         """Makes one tick if one is due by the program's clock, in seconds, as time.monotonic(), joins whom the seeds call for, and answers
-        when to call again. Late ticks are skipped. Use this or tick, and not both."""
+        when to call again. Ticks are as long as the settings say; late ones are skipped. Use this or tick, and not both."""
         due = _c.c_uint64()
         self._call(_library.swim_advance, int(now * 1000), secrets.randbits(64) if random is None else random, due)
         return due.value / 1000
 
-    def receive(self, source: Address, data: Data) -> bool:
-        """Bytes came from there. No datagram, whatever it is, makes this fail. False if it was left aside, and was no event: from port 0,
-        or from an address of IPv6 that stands for none of IPv4."""
-        host, port = source
+    def receive(self, source: Source, data: Data) -> bool:
+        """Bytes came from there, as recvfrom says it. No datagram, whatever it is, makes this fail. False if it was left aside, and was no
+        event: from port 0, or from an address of IPv6 that stands for none of IPv4."""
+        host, port = source[:2]
         if ":" in host:
-            mapped = ipaddress.IPv6Address(host).ipv4_mapped
+            mapped = ipaddress.IPv6Address(host.partition("%")[0]).ipv4_mapped  # (Python 3.8 refuses the zone of a local address)
             if mapped is None:
                 return False
             host = str(mapped)

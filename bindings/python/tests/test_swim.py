@@ -1,12 +1,13 @@
 """What the module adds to libswim: exceptions, locks, types. tests/embedded tries the library itself."""
 
 import asyncio
+import copy
 import errno
 import pickle
 import socket
 import threading
 from pathlib import Path
-from typing import Callable, Iterator, List, Union
+from typing import Callable, Iterator, List, Optional, Type, Union
 
 import pytest
 
@@ -41,6 +42,54 @@ def test_errors_tell_their_errno(tmp_path: Path, settings: swim.Settings) -> Non
     with swim.Member(path, settings):
         with pytest.raises(swim.Locked):
             swim.Member(path, settings)
+
+
+def test_errors_are_the_classes_of_their_errno(tmp_path: Path, settings: swim.Settings) -> None:
+    path = tmp_path / "member.state"
+    with pytest.raises(FileNotFoundError) as missing:
+        swim.Member(path, settings)
+    assert isinstance(missing.value, swim.SwimError)
+    with pytest.raises(FileNotFoundError):
+        swim.make(tmp_path / "none" / "member.state", settings)
+    swim.make(path, settings)
+    with pytest.raises(FileExistsError):
+        swim.make(path, settings)
+    with pytest.raises(NotADirectoryError):
+        swim.Member(path / "member.state", settings)
+    with pytest.raises(IsADirectoryError):
+        swim.Member(tmp_path, settings)
+
+
+@pytest.mark.parametrize(
+    "code, number, kind",
+    [
+        (swim.Code.FILE, errno.EACCES, PermissionError),
+        (swim.Code.OPEN_DEVICE, errno.EIO, swim.SwimError),
+        (swim.Code.WAITING, errno.ENOENT, swim.Waiting),
+    ],
+)
+def test_the_class_of_a_code(code: swim.Code, number: int, kind: Type[OSError]) -> None:
+    error = swim._error(code, number)
+    assert isinstance(error, kind) and isinstance(error, swim.SwimError)
+    assert isinstance(error, FileNotFoundError) is False
+
+
+def test_settings_are_judged_before_the_file(tmp_path: Path) -> None:
+    nowhere = swim.Settings(group=7, me=("0.0.0.0", 7000))
+    for call in (swim.make, swim.Member):
+        with pytest.raises(swim.SwimError) as refused:
+            call(tmp_path / "none" / "member.state", nowhere)
+        assert refused.value.code is swim.Code.BAD_ADDRESS
+    with pytest.raises(ValueError):
+        swim.Member(None, swim.Settings.lan(7, ("127.0.0.1", 7000), tick_ms=1 << 16))
+
+
+def test_the_settings_of_a_group_that_swim_up_made() -> None:
+    """SETTINGS.md, "Presets"."""
+    lan = swim.Settings.lan(7, ("127.0.0.1", 7000))
+    assert (lan.period, lan.direct, lan.suspect, lan.forget, lan.lambda_, lan.helpers, lan.rules, lan.tick_ms) == (10, 2, 80, 12000, 3, 5, 2, 50)
+    with swim.Member(None, lan) as member:
+        assert [member.advance(now) for now in (5.0, 5.025, 5.05, 60.0)] == [5.05, 5.05, 5.1, 60.05]
 
 
 def test_a_descriptor_takes_a_member(tmp_path: Path, settings: swim.Settings) -> None:
@@ -101,6 +150,19 @@ def test_a_socket_of_ipv6_harms_nobody(member: swim.Member) -> None:
     assert member.notes() == []
     assert member.receive(("::ffff:127.0.0.1", 7001), b"x")
     assert member.notes() == [swim.Note.BAD_DATAGRAM]
+    assert not member.receive(("fe80::1%lo", 7001, 0, 1), b"x")  # a sender of IPv6 on the same link
+
+
+def test_a_socket_of_both_kinds_is_taken(member: swim.Member) -> None:
+    with socket.socket(socket.AF_INET6, socket.SOCK_DGRAM) as both, socket.socket(socket.AF_INET, socket.SOCK_DGRAM) as old:
+        both.setsockopt(socket.IPPROTO_IPV6, socket.IPV6_V6ONLY, 0)
+        both.bind(("::", 0))
+        old.sendto(b"x", ("127.0.0.1", both.getsockname()[1]))
+        data, source = both.recvfrom(swim.DATAGRAM_MAX + 1)
+    assert len(source) == 4
+    assert member.receive(source, data)
+    assert member.notes() == [swim.Note.BAD_DATAGRAM]
+    assert not member.receive(("::1", 7001, 0, 0), data)
 
 
 def test_late_ticks_are_skipped(member: swim.Member) -> None:
@@ -141,9 +203,11 @@ def test_threads_wait_for_one_another(member: swim.Member) -> None:
     assert len(member.members()) == 1
 
 
-def test_a_member_is_not_copied(member: swim.Member) -> None:
-    with pytest.raises((TypeError, ValueError)):
-        pickle.dumps(member)
+@pytest.mark.parametrize("copied", [copy.copy, copy.deepcopy, pickle.dumps])
+def test_a_member_is_not_copied(member: swim.Member, copied: Callable[[swim.Member], object]) -> None:
+    with pytest.raises(TypeError, match="is not copied"):
+        copied(member)
+    assert member.status().first == 1  # it is still open
 
 
 def test_asyncio_counts_notes_and_always_ends(settings: swim.Settings, monkeypatch: pytest.MonkeyPatch) -> None:
@@ -166,8 +230,33 @@ def test_asyncio_counts_notes_and_always_ends(settings: swim.Settings, monkeypat
         member.status()
 
 
-@pytest.mark.parametrize("tick_ms", [100, 50])
-def test_asyncio(settings: swim.Settings, tick_ms: int) -> None:
+@pytest.mark.parametrize(
+    "leave, fault, left",
+    [(None, None, False), (False, None, False), (True, None, True), (True, KeyError("of the program"), False), (None, KeyError("of it"), False)],
+)
+def test_asyncio_leaves_only_if_asked(
+    settings: swim.Settings, monkeypatch: pytest.MonkeyPatch, leave: Optional[bool], fault: Optional[Exception], left: bool
+) -> None:
+    asked = {} if leave is None else {"leave": leave}
+    seen = []
+
+    async def live() -> None:
+        async with swim.aio.Member(None, settings, **asked) as member:
+            close = member._member.close
+            monkeypatch.setattr(member._member, "close", lambda: (seen.append(member.status().phase), close()))
+            if fault is not None:
+                raise fault
+
+    if fault is None:
+        asyncio.run(live())
+    else:
+        with pytest.raises(type(fault)):
+            asyncio.run(live())
+    assert seen == [swim.Phase.LEFT if left else swim.Phase.RUNNING]
+
+
+@pytest.mark.parametrize("tick_ms", [100, 50, None])
+def test_asyncio(settings: swim.Settings, tick_ms: Optional[int]) -> None:
     async def meet() -> bool:
         other = swim.Settings(group=7, me=("127.0.0.1", settings.me[1] + 1 if settings.me[1] < 65535 else 1024))
         async with swim.aio.Member(None, settings, peers=[other.me], tick_ms=tick_ms) as first:
