@@ -1,15 +1,18 @@
 package swim_test
 
 import (
+	"context"
 	"errors"
 	"fmt"
 	"io/fs"
+	"net"
 	"net/netip"
 	"os"
 	"path/filepath"
 	"sync"
 	"syscall"
 	"testing"
+	"time"
 
 	"example.com/rollerblack/swim"
 )
@@ -115,6 +118,77 @@ func TestLateTicksAreSkipped(t *testing.T) {
 			t.Error(at, next, err)
 		}
 	}
+	lan, err := swim.OpenMemory(swim.Lan(7, me))
+	want(t, err, nil)
+	defer lan.Close()
+	for _, at := range []struct{ now, next uint64 }{{5000, 5050}, {5025, 5050}, {5050, 5100}, {60000, 60050}} {
+		if next, err := lan.Advance(at.now, 1); err != nil || next != at.next {
+			t.Error(at, next, err)
+		}
+	}
+}
+
+func TestSettingsAreJudgedBeforeTheFile(t *testing.T) {
+	path := filepath.Join(t.TempDir(), "none", "member.state")
+	settings := swim.Usual(7, netip.MustParseAddrPort("0.0.0.0:7000"))
+	want(t, swim.Make(path, settings), swim.ErrBadAddress)
+	_, err := swim.Open(path, settings)
+	want(t, err, swim.ErrBadAddress)
+}
+
+// running is a member on a socket of its own, and what ends it and gives what its Run gave.
+func running(t *testing.T, seeds ...netip.AddrPort) (*swim.Member, *net.UDPConn, netip.AddrPort, func() error) {
+	t.Helper()
+	udp, err := net.ListenUDP("udp4", net.UDPAddrFromAddrPort(netip.MustParseAddrPort("127.0.0.1:0")))
+	if err != nil {
+		t.Fatal(err)
+	}
+	at := udp.LocalAddr().(*net.UDPAddr).AddrPort()
+	member, err := swim.OpenMemory(swim.Lan(7, at))
+	if err != nil {
+		t.Fatal(err)
+	}
+	want(t, member.Seeds(seeds, 1), nil)
+	ctx, cancel := context.WithCancel(context.Background())
+	gave := make(chan error)
+	go func() { gave <- member.Run(ctx, udp) }()
+	return member, udp, at, func() error { cancel(); return <-gave }
+}
+
+// until waits until a status of a member is so.
+func until(t *testing.T, member *swim.Member, about string, is func(swim.Status) bool) {
+	t.Helper()
+	for end := time.Now().Add(30 * time.Second); time.Now().Before(end); time.Sleep(20 * time.Millisecond) {
+		if status, err := member.Status(); err == nil && is(status) {
+			return
+		}
+	}
+	t.Error("not within 30 s: " + about)
+}
+
+func TestRunEndsWithItsContextAndLeavesOnlyIfTold(t *testing.T) {
+	first, one, at, stopFirst := running(t)
+	second, other, _, stopSecond := running(t, at)
+	for _, member := range []*swim.Member{first, second} {
+		until(t, member, "they meet", func(status swim.Status) bool { return status.Alive == 1 })
+	}
+	began := time.Now()
+	want(t, stopSecond(), nil)
+	if took := time.Since(began); took > time.Second {
+		t.Error("it ended after", took)
+	}
+	status, err := second.Status()
+	if err != nil || status.Phase != swim.Running {
+		t.Error(status, err)
+	}
+	want(t, second.Leave(), nil)
+	want(t, second.SendAll(other), nil)
+	until(t, first, "the first is told", func(status swim.Status) bool { return status.Confirmed == 1 })
+	want(t, one.Close(), nil)
+	want(t, stopFirst(), net.ErrClosed)
+	want(t, other.Close(), nil)
+	want(t, first.Close(), nil)
+	want(t, second.Close(), nil)
 }
 
 func TestSeedsAreAskedAgainByTheClock(t *testing.T) {

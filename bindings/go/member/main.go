@@ -3,6 +3,7 @@
 package main
 
 import (
+	"context"
 	"errors"
 	"fmt"
 	"math/rand"
@@ -14,11 +15,6 @@ import (
 
 	"example.com/rollerblack/swim"
 )
-
-type datagram struct {
-	from netip.AddrPort
-	data []byte
-}
 
 func must(err error) {
 	if err != nil {
@@ -35,68 +31,6 @@ func number(text string) uint64 {
 
 func loopback(port uint64) netip.AddrPort {
 	return netip.AddrPortFrom(netip.AddrFrom4([4]byte{127, 0, 0, 1}), uint16(port))
-}
-
-// sendAll sends what waits, and tells how many datagrams the system refused.
-func sendAll(member *swim.Member, udp *net.UDPConn) {
-	var buffer [swim.DatagramMax]byte
-	lost := uint32(0)
-	for {
-		to, data, err := member.Next(&buffer)
-		if errors.Is(err, swim.ErrNothing) {
-			break
-		}
-		must(err)
-		if _, err := udp.WriteToUDPAddrPort(data, to); err != nil {
-			lost++
-		}
-	}
-	if lost > 0 {
-		must(member.SendFailed(lost))
-	}
-}
-
-// receiveAll hands on what comes, until the socket is closed.
-func receiveAll(udp *net.UDPConn, came chan<- datagram) {
-	for {
-		data := make([]byte, swim.DatagramMax+1)
-		length, from, err := udp.ReadFromUDPAddrPort(data)
-		if errors.Is(err, net.ErrClosed) {
-			return
-		}
-		if err == nil {
-			came <- datagram{from, data[:length]}
-		}
-	}
-}
-
-// run goes on for so long. What waits is read before a tick, and ticks that are late are left out.
-func run(member *swim.Member, udp *net.UDPConn, seeds []netip.AddrPort, seconds uint64) {
-	must(member.Seeds(seeds, rand.Uint64()))
-	came := make(chan datagram)
-	go receiveAll(udp, came)
-	begin, end := time.Now(), time.After(time.Duration(seconds)*time.Second)
-	due := uint64(0)
-	for {
-		select {
-		case one := <-came:
-			must(member.Receive(one.from, one.data))
-			sendAll(member, udp)
-			continue
-		default:
-		}
-		select {
-		case <-end:
-			return
-		case <-time.After(time.Until(begin.Add(time.Duration(due) * time.Millisecond))):
-			next, err := member.Advance(uint64(time.Since(begin).Milliseconds()), rand.Uint64())
-			must(err)
-			due = next
-		case one := <-came:
-			must(member.Receive(one.from, one.data))
-		}
-		sendAll(member, udp)
-	}
 }
 
 func main() {
@@ -118,15 +52,17 @@ func main() {
 	if peer := number(os.Args[4]); peer != 0 {
 		seeds = append(seeds, loopback(peer))
 	}
-	run(member, udp, seeds, number(os.Args[5]))
+	must(member.Seeds(seeds, rand.Uint64()))
+	ctx, cancel := context.WithTimeout(context.Background(), time.Duration(number(os.Args[5]))*time.Second)
+	defer cancel()
+	must(member.Run(ctx, udp))
 	rows, err := member.Members()
 	must(err)
 	for _, row := range rows {
 		fmt.Println(row.Kind, row.Who, row.Number)
 	}
-	must(member.KeepPeers())
-	must(member.Leave())
-	sendAll(member, udp)
+	must(member.Leave()) // it ends for good
+	must(member.SendAll(udp))
 	must(member.Close())
 	must(udp.Close())
 }

@@ -2,7 +2,7 @@
 //! state file are to be fed.
 //!
 //! After each event [`Member::next_datagram`] has to be asked until it gives none: the next event is refused until then. Ticks that
-//! are late are skipped and never made up. The example `member` is a whole member over UDP.
+//! are late are skipped and never made up. [`Member::run`] is a whole member over UDP, and the example `member` runs one.
 //!
 //! ```
 //! use swim::{Code, Kind, Member, Settings, DATAGRAM_MAX};
@@ -25,6 +25,7 @@
 
 #[rustfmt::skip]
 mod made;
+mod run;
 
 use std::ffi::{CStr, CString};
 use std::net::{Ipv4Addr, SocketAddrV4};
@@ -32,6 +33,7 @@ use std::os::raw::c_int;
 use std::os::unix::ffi::OsStrExt;
 use std::os::unix::io::{AsFd, AsRawFd};
 use std::path::Path;
+use std::time::Instant;
 use std::{error, fmt, io, ptr};
 use swim_sys as sys;
 
@@ -75,6 +77,29 @@ impl fmt::Display for Fault {
 impl error::Error for Fault {
     fn source(&self) -> Option<&(dyn error::Error + 'static)> {
         self.errno.as_ref().map(|error| error as _)
+    }
+}
+
+/// So that `?` takes it in a function of [`io::Result`]. The kind is that of what the system said, and else says of which kind the code
+/// is; the fault is inside.
+impl From<Fault> for io::Error {
+    fn from(fault: Fault) -> io::Error {
+        let kind = match (&fault.errno, fault.code) {
+            (Some(error), _) => error.kind(),
+            (None, Code::NoMemory | Code::OpenNoMemory) => io::ErrorKind::OutOfMemory,
+            (None, Code::OpenNotState | Code::OpenNoSlot | Code::OpenDamaged) => io::ErrorKind::InvalidData,
+            (None, code) if code.is_of_settings() => io::ErrorKind::InvalidInput,
+            (None, _) => io::ErrorKind::Other,
+        };
+        io::Error::new(kind, fault)
+    }
+}
+
+impl Code {
+    /// Whether a setting is refused.
+    fn is_of_settings(self) -> bool {
+        let settings = sys::SWIM_BAD_LAMBDA..=sys::SWIM_BAD_RESERVED;
+        settings.contains(&self.number()) || matches!(self, Code::NoEndpoint | Code::OpenLimit)
     }
 }
 
@@ -276,6 +301,8 @@ pub fn make_state(file: impl AsFd, settings: &Settings) -> Result<(), Fault> {
 /// ```
 pub struct Member {
     handle: sys::swim_member,
+    /// Where the clock of [`Member::run`] begins.
+    opened: Instant,
 }
 
 // SAFETY: a handle may go to another thread where that is ordered, as a move is; all its calls take `&mut self`.
@@ -294,6 +321,7 @@ impl Member {
                 tick_ms: 0,
                 reserved: 0,
             },
+            opened: Instant::now(),
         };
         done(open(&mut member.handle))?;
         Ok(member)

@@ -2,9 +2,10 @@
 
 use std::error::Error;
 use std::fs::OpenOptions;
-use std::io::ErrorKind;
-use std::net::{Ipv4Addr, SocketAddrV4};
-use swim::{Code, Kind, Member, Note, Phase, Settings, DATAGRAM_MAX, SEEDS_MAX};
+use std::io::{self, ErrorKind};
+use std::net::{Ipv4Addr, SocketAddr, SocketAddrV4, UdpSocket};
+use std::time::{Duration, Instant};
+use swim::{Code, Fault, Kind, Member, Note, Phase, Settings, DATAGRAM_MAX, SEEDS_MAX};
 
 fn at(port: u16) -> SocketAddrV4 {
     SocketAddrV4::new(Ipv4Addr::LOCALHOST, port)
@@ -36,6 +37,59 @@ fn a_fault_has_its_code_and_what_the_system_said() {
     assert_eq!((fault.code, fault.errno.is_none()), (Code::Locked, true));
     drop(open);
     std::fs::remove_file(&path).expect("it is there");
+}
+
+#[test]
+fn a_fault_is_an_error_of_io() {
+    fn open(path: &str, settings: &Settings) -> io::Result<Member> {
+        Ok(Member::open(path, settings, 1)?)
+    }
+    let usual = Settings::usual(7, at(7000));
+    let error = open("/no/folder/member.state", &usual).unwrap_err();
+    assert_eq!(error.kind(), ErrorKind::NotFound);
+    let fault = error.get_ref().and_then(|inside| inside.downcast_ref::<Fault>());
+    assert_eq!(fault.map(|fault| fault.code), Some(Code::File));
+    let error = open("/no/folder/member.state", &Settings { period: 1, ..usual }).unwrap_err();
+    assert_eq!(error.kind(), ErrorKind::InvalidInput); // settings are judged before the file
+    let mut member = member();
+    member.join(at(7001)).expect("it asks");
+    let error = io::Error::from(member.tick(1).unwrap_err());
+    assert_eq!(error.kind(), ErrorKind::Other);
+}
+
+/// Two members on sockets of their own, each of which runs until both know each other, and then leaves if it is to.
+#[test]
+fn a_member_runs_over_udp_and_leaves_only_if_told() {
+    let bound = || UdpSocket::bind(at(0)).expect("a free port");
+    let here = |udp: &UdpSocket| match udp.local_addr() {
+        Ok(SocketAddr::V4(me)) => me,
+        other => panic!("{:?}", other),
+    };
+    let (one, other) = (bound(), bound());
+    let (seed, end) = (here(&one), Instant::now() + Duration::from_secs(30));
+    let met =
+        move |member: &mut Member| member.status().expect("a status").alive == 1 || Instant::now() > end;
+    let runs = std::thread::spawn(move || {
+        let mut member = Member::open_memory(&Settings::lan(7, here(&one)), 1).expect("it opens");
+        member.run(&one, |member| !met(member)).expect("it runs");
+        assert_eq!(member.status().expect("a status").phase, Phase::Running);
+        // the other one leaves, and this one is told
+        member
+            .run(&one, |member| {
+                member.status().expect("a status").confirmed == 0 && Instant::now() < end
+            })
+            .expect("it goes on");
+        member.status().expect("a status").confirmed
+    });
+    let mut member = Member::open_memory(&Settings::lan(7, here(&other)), 1).expect("it opens");
+    member.seeds(&[seed], 1).expect("one seed");
+    member.run(&other, |member| !met(member)).expect("it runs");
+    assert_eq!(member.status().expect("a status").alive, 1);
+    assert_eq!(member.status().expect("a status").phase, Phase::Running);
+    std::thread::sleep(Duration::from_millis(300)); // the first one has met it, too
+    member.leave().expect("it leaves");
+    member.send_all(&other).expect("it tells");
+    assert_eq!(runs.join().expect("no panic"), 1);
 }
 
 #[test]
@@ -120,6 +174,9 @@ fn late_ticks_are_skipped() {
     let mut member = member();
     let next = [5000, 5050, 5100, 60000].map(|now| member.advance(now, 1).expect("time goes on"));
     assert_eq!(next, [5100, 5100, 5200, 60100]);
+    let mut member = Member::open_memory(&Settings::lan(7, at(7000)), 1).expect("a member in memory");
+    let next = [5000, 5025, 5050, 60000].map(|now| member.advance(now, 1).expect("time goes on"));
+    assert_eq!(next, [5050, 5050, 5100, 60050]);
 }
 
 #[test]
