@@ -110,7 +110,7 @@ enum swim_code {
     SWIM_OPEN_WRONG_OWNER = 23, /* it is of another group or endpoint */
     SWIM_OPEN_NO_SLOT = 24,     /* swim_make_state was cut short, or else something wrote the file: see swim_make_state */
     SWIM_OPEN_DAMAGED = 25,     /* something else wrote the file, or the disk lost what it had synced: docs/operate/INCIDENTS.md */
-    SWIM_OPEN_EXHAUSTED = 26,   /* there is no number left */
+    SWIM_OPEN_EXHAUSTED = 26,   /* there is no incarnation left */
     SWIM_OPEN_LIMIT = 27,       /* `limit` is 0 or above SWIM_LIMIT_MAX */
     SWIM_OPEN_NO_MEMORY = 28,
 
@@ -122,7 +122,7 @@ enum swim_code {
     /* the keeping of peers; the member goes on, and the next save tries again */
     SWIM_KEEP_DEVICE = 41,    /* a write or sync failed: errno says why */
     SWIM_KEEP_CHANGED = 42,   /* the file is not as the member left it */
-    SWIM_KEEP_EXHAUSTED = 43, /* there is no number left */
+    SWIM_KEEP_EXHAUSTED = 43, /* there is no incarnation left */
 
     /* a handle or a descriptor that is used as it may not be; nothing was done */
     SWIM_BUSY = 51,          /* another thread is in a call on this handle */
@@ -139,14 +139,14 @@ enum swim_note {
     SWIM_NOTE_OTHER_GROUP = 2,     /* a datagram of another group */
     SWIM_NOTE_NOT_SENDER = 3,      /* a datagram that names another sender than the address that it came from */
     SWIM_NOTE_FROM_SELF = 4,       /* a datagram that names this member as its sender */
-    SWIM_NOTE_LEAP = 5,            /* a suspicion of this member has a number that is too far above its own */
-    SWIM_NOTE_NO_NUMBER_LEFT = 6,  /* a suspicion of this member has the greatest number */
+    SWIM_NOTE_LEAP = 5,            /* a suspicion of this member has an incarnation that is too far above its own */
+    SWIM_NOTE_NO_NUMBER_LEFT = 6,  /* a suspicion of this member has the greatest incarnation */
     SWIM_NOTE_TABLE_FULL = 7,      /* there is no room for a new member */
     SWIM_NOTE_MISDIRECTED = 8,     /* a ping about another member, or a join to oneself */
     SWIM_NOTE_RELAYS_FULL = 9,     /* there is no room to ask one more member for another */
     SWIM_NOTE_UNKNOWN_TARGET = 10, /* somebody asked for a member that is not held for alive or suspected */
     SWIM_NOTE_UNASKED = 11,        /* an ack or a page that answers nothing that was asked */
-    SWIM_NOTE_SAVE_FAILED = 12,    /* the state file took no save: the own number stays as it is */
+    SWIM_NOTE_SAVE_FAILED = 12,    /* the state file took no save: the own incarnation stays as it is */
     SWIM_NOTE_EXPELLED = 13,       /* by rules 1: the group confirmed this member */
     SWIM_NOTE_STOPPED = 14,        /* an event after the member left or was expelled */
     SWIM_NOTE_RECEIVE_FAILED = 15, /* swim_receive_failed */
@@ -170,7 +170,7 @@ struct swim_settings {
     uint64_t direct;  /* ticks that a direct answer may take before helpers are asked, 1 to period - 1 */
     uint64_t suspect; /* ticks after which a Suspect becomes Confirm, 1 to 100,000 */
     uint64_t forget;  /* ticks after which a Confirm is forgotten, 1 to 1,000,000 */
-    uint64_t block;   /* own numbers that one save of the state file reserves, 1 to 1,024 */
+    uint64_t block;   /* own incarnations that one save of the state file reserves, 1 to 1,024 */
     uint32_t address; /* the own IPv4 address that the others see, host order: not 0.0.0.0, and none of multicast or broadcast */
     uint32_t lambda;  /* how often an update is sent, times the binary digits of the count of members, 1 to 16 */
     uint32_t helpers; /* how many others are asked about a silent target, 0 to 8 */
@@ -190,7 +190,7 @@ enum swim_kind { SWIM_ALIVE = 1, SWIM_SUSPECT = 2, SWIM_CONFIRM = 3 };
 
 /* What is held of a member. */
 struct swim_row {
-    uint64_t number;  /* its incarnation number */
+    uint64_t number;  /* its incarnation */
     uint32_t address; /* IPv4, host order */
     uint16_t port;    /* host order */
     uint8_t kind;     /* enum swim_kind */
@@ -200,8 +200,8 @@ struct swim_row {
 enum swim_phase { SWIM_RUNNING = 0, SWIM_LEFT = 1, SWIM_EXPELLED = 2 };
 
 struct swim_status {
-    uint64_t number;    /* the own incarnation number */
-    uint64_t first;     /* the number with which this life began: above all that an earlier one sent */
+    uint64_t number;    /* the own incarnation */
+    uint64_t first;     /* the incarnation with which this life began: above all that an earlier one sent */
     uint64_t alive;     /* other members that are held for alive */
     uint64_t suspect;   /* those that are suspected */
     uint64_t confirmed; /* those that failed or left, and are not forgotten yet */
@@ -239,8 +239,8 @@ const char *swim_note_name(int note);
  * Makes the state file of a member at a path, where nothing may be. It is made under a name beside (the path, a dot and six
  * letters), synced, and only then named by the path, and the folder is synced: a kill at any moment leaves the path whole or
  * not there. What it left under a name beside never sent anything, and may be removed.
- * A state file that was lost is not made anew without thought: the number begins at 1 again, and the group may know a higher
- * one. Make it once, where the member is set up, and let a later start without it fail.
+ * A state file that was lost is not made anew without thought: the incarnation begins at 1 again, and the group may know a
+ * higher one. Make it once, where the member is set up, and let a later start without it fail.
  * SWIM_OK, SWIM_NULL, SWIM_FILE (errno is EEXIST where something is there), SWIM_NO_ENDPOINT, SWIM_BAD_*, SWIM_MAKE_*.
  */
 int swim_make(const char *path, const struct swim_settings *settings);
@@ -255,8 +255,8 @@ int swim_make(const char *path, const struct swim_settings *settings);
 int swim_make_state(int fd, const struct swim_settings *settings);
 
 /*
- * Opens a member on the state file at a path, with an own number above all that it ever sent, and saves that before anything
- * is sent. The file is locked until swim_close. `limit` is how many calls are kept in memory before they are let go, 1 to
+ * Opens a member on the state file at a path, with an own incarnation above all that it ever sent, and saves that before
+ * anything is sent. The file is locked until swim_close. `limit` is how many calls are kept in memory before they are let go, 1 to
  * SWIM_LIMIT_MAX, at 9,416 bytes each. Nothing here reads them, so 1 is enough, and with 1 none is allocated later.
  * SWIM_OK, SWIM_NULL, SWIM_NO_HANDLE, SWIM_IS_OPEN, SWIM_FILE, SWIM_LOCKED, SWIM_NO_MEMORY, SWIM_NO_ENDPOINT, SWIM_BAD_*,
  * SWIM_OPEN_*.
@@ -270,7 +270,7 @@ int swim_open(struct swim_member *member, const char *path, const struct swim_se
  */
 int swim_open_descriptor(struct swim_member *member, int fd, const struct swim_settings *settings, uint32_t limit);
 
-/* For tests: a new state file in memory (memfd_create), which is gone with swim_close. Each opening begins with number 1. */
+/* For tests: a new state file in memory (memfd_create), which is gone with swim_close. Each opening begins with incarnation 1. */
 int swim_open_memory(struct swim_member *member, const struct swim_settings *settings, uint32_t limit);
 
 /*
@@ -371,8 +371,8 @@ int swim_notes(const struct swim_member *member, uint8_t notes[SWIM_NOTES_MAX], 
 /* The peers that stand in the state file: whom an earlier life knew, for swim_join. SWIM_OK, SWIM_NULL, SWIM_CLOSED. */
 int swim_stored_peers(const struct swim_member *member, struct swim_endpoint peers[SWIM_PEERS_MAX], size_t *count);
 
-/* Saves whom the member knows, the first eight that are alive or suspected. It raises the saved number by one, and writes and syncs
-   the file, for which a slow disk takes its time, so now and then is enough. SWIM_OK, SWIM_NULL, SWIM_CLOSED, SWIM_KEEP_*. */
+/* Saves whom the member knows, the first eight that are alive or suspected. It raises the saved incarnation by one, and writes and
+   syncs the file, for which a slow disk takes its time, so now and then is enough. SWIM_OK, SWIM_NULL, SWIM_CLOSED, SWIM_KEEP_*. */
 int swim_keep_peers(struct swim_member *member);
 
 #ifdef __cplusplus

@@ -59,7 +59,7 @@ const (
 	ErrOpenNoSlot Code = C.SWIM_OPEN_NO_SLOT
 	// ErrOpenDamaged is SWIM_OPEN_DAMAGED: something else wrote the file, or the disk lost what it had synced: docs/operate/INCIDENTS.md.
 	ErrOpenDamaged Code = C.SWIM_OPEN_DAMAGED
-	// ErrOpenExhausted is SWIM_OPEN_EXHAUSTED: there is no number left.
+	// ErrOpenExhausted is SWIM_OPEN_EXHAUSTED: there is no incarnation left.
 	ErrOpenExhausted Code = C.SWIM_OPEN_EXHAUSTED
 	// ErrOpenLimit is SWIM_OPEN_LIMIT: `limit` is 0 or above SWIM_LIMIT_MAX.
 	ErrOpenLimit Code = C.SWIM_OPEN_LIMIT
@@ -75,7 +75,7 @@ const (
 	ErrKeepDevice Code = C.SWIM_KEEP_DEVICE
 	// ErrKeepChanged is SWIM_KEEP_CHANGED: the file is not as the member left it.
 	ErrKeepChanged Code = C.SWIM_KEEP_CHANGED
-	// ErrKeepExhausted is SWIM_KEEP_EXHAUSTED: there is no number left.
+	// ErrKeepExhausted is SWIM_KEEP_EXHAUSTED: there is no incarnation left.
 	ErrKeepExhausted Code = C.SWIM_KEEP_EXHAUSTED
 	// ErrBusy is SWIM_BUSY: another thread is in a call on this handle.
 	ErrBusy Code = C.SWIM_BUSY
@@ -101,9 +101,9 @@ const (
 	NoteNotSender Note = C.SWIM_NOTE_NOT_SENDER
 	// NoteFromSelf is SWIM_NOTE_FROM_SELF: a datagram that names this member as its sender.
 	NoteFromSelf Note = C.SWIM_NOTE_FROM_SELF
-	// NoteLeap is SWIM_NOTE_LEAP: a suspicion of this member has a number that is too far above its own.
+	// NoteLeap is SWIM_NOTE_LEAP: a suspicion of this member has an incarnation that is too far above its own.
 	NoteLeap Note = C.SWIM_NOTE_LEAP
-	// NoteNoNumberLeft is SWIM_NOTE_NO_NUMBER_LEFT: a suspicion of this member has the greatest number.
+	// NoteNoNumberLeft is SWIM_NOTE_NO_NUMBER_LEFT: a suspicion of this member has the greatest incarnation.
 	NoteNoNumberLeft Note = C.SWIM_NOTE_NO_NUMBER_LEFT
 	// NoteTableFull is SWIM_NOTE_TABLE_FULL: there is no room for a new member.
 	NoteTableFull Note = C.SWIM_NOTE_TABLE_FULL
@@ -115,7 +115,7 @@ const (
 	NoteUnknownTarget Note = C.SWIM_NOTE_UNKNOWN_TARGET
 	// NoteUnasked is SWIM_NOTE_UNASKED: an ack or a page that answers nothing that was asked.
 	NoteUnasked Note = C.SWIM_NOTE_UNASKED
-	// NoteSaveFailed is SWIM_NOTE_SAVE_FAILED: the state file took no save: the own number stays as it is.
+	// NoteSaveFailed is SWIM_NOTE_SAVE_FAILED: the state file took no save: the own incarnation stays as it is.
 	NoteSaveFailed Note = C.SWIM_NOTE_SAVE_FAILED
 	// NoteExpelled is SWIM_NOTE_EXPELLED: by rules 1: the group confirmed this member.
 	NoteExpelled Note = C.SWIM_NOTE_EXPELLED

@@ -68,7 +68,7 @@ class Code(enum.IntEnum):
     OPEN_WRONG_OWNER = 23  # it is of another group or endpoint
     OPEN_NO_SLOT = 24  # swim_make_state was cut short, or else something wrote the file: see swim_make_state
     OPEN_DAMAGED = 25  # something else wrote the file, or the disk lost what it had synced: docs/operate/INCIDENTS.md
-    OPEN_EXHAUSTED = 26  # there is no number left
+    OPEN_EXHAUSTED = 26  # there is no incarnation left
     OPEN_LIMIT = 27  # `limit` is 0 or above SWIM_LIMIT_MAX
     OPEN_NO_MEMORY = 28
     MAKE_NOT_EMPTY = 31  # the file has bytes, and nothing was written
@@ -76,7 +76,7 @@ class Code(enum.IntEnum):
     MAKE_RANGE = 33  # does not come
     KEEP_DEVICE = 41  # a write or sync failed: errno says why
     KEEP_CHANGED = 42  # the file is not as the member left it
-    KEEP_EXHAUSTED = 43  # there is no number left
+    KEEP_EXHAUSTED = 43  # there is no incarnation left
     BUSY = 51  # another thread is in a call on this handle
     FORKED = 52  # the handle was opened before this process was forked: it is the parent's
     BAD_DESCRIPTOR = 53  # it is not open for both reading and writing, or it has O_APPEND
@@ -91,14 +91,14 @@ class Note(enum.IntEnum):
     OTHER_GROUP = 2  # a datagram of another group
     NOT_SENDER = 3  # a datagram that names another sender than the address that it came from
     FROM_SELF = 4  # a datagram that names this member as its sender
-    LEAP = 5  # a suspicion of this member has a number that is too far above its own
-    NO_NUMBER_LEFT = 6  # a suspicion of this member has the greatest number
+    LEAP = 5  # a suspicion of this member has an incarnation that is too far above its own
+    NO_NUMBER_LEFT = 6  # a suspicion of this member has the greatest incarnation
     TABLE_FULL = 7  # there is no room for a new member
     MISDIRECTED = 8  # a ping about another member, or a join to oneself
     RELAYS_FULL = 9  # there is no room to ask one more member for another
     UNKNOWN_TARGET = 10  # somebody asked for a member that is not held for alive or suspected
     UNASKED = 11  # an ack or a page that answers nothing that was asked
-    SAVE_FAILED = 12  # the state file took no save: the own number stays as it is
+    SAVE_FAILED = 12  # the state file took no save: the own incarnation stays as it is
     EXPELLED = 13  # by rules 1: the group confirmed this member
     STOPPED = 14  # an event after the member left or was expelled
     RECEIVE_FAILED = 15  # swim_receive_failed

@@ -133,7 +133,7 @@ pub struct Settings {
     pub suspect: u64,
     /// Ticks after which a Confirm is forgotten.
     pub forget: u64,
-    /// Own numbers that one save of the state file reserves.
+    /// Own incarnations that one save of the state file reserves.
     pub block: u64,
     /// How often an update is sent, times the binary digits of the count of members.
     pub lambda: u32,

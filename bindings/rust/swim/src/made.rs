@@ -57,7 +57,7 @@ pub enum Code {
     OpenNoSlot,
     /// `SWIM_OPEN_DAMAGED`: something else wrote the file, or the disk lost what it had synced: docs/operate/INCIDENTS.md.
     OpenDamaged,
-    /// `SWIM_OPEN_EXHAUSTED`: there is no number left.
+    /// `SWIM_OPEN_EXHAUSTED`: there is no incarnation left.
     OpenExhausted,
     /// `SWIM_OPEN_LIMIT`: `limit` is 0 or above SWIM_LIMIT_MAX.
     OpenLimit,
@@ -73,7 +73,7 @@ pub enum Code {
     KeepDevice,
     /// `SWIM_KEEP_CHANGED`: the file is not as the member left it.
     KeepChanged,
-    /// `SWIM_KEEP_EXHAUSTED`: there is no number left.
+    /// `SWIM_KEEP_EXHAUSTED`: there is no incarnation left.
     KeepExhausted,
     /// `SWIM_BUSY`: another thread is in a call on this handle.
     Busy,
@@ -195,9 +195,9 @@ pub enum Note {
     NotSender,
     /// `SWIM_NOTE_FROM_SELF`: a datagram that names this member as its sender.
     FromSelf,
-    /// `SWIM_NOTE_LEAP`: a suspicion of this member has a number that is too far above its own.
+    /// `SWIM_NOTE_LEAP`: a suspicion of this member has an incarnation that is too far above its own.
     Leap,
-    /// `SWIM_NOTE_NO_NUMBER_LEFT`: a suspicion of this member has the greatest number.
+    /// `SWIM_NOTE_NO_NUMBER_LEFT`: a suspicion of this member has the greatest incarnation.
     NoNumberLeft,
     /// `SWIM_NOTE_TABLE_FULL`: there is no room for a new member.
     TableFull,
@@ -209,7 +209,7 @@ pub enum Note {
     UnknownTarget,
     /// `SWIM_NOTE_UNASKED`: an ack or a page that answers nothing that was asked.
     Unasked,
-    /// `SWIM_NOTE_SAVE_FAILED`: the state file took no save: the own number stays as it is.
+    /// `SWIM_NOTE_SAVE_FAILED`: the state file took no save: the own incarnation stays as it is.
     SaveFailed,
     /// `SWIM_NOTE_EXPELLED`: by rules 1: the group confirmed this member.
     Expelled,
