@@ -1,4 +1,5 @@
 pub mod Answering
+pub mod Guarding
 pub mod Moving
 pub mod Naming
 pub mod Passing

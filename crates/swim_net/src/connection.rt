@@ -1,8 +1,11 @@
 //! Both ends of a control connection, which takes a second at most.
 
-ghost use Rattle.std.specs.Prelude.{◌≡◌};
+ghost use Rattle.std.specs.Prelude.{◌≡◌, []};
+ghost use Rattle.swim_net.specs.Guard.{IsLetThrough};
+ghost use Rattle.swim_net.specs.Moves.{moved_in};
 
 use crate::control_socket::IncomingStream;
+use crate::guard::LineGuard;
 use crate::waits::Waits;
 use mio::Interest;
 use mio::unix::SourceFd;
@@ -47,42 +50,69 @@ impl<'a, C: Clock> Patience<'a, C> {
     }
 }
 
-/// Reads from a stream that never waits, within the connection's second.
+/// Reads from a stream that never waits, within the connection's second, up to the line that ends its input.
 #[derive(Drop)]
 pub struct ConnectionReader<'a, C: Clock> {
     stream: IncomingStream,
+    guard: LineGuard,
     patience: Patience<'a, C>,
+    ghost cut: { IsLetThrough (moved_in stream.answers.items) guard.passed guard.has_ended },
 }
 
 impl<'a, C: Clock> ConnectionReader<'a, C> {
-    /// A reader of this stream.
+    /// A reader of this stream, of which nothing was read.
     pub(crate) fn new(stream: IncomingStream, patience: Patience<'a, C>) -> ConnectionReader<'a, C>
+        requires { stream.answers.items ≡ [] }
         ensures { result.stream ≡ stream }
     {
-        ConnectionReader { stream, patience }
+        let guard = LineGuard::new();
+        ConnectionReader {
+            stream,
+            guard,
+            patience,
+        }
     }
 }
 
 impl<'a, C: Clock> Read for ConnectionReader<'a, C> {
-    ghost use Rattle.std.specs.Prelude.{◌≡◌, ◌++◌, ◌∷◌, [], None, OnErr, OnOk};
+    ghost use Rattle.std.specs.Prelude.{◌≡◌, ◌++◌, None, Ok, true, false, take, IfOk, OnErr};
     ghost use Rattle.std.specs.Io.{ReadsAtMost};
     ghost use Rattle.std.specs.Io.KnownBytes.{ReadConsumes};
-    ghost use Rattle.swim_net.specs.Control.{moved_in, reads_of};
+    ghost use Rattle.swim_net.specs.Control.{GivesOf, given_by, has_ended, has_refused, reads_of};
+    ghost use Rattle.swim_net.specs.Control.{unended_of};
+    ghost use Rattle.swim_net.specs.Guard.{Ends, StaysOpen};
 
-    /// Gives `WouldBlock` if nothing has come, and `TimedOut` if the second is over.
-    #[tactic(auto, using(crate::proofs::Moving::moved_same))]
+    /// Gives `WouldBlock` if nothing has come, and `TimedOut` if the second is over. Behind a line that ends the input it gives no
+    /// more, whatever comes.
+    #[tactic(auto, using(crate::proofs::Moving::moved_same, crate::proofs::Moving::take_within, crate::proofs::Moving::count_within))]
     fn read(&mut self, buf: &mut [u8]) -> io::Result<usize>
         ensures bound { ReadsAtMost result buf.new }
         ensures bytes { ReadConsumes None None result buf.new }
 
-        // It gives what one read was answered, and a failure has taken no bytes.
-        ensures given { OnOk result
-            (reads_of self.new ≡ reads_of self.old ++ (buf.new, result) ∷ []) }
+        // All that it gave is what is let through of what came.
+        ensures cut { IsLetThrough (moved_in (reads_of self.new)) (given_by self.new)
+            (has_ended self.new) }
+        ensures on { has_ended self.new ≡ false
+            → ∥ StaysOpen (given_by self.new) (unended_of self.new) (has_refused self.new) ∥₁ }
+        ensures last { has_ended self.new ≡ true → ∥ Ends (given_by self.new) ∥₁ }
+
+        // It gives no more than one read was answered, and a failure has taken no bytes.
+        ensures given { IfOk result (λ count.
+            given_by self.new ≡ given_by self.old ++ take count buf.new) }
+        ensures read { IfOk result (λ count. has_ended self.old ≡ false
+            → GivesOf (reads_of self.old) (reads_of self.new) buf.new count) }
+        ensures ended { has_ended self.old ≡ true
+            → (result ≡ Ok 0) × (reads_of self.new ≡ reads_of self.old) }
         ensures failed { OnErr result
             (moved_in (reads_of self.new) ≡ moved_in (reads_of self.old)) }
+        ensures kept { OnErr result (given_by self.new ≡ given_by self.old) }
     {
+        if self.guard.has_ended {
+            return Ok(0);
+        }
         self.patience.left()?;
-        self.stream.read(buf)
+        let count = self.stream.read(buf)?;
+        Ok(self.guard.let_through(&buf[..count]))
     }
 }
 

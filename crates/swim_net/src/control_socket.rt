@@ -5,7 +5,7 @@
 //! that answer. All that is proved of control connections rests on these notes.
 
 ghost use Rattle.std.specs.Prelude.{◌≡◌, ◌++◌, ◌∷◌, []};
-ghost use Rattle.swim_net.specs.Control.{moved_in};
+ghost use Rattle.swim_net.specs.Moves.{moved_in};
 
 use mio::event::Source;
 use mio::net::{TcpListener, TcpStream};

@@ -6,6 +6,7 @@
 mod connection;
 mod control_socket;
 mod doors;
+mod guard;
 mod hosts;
 mod socket;
 mod sockets;

@@ -36,7 +36,7 @@ pub use lines::{LINE_MAX, LineText};
 pub use printer::{ANSWER_MAX, AnswerText};
 pub use quiet_clock::QuietClock;
 pub use receiver::{FAILURES_MAX, Receiver};
-pub use request::Request;
+pub use request::{Request, understand};
 pub use sender::{Outgoing, SendWorker};
 pub use ticker::Ticker;
 pub use worker::{Worker, WorkerEnd, run};

@@ -103,7 +103,7 @@ fn short(text: &[u8]) -> Request
 
 /// What the line asks for.
 #[tactic(auto, using(crate::proofs::Hearing::names_short))]
-pub(crate) fn understand(line: &LineText) -> Request
+pub fn understand(line: &LineText) -> Request
     ensures { (text : List ℕ) → IsLine text line.now → Names text result }
 {
     match line {
