@@ -1,6 +1,8 @@
 -- What an opening of a state file would do.
 use Rattle.std.specs.Prelude.{ℕ, ◌+◌, ◌%◌, List, length, nat_lt, if◌then◌else◌}
-use Rattle.std.specs.Prelude.{Option, Some, None}
+use Rattle.std.specs.Prelude.{Option, Some, None, not, ◌||◌, ◌==◌}
+use Rattle.std.specs.List.{starts_with}
+use Rattle.swim_show.specs.declared.departing.TheConstants.{LETTERS}
 use Rattle.swim_show.specs.declared.shown.TheConstants.{HEAD_SIZE}
 use Rattle.swim_show.specs.declared.shown.Opening.{Opening}
 use Rattle.swim_show.specs.declared.shown.Opening.TheVariants.{Begins, Refused}
@@ -19,10 +21,11 @@ abbrev pub owner_by : ℕ → Option ℕ → Option Owner
 owner_by group None = None
 owner_by group (Some who) = Some (record { group = group; me = who })
 
--- the member that a head names, if it is whole: the group at 10 and the endpoint at 18
+-- the member that a head names, if it is whole and begins as that of a state file: the group at 10
+-- and the endpoint at 18
 abbrev pub named_by : List ℕ → Option Owner
 named_by image =
-    if nat_lt (length image) HEAD_SIZE
+    if nat_lt (length image) HEAD_SIZE || not (starts_with (λ x y. x == y) image LETTERS)
     then None
     else owner_by (number_at 10 8 image) (endpoint_by (number_at 18 6 image))
 

@@ -12,7 +12,7 @@ use swim_state::{PEERS_MAX, Reading, Slot, Version, slots_in, version_of};
 use swim_wire::NUMBER_MAX;
 
 /// The first ten bytes of each file.
-const LETTERS: [u8; 10] = *b"SWIMSTAT\x00\x01";
+pub(crate) const LETTERS: [u8; 10] = *b"SWIMSTAT\x00\x01";
 
 /// How many bytes an endpoint has.
 const PEER_SIZE: usize = 6;

@@ -8,6 +8,7 @@ ghost use Rattle.swim_wire.specs.Numbers.{number_at};
 ghost use Rattle.swim_disk.specs.MemDisk.{state_of};
 ghost use Rattle.swim_state.specs.File.{layout_of, version_in, AreOf};
 
+use crate::departing::LETTERS;
 use crate::fault::ShowFault;
 use byteorder::{BigEndian, ByteOrder};
 use std::alloc::Global;
@@ -94,11 +95,11 @@ fn endpoint_at(image: &[u8], at: usize) -> Option<Endpoint>
     Endpoint::new((number / 65_536) as u32, (number % 65_536) as u16)
 }
 
-/// The member that the head names.
+/// The member that the head names; none where the file does not begin as a state file does, so that its bytes name nobody.
 fn owner_in(image: &[u8]) -> Option<Owner>
     ensures { result ≡ named_by image.now }
 {
-    if image.len() < HEAD_SIZE {
+    if image.len() < HEAD_SIZE || !image.starts_with(&LETTERS) {
         return None;
     }
     let group = BigEndian::read_u64(&image[GROUP_AT..]);
