@@ -6,10 +6,12 @@ mod control_words;
 mod descriptors;
 mod examples;
 mod making;
+mod new_file;
 mod up_words;
 
 pub use command_line::{Subcommand, read_words};
 pub use control_words::ControlWords;
 pub use descriptors::hold_standard;
-pub use making::make;
+pub use making::{judge_ceiling, make};
+pub use new_file::NewFile;
 pub use up_words::UpWords;

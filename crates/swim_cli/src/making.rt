@@ -1,8 +1,10 @@
 //! `swim init`.
 
+use crate::new_file::NewFile;
 use std::alloc::Global;
-use std::fs::File;
+use std::fs::{self, File};
 use std::io::{self, ErrorKind};
+use std::random::RandomSource;
 use std::rt::Files;
 use swim_disk::FileDisk;
 use swim_exit::{Exit, Failure};
@@ -16,18 +18,100 @@ fn unwritten(alloc: Global, file: &str, fault: InitFault) -> Failure {
     Failure::about(alloc, Exit::Init(fault), format_args!("state file {file}"))
 }
 
-/// The exit where a ceiling is above all numbers.
-fn above_all(alloc: Global, ceiling: u64) -> Failure {
-    Failure::about(
+/// Refuses a ceiling above all numbers.
+pub fn judge_ceiling(alloc: Global, ceiling: u64) -> Result<(), Failure> {
+    if ceiling <= NUMBER_MAX {
+        return Ok(());
+    }
+    Err(Failure::about(
         alloc,
         Exit::Init(InitFault::Range),
         format_args!("--ceiling {ceiling}: it is above {NUMBER_MAX}"),
-    )
+    ))
+}
+
+/// What a state file begins with.
+#[derive(Clone, Copy)]
+struct Beginning {
+    owner: Owner,
+    ceiling: u64,
+}
+
+/// Writes the state file at this path into an open file, which it gives as a disk: the file stays locked until that is let go.
+fn write_state(
+    alloc: Global,
+    path: &str,
+    file: File,
+    beginning: &Beginning,
+) -> Result<FileDisk, Failure> {
+    let mut disk = match FileDisk::load(alloc, file) {
+        Ok(disk) => disk,
+        Err(error) if error.kind() == ErrorKind::OutOfMemory => {
+            return Err(Failure::from(Exit::Memory));
+        }
+        Err(_) => return Err(unwritten(alloc, path, InitFault::Device)),
+    };
+    match init(&mut disk, beginning.owner, beginning.ceiling) {
+        Ok(()) => Ok(disk),
+        Err(fault) => Err(unwritten(alloc, path, fault)),
+    }
+}
+
+/// Makes the state file in a file that is there, which has to be empty.
+fn make_in_place<R: Files<File = File> + AllocGlobal>(
+    rt: &R,
+    path: &str,
+    beginning: &Beginning,
+) -> Result<(), Failure> {
+    let alloc = rt.alloc();
+    let unopened = |error: io::Error| Failure::of_state_file(alloc, path, &error);
+    let opened = open_locked(rt, path, false).map_err(&unopened)?;
+    let _locked = write_state(alloc, path, opened.into_file(), beginning)?;
+    sync_folder(rt, path).map_err(&unopened)
+}
+
+/// Writes the state file into a new file without a path, and locks it, so that nobody runs on it before its path is durable.
+fn fill<R: AllocGlobal>(
+    rt: &R,
+    path: &str,
+    file: File,
+    beginning: &Beginning,
+) -> Result<FileDisk, Failure> {
+    let alloc = rt.alloc();
+    file.lock().map_err(|error: io::Error| Failure::of_state_file(alloc, path, &error))?;
+    write_state(alloc, path, file, beginning)
+}
+
+/// Makes the state file where none is: it is whole, and on the disk, before it has its path. What comes to be there meanwhile stays.
+fn make_new<R: Files<File = File> + RandomSource + AllocGlobal>(
+    rt: &R,
+    path: &str,
+    beginning: &Beginning,
+) -> Result<(), Failure> {
+    let unmade = |error: io::Error| Failure::of_state_file(rt.alloc(), path, &error);
+    let (new, file) = NewFile::begin(rt, path).map_err(&unmade)?;
+    let locked = match fill(rt, path, file, beginning) {
+        Ok(disk) => disk,
+        Err(failure) => {
+            new.give_up(rt);
+            return Err(failure);
+        }
+    };
+    let named = new.name(rt);
+    drop(locked);
+    match named {
+        Ok(()) => Ok(()),
+        Err(error) if error.kind() == ErrorKind::AlreadyExists => make_in_place(
+            rt, path, beginning,
+        ),
+        Err(error) => Err(unmade(error)),
+    }
 }
 
 /// Makes the state file of a member, whose endpoint is a word not yet judged. A ceiling above the greatest number is
-/// refused before the file is touched, so that none is left behind.
-pub fn make<R: Files<File = File> + AllocGlobal>(
+/// refused before the file is touched, so that none is left behind. What is at the path stays as it is, but for an empty file, in which
+/// the state file is made.
+pub fn make<R: Files<File = File> + RandomSource + AllocGlobal>(
     rt: &R,
     file: &str,
     group: u64,
@@ -38,20 +122,14 @@ pub fn make<R: Files<File = File> + AllocGlobal>(
     let Some(me) = read_endpoint(me.as_bytes()) else {
         return Err(Failure::of_address(alloc, "--me", me));
     };
-    if ceiling > NUMBER_MAX {
-        return Err(above_all(alloc, ceiling));
-    }
-    let opened = open_locked(rt, file, true).map_err(|error| Failure::of_state_file(
-        alloc, file, &error,
-    ))?;
-    let loaded = FileDisk::load(alloc, opened.into_file());
-    let mut disk = match loaded {
-        Ok(disk) => disk,
-        Err(error) if error.kind() == ErrorKind::OutOfMemory => {
-            return Err(Failure::from(Exit::Memory));
-        }
-        Err(_) => return Err(unwritten(alloc, file, InitFault::Device)),
+    judge_ceiling(alloc, ceiling)?;
+    let beginning = Beginning {
+        owner: Owner { group, me },
+        ceiling,
     };
-    init(&mut disk, Owner { group, me }, ceiling).map_err(|fault| unwritten(alloc, file, fault))?;
-    sync_folder(rt, file).map_err(|error| Failure::of_state_file(alloc, file, &error))
+    match fs::exists(rt, file) {
+        Ok(false) => make_new(rt, file, &beginning),
+        Ok(true) => make_in_place(rt, file, &beginning),
+        Err(error) => Err(Failure::of_state_file(alloc, file, &error)),
+    }
 }

@@ -11,7 +11,7 @@ import random
 from typing import NamedTuple
 
 from lib.power.medium import PAGE, File, changed
-from lib.power.state_file import SPENT, recovery
+from lib.power.state_file import MISSING, SPENT, recovery
 
 SECTOR = 512
 FEW = 6  # loose writes of which each choice is made
@@ -178,11 +178,11 @@ class Image:
         self.answer = recovery(content, owner)
 
     def is_right(self):
-        """Whether a number is above all that were sent. A refusal is right only before `swim init` has answered, or
-        where no number is left."""
+        """Whether a number is above all that were sent. Before `swim init` has answered there may be no file, but never a part
+        of one; else only the want of a number refuses."""
         if isinstance(self.answer, int):
             return self.answer > self.sent
-        return not self.made or self.answer == SPENT
+        return self.answer == SPENT or not self.made and self.answer == MISSING
 
     def __str__(self):
         return f"{self.where}, {self.how}: opens with {self.answer}, and {self.sent} was sent"

@@ -25,6 +25,8 @@ ERRORS = {
     "newfstatat": ("EIO",),
     "lseek": ("EIO",),
     "flock": ("EINTR", "EAGAIN"),
+    "link": ("EIO", "ENOSPC", "EEXIST", "EPERM"),  # the last one from a file system without links
+    "unlink": ("EIO",),
     "fadvise64": ("EIO", "EINVAL"),
 }
 LASTING = {  # those that may also fail from a call on

@@ -180,6 +180,9 @@ class Folder:
     def rename(self, event):
         self.name({event.data: self.names[event.file], event.file: None})
 
+    def link(self, event):
+        self.name({event.data: self.names[event.file]})
+
     def unlink(self, event):
         self.name({event.file: None})
 
@@ -225,6 +228,7 @@ FOR_FILES = {
 FOR_FOLDERS = {
     "open": Folder.opened,
     "rename": Folder.rename,
+    "link": Folder.link,
     "unlink": Folder.unlink,
     "folder synced": Folder.synced,
     "ended": Folder.ended,

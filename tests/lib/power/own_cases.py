@@ -122,6 +122,8 @@ CRASHES = {
     "a new name is lost": (["new name", "write 0 b", "sync ok"], {BOTH: "none b"}),
     "a new name is kept": (["new name", "write 0 b", "sync ok", "folder"], {BOTH: "b"}),
     "a rename is kept or lost": (["new name t", "write 0 b", "sync ok", "folder", "rename t s"], {BOTH: "aaaa b"}),
+    "a second name is kept or lost": (["new name t", "write 0 b", "sync ok", "link t s"], {BOTH: "aaaa b"}),
+    "a second name is kept": (["new name t", "write 0 b", "sync ok", "link t s", "folder"], {BOTH: "b"}),
 }
 
 
@@ -152,8 +154,8 @@ def events_of(step, number):
         return [event("read", number, at=int(words[0]), data=words[1].encode())]
     if kind == "new":
         return [event("open", number, data=b"/f/" + (words[1:] or ["new"])[0].encode(), answer={"O_CREAT"})]
-    if kind == "rename":
-        return [event("rename", number, file=b"/f/" + words[0].encode(), data=b"/f/" + words[1].encode())]
+    if kind in ("rename", "link"):
+        return [event(kind, number, file=b"/f/" + words[0].encode(), data=b"/f/" + words[1].encode())]
     if kind == "drop":
         low, count = map(int, words or (0, 0))
         return [event("drop", number, at=low, answer=count)]
@@ -215,7 +217,8 @@ LOGS = {
     "a shared mapping": ([AT_NEW, "1 mmap(NULL, 9, PROT_WRITE, MAP_SHARED, 5, 0) = 0x7f"], NotModelled),
     "a place that is copied to": ([AT_NEW, "1 copy_file_range(3, NULL, 5, NULL, 9, 0) = 9"], NotModelled),
     "a datagram with an own number": ([sent(("10.0.0.1", 7000)), sent(("10.0.0.1", 7001))], "send"),
-    "a second name": ([r'1 link("\x2f\x66\x2f\x73", "\x2f\x66\x2f\x74") = 0'], NotModelled),
+    "a second name": ([r'1 link("\x2f\x66\x2f\x73", "\x2f\x66\x2f\x74") = 0'], "link"),
+    "a second name elsewhere": ([r'1 link("\x2f\x66\x2f\x73", "\x2f\x67\x2f\x74") = 0'], NotModelled),
 }
 
 

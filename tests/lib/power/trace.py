@@ -119,6 +119,8 @@ class Reader:
         if call.ends and call.name in ("open", "openat") and call.succeeded():
             path = self.path_of(call.texts()[0])
             is_on = path == self.folder or self.is_inside(path)
+        if call.ends and call.name in NAMING:
+            is_on = any(self.is_inside(self.path_of(text)) for text in call.texts())
         if is_on and call.name != "close":
             self.touching[call.name, call.nth] = None
 
@@ -223,11 +225,13 @@ class Reader:
         yield from ()
 
     def names(self, call):
-        """A rename or the end of a name."""
+        """A rename, a second name, or the end of a name."""
         paths = [self.path_of(text) for text in call.texts()] if call.ends and call.succeeded() else []
         if any(map(self.is_inside, paths)):
             if call.name.startswith("rename") and "RENAME_EXCHANGE" not in call.words and all(map(self.is_inside, paths)):
                 yield self.event(call, "rename", file=paths[0], data=paths[1])
+            elif call.name.startswith("link") and all(map(self.is_inside, paths)):
+                yield self.event(call, "link", file=paths[0], data=paths[1])
             elif call.name.startswith("unlink"):
                 yield self.event(call, "unlink", file=paths[0])
             else:
