@@ -428,7 +428,24 @@ fn run_command<'a>(alloc: Global) -> Result<Command<'a>, Error> {
     with_arg(command, shows)
 }
 
-/// `swim up --me A [--join A].. [--group N] [--control A] [--preset P] [--dir DIR]`.
+/// What begins a member, after `swim up`: `[--first] [--ceiling N] [--ask ADDR]`.
+fn with_beginning<'a>(
+    alloc: Global,
+    command: Result<Command<'a>, Error>,
+) -> Result<Command<'a>, Error> {
+    let first = Arg::new(alloc, "first")
+        .long("first")
+        .action(ArgAction::SetTrue)
+        .help("Begins a new member in the folder of --dir, where none is");
+    let ceiling = "The number above which a new member begins; 0 without it";
+    let ask =
+        "The control socket of a member of its group, which tells the group, and what it holds of a new member: that one begins above";
+    let command = with_arg(command, first);
+    let command = with_arg(command, number(alloc, "ceiling", ceiling));
+    with_arg(command, option(alloc, "ask", "ADDR", ask))
+}
+
+/// `swim up --me A [--join A].. [--group N] [--control A] [--preset P] [--dir DIR] [--first] [--ceiling N] [--ask ADDR]`.
 fn up_command<'a>(alloc: Global) -> Result<Command<'a>, Error> {
     let me = word(
         alloc,
@@ -448,7 +465,7 @@ fn up_command<'a>(alloc: Global) -> Result<Command<'a>, Error> {
     let group = number(
         alloc,
         "group",
-        "The number of the group; 1 where the file is new",
+        "The number of the group; a new member that joins nobody draws one",
     );
     let command = with_arg(command, group);
     let control = "The control socket; SWIM_CONTROL, or else 127.0.0.1:7001, where the file is new";
@@ -456,7 +473,8 @@ fn up_command<'a>(alloc: Global) -> Result<Command<'a>, Error> {
     let preset = "The times that it takes: local, lan or wan";
     let command = with_arg(command, option(alloc, "preset", "P", preset));
     let dir = "The folder of both files; without it swim-A, in this folder";
-    with_arg(command, option(alloc, "dir", "DIR", dir))
+    let command = with_arg(command, option(alloc, "dir", "DIR", dir));
+    with_beginning(alloc, command)
 }
 
 /// All that the program takes.
@@ -537,6 +555,9 @@ fn up<'a>(alloc: Global, words: &ArgMatches<'a>) -> Result<Subcommand<'a>, Alloc
         control: words.get_str("control"),
         preset: words.get_str("preset"),
         dir: words.get_str("dir"),
+        first: words.get_flag("first"),
+        ceiling: words.get_one::<u64>("ceiling"),
+        ask: words.get_str("ask"),
     }))
 }
 

@@ -38,7 +38,7 @@ Options:
 
 Examples:
   swim up --me 127.0.0.1:7000                         runs a member, and makes its files the first time
-  swim up --me 10.0.0.2:7000 --join 10.0.0.1:7000     another one, which joins it
+  swim up --me 127.0.0.1:7002 --join 127.0.0.1:7000   another one, which joins it
   swim members                                        prints whom it knows
   swim stop                                           stops it
   swim help run                                       says more about one command
@@ -46,9 +46,11 @@ Examples:
 
 /// Examples of `swim up`.
 pub(crate) const UP: &str = "Examples:
-  swim up --me 10.0.0.1:7000                       the first member of a group
-  swim up --me 10.0.0.2:7000 --join 10.0.0.1:7000  another one, which joins it
-  swim up --me 10.0.0.2:7000                       the same, from the second time on";
+  swim up --me 10.0.0.1:7000                                     the first member of a group, which draws its number
+  swim up --me 10.0.0.2:7000 --join 10.0.0.1:7000 --group 7      another one, which joins it
+  swim up --me 10.0.0.2:7000                                     the same, from the second time on
+  swim up --me 10.0.0.2:7000 --dir /var/lib/swim/2 --first --group 7 --join 10.0.0.1:7000   in a folder of its own, the first time
+  swim up --me 10.0.0.2:7000 --ask 10.0.0.1:7001 --join 10.0.0.1:7000   on a new disk, above what the group holds of it";
 
 /// Examples of `swim init`.
 pub(crate) const INIT: &str = "Examples:

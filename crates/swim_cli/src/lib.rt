@@ -12,6 +12,6 @@ mod up_words;
 pub use command_line::{Subcommand, read_words};
 pub use control_words::ControlWords;
 pub use descriptors::hold_standard;
-pub use making::{judge_ceiling, make};
+pub use making::{judge_ceiling, make, make_first};
 pub use new_file::NewFile;
 pub use up_words::UpWords;

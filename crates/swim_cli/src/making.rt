@@ -101,11 +101,36 @@ fn make_new<R: Files<File = File> + RandomSource + AllocGlobal>(
     drop(locked);
     match named {
         Ok(()) => Ok(()),
-        Err(error) if error.kind() == ErrorKind::AlreadyExists => make_in_place(
-            rt, path, beginning,
-        ),
+        Err(error) if error.kind() == ErrorKind::AlreadyExists => {
+            Err(unwritten(rt.alloc(), path, InitFault::NotEmpty))
+        }
         Err(error) => Err(unmade(error)),
     }
+}
+
+/// With what a state file begins by these words. An endpoint that is none is refused, and so is a ceiling above the greatest number.
+fn beginning_by(alloc: Global, group: u64, me: &str, ceiling: u64) -> Result<Beginning, Failure> {
+    let Some(me) = read_endpoint(me.as_bytes()) else {
+        return Err(Failure::of_address(alloc, "--me", me));
+    };
+    judge_ceiling(alloc, ceiling)?;
+    Ok(Beginning {
+        owner: Owner { group, me },
+        ceiling,
+    })
+}
+
+/// Makes the state file of a member where none is, as `make` does. What is at the path is not opened, so that who runs on it keeps its
+/// lock, and the exit is that of a file that is not empty.
+pub fn make_first<R: Files<File = File> + RandomSource + AllocGlobal>(
+    rt: &R,
+    file: &str,
+    group: u64,
+    me: &str,
+    ceiling: u64,
+) -> Result<(), Failure> {
+    let beginning = beginning_by(rt.alloc(), group, me, ceiling)?;
+    make_new(rt, file, &beginning)
 }
 
 /// Makes the state file of a member, whose endpoint is a word not yet judged. A ceiling above the greatest number is
@@ -119,14 +144,7 @@ pub fn make<R: Files<File = File> + RandomSource + AllocGlobal>(
     ceiling: u64,
 ) -> Result<(), Failure> {
     let alloc = rt.alloc();
-    let Some(me) = read_endpoint(me.as_bytes()) else {
-        return Err(Failure::of_address(alloc, "--me", me));
-    };
-    judge_ceiling(alloc, ceiling)?;
-    let beginning = Beginning {
-        owner: Owner { group, me },
-        ceiling,
-    };
+    let beginning = beginning_by(alloc, group, me, ceiling)?;
     match fs::exists(rt, file) {
         Ok(false) => make_new(rt, file, &beginning),
         Ok(true) => make_in_place(rt, file, &beginning),

@@ -15,18 +15,10 @@ pub struct UpWords<'a> {
     pub preset: Option<&'a str>,
     /// `--dir`: the folder of its settings and its state file.
     pub dir: Option<&'a str>,
-}
-
-/// The group of a member whose words name none.
-const GROUP: u64 = 1;
-
-impl UpWords<'_> {
-    ghost use Rattle.std.specs.Prelude.{◌≡◌, unwrap_or};
-
-    /// The number of its group.
-    pub fn group(&self) -> u64
-        ensures { result ≡ unwrap_or self.now.group GROUP }
-    {
-        self.group.unwrap_or(GROUP)
-    }
+    /// `--first`: whether a member may begin in the folder that `--dir` names.
+    pub first: bool,
+    /// `--ceiling`: the number above which it begins.
+    pub ceiling: Option<u64>,
+    /// `--ask`: the control socket of a member of its group, which tells the group and the greatest number that it holds of this one.
+    pub ask: Option<&'a str>,
 }

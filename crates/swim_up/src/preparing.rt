@@ -1,16 +1,22 @@
 //! What is done before a member runs.
 
+use crate::asking::{Asked, ask};
 use crate::clash::{Given, clash_of};
+use crate::folder::judge_folder;
+use crate::grouping::{group_at_file, group_of, lacks_memory};
 use crate::lacking::{Lacking, lacking_of};
 use crate::making::{make_file, make_folder};
 use crate::said::Said;
 use crate::text::settings_text;
 use std::alloc::{AllocError, Global};
+use std::io::ErrorKind;
 use std::{env, fs, io};
-use swim_cli::{UpWords, make};
+use swim_cli::{UpWords, judge_ceiling, make_first};
 use swim_exit::{Exit, Failure};
 use swim_run::{settings_at, try_addresses};
 use swim_settings::{JOIN_MAX, Key, RunSettings, SettingsRefusal, read_settings};
+use swim_state::InitFault;
+use swim_wire::Endpoint;
 use swim_words::{read_endpoint, read_host};
 
 /// What stands for a control socket that no word names, beside settings that have their own.
@@ -21,15 +27,8 @@ const UNNAMED: &str = "127.0.0.1:7001";
 struct Paths {
     folder: String,
     settings: String,
-    /// What the settings are written to before they have their name.
-    aside: String,
     /// The state file of a member that has no settings yet.
     state: String,
-}
-
-/// Where there is no memory.
-fn lacks_memory(_: AllocError) -> Failure {
-    Failure::from(Exit::Memory)
 }
 
 /// A path, from the root on.
@@ -57,12 +56,10 @@ fn folder_of(alloc: Global, words: &UpWords<'_>) -> Result<String, AllocError> {
 fn paths_in(alloc: Global, folder: String) -> Result<Paths, AllocError> {
     let name = folder.as_str();
     let settings = format!(in alloc; "{name}/member.toml")?;
-    let aside = format!(in alloc; "{name}/.member.toml.part")?;
     let state = format!(in alloc; "{name}/member.state")?;
     Ok(Paths {
         folder,
         settings,
-        aside,
         state,
     })
 }
@@ -72,12 +69,12 @@ fn is_there(rt: &HostRuntime, called: &str, path: &str) -> Result<bool, Failure>
     fs::exists(rt, path).map_err(|error| Failure::of_file(rt.alloc(), called, path, &error))
 }
 
-/// Refuses a word, which is called so, that is not the address that it has to be.
-fn judge(alloc: Global, called: &str, word: &str) -> Result<(), Failure> {
-    if read_endpoint(word.as_bytes()).is_none() {
-        return Err(Failure::of_address(alloc, called, word));
+/// The endpoint that a word is, which is called so. Another word is refused.
+fn judge(alloc: Global, called: &str, word: &str) -> Result<Endpoint, Failure> {
+    match read_endpoint(word.as_bytes()) {
+        Some(endpoint) => Ok(endpoint),
+        None => Err(Failure::of_address(alloc, called, word)),
     }
-    Ok(())
 }
 
 /// Refuses whom to join where it is neither an endpoint nor a host with a port.
@@ -152,31 +149,191 @@ fn lost(alloc: Global, paths: &Paths, told: &RunSettings) -> Failure {
     )
 }
 
+/// The word that begins a member, if there is one among the words.
+fn beginning_in(words: &UpWords<'_>) -> Option<&'static str> {
+    if words.first {
+        Some("--first")
+    } else if words.ceiling.is_some() {
+        Some("--ceiling")
+    } else if words.ask.is_some() {
+        Some("--ask")
+    } else {
+        None
+    }
+}
+
+/// The exit where a word begins a member that is there: it would hide for ever that its disk is not mounted.
+fn begun(alloc: Global, paths: &Paths, word: &str) -> Failure {
+    let path = paths.settings.as_str();
+    Failure::about(
+        alloc,
+        Exit::Settings(SettingsRefusal::Key(Key::File)),
+        format_args!("{path} is there, and {word} begins a new member: leave {word} out"),
+    )
+}
+
 /// Refuses words that the settings of a member contradict, and settings whose state file is gone.
 fn keep(rt: &HostRuntime, paths: &Paths, words: &UpWords<'_>, usual: &str) -> Result<(), Failure> {
     let alloc = rt.alloc();
     let told = settings_at(rt, paths.settings.as_str())?;
-    let text = settings_text(alloc, told.file.as_str(), words, usual).map_err(lacks_memory)?;
+    if let Some(word) = beginning_in(words) {
+        return Err(begun(alloc, paths, word));
+    }
+    let (file, group) = (told.file.as_str(), words.group.unwrap_or(0));
+    let text = settings_text(alloc, file, group, words, usual).map_err(lacks_memory)?;
     let wanted = wanted_by(alloc, text.as_str(), words)?;
     let joins_same = told.join.as_slice() == wanted.join.as_slice();
     if let Some(key) = clash_of(&told, &wanted, joins_same, given_by(words)) {
         return Err(clashes(alloc, paths, &told, &wanted, key));
     }
-    match lacking_of(true, is_there(rt, "state file", told.file.as_str())?) {
+    match lacking_of(true, is_there(rt, "state file", told.file.as_str())?, false) {
         Lacking::StateLost => Err(lost(alloc, paths, &told)),
         _ => Ok(()),
     }
 }
 
-/// Says what was made, and whether the state file was there.
-fn tell_made(rt: &HostRuntime, settings: &str, state: &str, has_state: bool) {
-    if has_state {
+/// What a member begins with.
+#[derive(Clone, Copy)]
+struct Beginning {
+    me: Endpoint,
+    group: u64,
+    /// The number above which it begins; none where its state file is there.
+    ceiling: Option<u64>,
+}
+
+/// Says what was made, where a member begins, and how another one joins it.
+fn tell_made(rt: &HostRuntime, settings: &str, state: &str, beginning: &Beginning) {
+    let Beginning { me, group, ceiling } = *beginning;
+    let Some(ceiling) = ceiling else {
         let _ = eprintln!(rt; "made {settings}; the state file {state} was there, and goes on");
-    } else {
-        let _ = eprintln!(rt;
-            "made {settings} and {state}: this member begins at number 1. If it has run in another folder before, stop it, and give that one by --dir"
-        );
+        return;
+    };
+    let number = ceiling.saturating_add(1);
+    let _ = eprintln!(rt;
+        "made {settings} and {state}: this member of group {group} begins at number {number}. If it has run in another folder before, stop it, and give that one by --dir"
+    );
+    let _ = eprintln!(rt;
+        "another member joins by: swim up --me ITS_ADDRESS:PORT --join {me} --group {group}"
+    );
+}
+
+/// Says what a member told that was asked.
+fn tell_asked(rt: &HostRuntime, at: &str, asked: Asked) {
+    let Asked { group, number } = asked;
+    let _ = match number {
+        Some(number) => eprintln!(rt;
+            "{at} is of group {group}, and holds this member by number {number}"
+        ),
+        None => eprintln!(rt; "{at} is of group {group}, and knows nothing of this member"),
+    };
+}
+
+/// What the member at the control socket that the words name tells, if they name one.
+fn asked_by(rt: &HostRuntime, words: &UpWords<'_>, me: Endpoint) -> Result<Option<Asked>, Failure> {
+    let Some(at) = words.ask else {
+        return Ok(None);
+    };
+    let asked = ask(rt, at, me)?;
+    tell_asked(rt, at, asked);
+    Ok(Some(asked))
+}
+
+/// The exit where nothing is in a folder, and no word says that a member begins there.
+fn unsaid(alloc: Global, paths: &Paths) -> Failure {
+    let folder = paths.folder.as_str();
+    Failure::about(
+        alloc,
+        Exit::File,
+        format_args!(
+            "folder {folder}: no member is in it, neither member.toml nor member.state, and nothing is made. If one has run there, its disk is not mounted; a new one begins there by --first"
+        ),
+    )
+}
+
+/// With what the member of these words begins, whose state file is there or not. Nothing is made where none may begin.
+fn beginning_of(
+    rt: &HostRuntime,
+    paths: &Paths,
+    words: &UpWords<'_>,
+    state: &str,
+    me: Endpoint,
+) -> Result<Beginning, Failure> {
+    let alloc = rt.alloc();
+    let may_begin = words.first || words.dir.is_none();
+    match lacking_of(false, is_there(rt, "state file", state)?, may_begin) {
+        Lacking::All => {}
+        Lacking::Unsaid => return Err(unsaid(alloc, paths)),
+        _ => {
+            let group = group_at_file(rt, words, me, state)?;
+            return Ok(Beginning {
+                me,
+                group,
+                ceiling: None,
+            });
+        }
     }
+    let asked = asked_by(rt, words, me)?;
+    let told = match asked {
+        Some(asked) => asked.ceiling(),
+        None => 0,
+    };
+    let ceiling = words.ceiling.unwrap_or(0).max(told);
+    judge_ceiling(alloc, ceiling)?;
+    let group = group_of(rt, words, asked, me, paths.folder.as_str())?;
+    Ok(Beginning {
+        me,
+        group,
+        ceiling: Some(ceiling),
+    })
+}
+
+/// The exit where another start has made a file of the member first.
+fn raced(alloc: Global, called: &str, path: &str) -> Failure {
+    let about = format_args!(
+        "{called} {path}: another `swim up` made it at the same time, and this one is not started"
+    );
+    Failure::about(alloc, Exit::File, about)
+}
+
+/// Makes the state file, which another start may have made meanwhile.
+fn make_state(
+    rt: &HostRuntime,
+    state: &str,
+    words: &UpWords<'_>,
+    group: u64,
+    ceiling: u64,
+) -> Result<(), Failure> {
+    let Err(failure) = make_first(rt, state, group, words.me, ceiling) else {
+        return Ok(());
+    };
+    if matches!(failure.exit(), Exit::Init(InitFault::NotEmpty)) {
+        return Err(raced(rt.alloc(), "state file", state));
+    }
+    Err(failure)
+}
+
+/// Makes the settings, which another start may have made meanwhile.
+fn make_settings(rt: &HostRuntime, settings: &str, text: &str) -> Result<(), Failure> {
+    match make_file(rt, settings, text) {
+        Ok(()) => Ok(()),
+        Err(error) if error.kind() == ErrorKind::AlreadyExists => {
+            Err(raced(rt.alloc(), "settings", settings))
+        }
+        Err(error) => Err(Failure::of_file(rt.alloc(), "settings", settings, &error)),
+    }
+}
+
+/// The settings of these words and this group, as they are written and as they are read.
+fn settings_of(
+    alloc: Global,
+    state: &str,
+    group: u64,
+    words: &UpWords<'_>,
+    usual: &str,
+) -> Result<(String, RunSettings), Failure> {
+    let text = settings_text(alloc, state, group, words, usual).map_err(lacks_memory)?;
+    let wanted = wanted_by(alloc, text.as_str(), words)?;
+    Ok((text, wanted))
 }
 
 /// Makes the settings of a member, and its folder and its state file where there are none. Refused words leave nothing, nor do addresses
@@ -185,47 +342,54 @@ fn make_all(
     rt: &HostRuntime,
     paths: &Paths,
     words: &UpWords<'_>,
+    me: Endpoint,
     usual: &str,
 ) -> Result<(), Failure> {
     let alloc = rt.alloc();
     let (folder, settings) = (paths.folder.as_str(), paths.settings.as_str());
     let unknown = |error: io::Error| Failure::of_file(alloc, "folder", folder, &error);
-    let state = whole_path(rt, paths.state.as_str()).map_err(unknown)?;
-    let text = settings_text(alloc, state.as_str(), words, usual).map_err(lacks_memory)?;
-    let wanted = wanted_by(alloc, text.as_str(), words)?;
-    let lacking = lacking_of(false, is_there(rt, "state file", state.as_str())?);
+    let state = whole_path(rt, paths.state.as_str()).map_err(&unknown)?;
+    settings_of(
+        alloc,
+        state.as_str(),
+        words.group.unwrap_or(0),
+        words,
+        usual,
+    )?;
+    let beginning = beginning_of(rt, paths, words, state.as_str(), me)?;
+    let (text, wanted) = settings_of(alloc, state.as_str(), beginning.group, words, usual)?;
     try_addresses(rt, &wanted)?;
-    make_folder(rt, folder).map_err(unknown)?;
-    let has_state = lacking != Lacking::All;
-    if !has_state {
-        make(rt, state.as_str(), wanted.settings.group, words.me, 0)?;
+    make_folder(rt, folder).map_err(&unknown)?;
+    judge_folder(rt, folder)?;
+    if let Some(ceiling) = beginning.ceiling {
+        make_state(rt, state.as_str(), words, beginning.group, ceiling)?;
     }
-    make_file(rt, paths.aside.as_str(), settings, text.as_str()).map_err(|error| Failure::of_file(
-        alloc, "settings", settings, &error,
-    ))?;
-    tell_made(rt, settings, state.as_str(), has_state);
+    make_settings(rt, settings, text.as_str())?;
+    tell_made(rt, settings, state.as_str(), &beginning);
     Ok(())
 }
 
-/// Makes what the member of these words lacks, and gives the path of its settings. Where its settings are there, nothing is made: they
-/// have to say what the words do, and their state file has to be there. Where the words name no control socket, new settings have the
+/// Makes what the member of these words lacks, and gives the path of its settings. A folder that others may write is refused. Where its
+/// settings are there, nothing is made: they have to say what the words do, and their state file has to be there. In a folder that the
+/// words name nothing is made where nothing is, unless they say that a member begins. Where the words name no control socket, new settings have the
 /// usual one, which is that of `SWIM_CONTROL`, if that is set.
 pub fn prepare(rt: &HostRuntime, words: &UpWords<'_>, usual: &str) -> Result<String, Failure> {
     let alloc = rt.alloc();
-    judge(alloc, "--me", words.me)?;
+    let me = judge(alloc, "--me", words.me)?;
     if let Some(control) = words.control {
         judge(alloc, "--control", control)?;
     }
     judge_joins(alloc, words)?;
     let folder = folder_of(alloc, words).map_err(lacks_memory)?;
     let paths = paths_in(alloc, folder).map_err(lacks_memory)?;
+    judge_folder(rt, paths.folder.as_str())?;
     if is_there(rt, "settings", paths.settings.as_str())? {
         keep(rt, &paths, words, UNNAMED)?;
     } else {
         if words.control.is_none() {
             judge(alloc, "SWIM_CONTROL", usual)?;
         }
-        make_all(rt, &paths, words, usual)?;
+        make_all(rt, &paths, words, me, usual)?;
     }
     Ok(paths.settings)
 }

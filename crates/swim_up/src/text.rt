@@ -50,15 +50,17 @@ fn value_of_join(alloc: Global, words: &UpWords<'_>) -> Result<Value, AllocError
     Ok(Value::from(places))
 }
 
-/// The settings of these words, as the text of a file, with a state file at this path, and with this control socket where they name none.
+/// The settings of these words, as the text of a file, with a state file at this path, of this group, and with this control socket where
+/// they name none.
 pub(crate) fn settings_text(
     alloc: Global,
     file: &str,
+    group: u64,
     words: &UpWords<'_>,
     usual: &str,
 ) -> Result<String, AllocError> {
     let mut text = String::from_str(alloc, HEAD)?;
-    let group = i64::try_from(words.group()).unwrap_or(i64::MAX);
+    let group = i64::try_from(group).unwrap_or(i64::MAX);
     add_text(alloc, &mut text, Key::File, file)?;
     add(&mut text, Key::Group, Value::Integer(group))?;
     add_text(alloc, &mut text, Key::Me, words.me)?;
