@@ -8,9 +8,9 @@ use Rattle.swim_wire.specs.declared.update.UpdateKind.{UpdateKind}
 use Rattle.swim_wire.specs.declared.update.UpdateKind.TheVariants.{Alive, Suspect, Confirm}
 use Rattle.swim_http.specs.Answers.{answer_for, answer_with, code_head}
 use Rattle.swim_shell.specs.Counters.{counter_at}
-use Rattle.swim_http.specs.Gauges.{gauge, gauge_head, sample_of}
+use Rattle.swim_http.specs.Gauges.{gauge_head, sample, sample_of}
 use Rattle.swim_http.specs.Members.{about_told, since_text, state_sample}
-use Rattle.swim_http.specs.Metrics.{count_kind, counter_metric, told_text, kind_sample, member_text, note_sample, total}
+use Rattle.swim_http.specs.Metrics.{count_kind, counter_metric, told_text, kind_sample, member_text, note_sample, total_head, total_sample}
 use Rattle.swim_http.specs.declared.seen.Seen.{Seen}
 use Rattle.swim_wire.specs.Text.{endpoint_text}
 use Rattle.swim_http.specs.Requests.{IsMethod, IsPath, path_in}
@@ -86,33 +86,33 @@ rows = row Alive ∷ row Suspect ∷ row Alive ∷ []
 counted : count_kind Alive rows ∷ count_kind Suspect rows ∷ count_kind Confirm rows ∷ [] ≡ 2 ∷ 1 ∷ 0 ∷ []
 counted = refl
 
-suspects : kind_sample Suspect rows ≡ codes "swim_members{state=\"suspect\"} " ++ (decimal 1 ++ codes "\n")
-unfolding kind_sample sample_of
+suspects : kind_sample (Some 7) Suspect rows ≡ codes "swim_members{group=\"" ++ (decimal 7 ++ (codes "\",state=\"suspect\"} " ++ (decimal 1 ++ codes "\n")))
+unfolding sample_of
 suspects = refl
 
 -- of a member that does not answer nothing is told but that
-silent : (seen : Seen) → member_text None seen ≡ codes "# HELP swim_up Whether the member answers.\n# TYPE swim_up gauge\nswim_up " ++ (decimal 0 ++ codes "\n")
-unfolding gauge gauge_head
+silent : (seen : Seen) → member_text None None seen ≡ codes "# HELP swim_up Whether the member answers.\n# TYPE swim_up gauge\nswim_up{group=\"\"} " ++ (decimal 0 ++ codes "\n")
+unfolding gauge_head sample
 silent seen = refl
 
 -- a counter under its name, and one of notes
-entries : counter_metric (counter_at 4) 9 ≡ codes "# HELP swim_entries_total Answered calls of the member, each one entry.\n# TYPE swim_entries_total counter\nswim_entries_total " ++ (decimal 9 ++ codes "\n")
-unfolding total
+entries : counter_metric (Some 7) (counter_at 4) 9 ≡ codes "# HELP swim_entries_total Answered calls of the member, each one entry.\n# TYPE swim_entries_total counter\nswim_entries_total{group=\"" ++ (decimal 7 ++ (codes "\"} " ++ (decimal 9 ++ codes "\n")))
+unfolding total_head total_sample
 entries = refl
 
-leaps : note_sample (counter_at 16) 2 ≡ codes "swim_notes_total{note=\"Leap\"} " ++ (decimal 2 ++ codes "\n")
+leaps : note_sample (Some 7) (counter_at 16) 2 ≡ codes "swim_notes_total{group=\"" ++ (decimal 7 ++ (codes "\",note=\"Leap\"} " ++ (decimal 2 ++ codes "\n")))
 unfolding sample_of
 leaps = refl
 
 -- a member that knows no such line has no counters
-untold : told_text None ≡ []
+untold : told_text (Some 7) None ≡ []
 untold = refl
 
 -- nor does it say who it is, or since when it runs
-unsaid : about_told None ++ since_text None ≡ []
+unsaid : about_told None None ++ since_text None None ≡ []
 unsaid = refl
 
 -- the state of one member
-of_one : state_sample (row Suspect) ≡ codes "swim_member_state{member=\"" ++ (endpoint_text 0x0A0000021B58 ++ codes "\",state=\"suspect\"} 1\n")
+of_one : state_sample (Some 7) (row Confirm) ≡ codes "swim_member_state{group=\"" ++ (decimal 7 ++ (codes "\",member=\"" ++ (endpoint_text 0x0A0000021B58 ++ codes "\",state=\"failed\"} 1\n")))
 unfolding state_sample
 of_one = refl

@@ -1,5 +1,4 @@
 mod Examples
 pub mod Paths
-pub mod Samples
 pub mod Texts
 pub mod Slashes

@@ -13,13 +13,13 @@ use Rattle.swim_shell.specs.declared.counters.Counter.TheVariants as counter
 use Rattle.swim_shell.specs.declared.counters.Counters.{Counters}
 use Rattle.swim_shell.specs.declared.counters.TheConstants.{NOTES_FROM}
 use Rattle.swim_shell.specs.declared.counts.TheConstants.{NOTE_KINDS}
-use Rattle.swim_wire.specs.Text.{kind_word}
+use Rattle.swim_news.specs.States.{state_word}
 use Rattle.swim_wire.specs.declared.update.Update.{Update}
 use Rattle.swim_wire.specs.declared.update.UpdateKind.{UpdateKind}
 use Rattle.swim_wire.specs.declared.update.UpdateKind.TheVariants.{Alive, Suspect, Confirm}
 use Rattle.swim_http.specs.declared.seen.Seen.{Seen}
-use Rattle.swim_http.specs.Gauges.{gauge, gauge_head, sample_of}
-use Rattle.swim_http.specs.Members.{about_told, since_text, states_text}
+use Rattle.swim_http.specs.Gauges.{gauge, gauge_head, group_word, sample_of}
+use Rattle.swim_http.specs.Members.{about_told, group_told, since_text, states_text}
 
 -- both are the same kind
 abbrev pub is_same : UpdateKind → UpdateKind → Bool
@@ -44,47 +44,53 @@ phase_flag Expelled Expelled = 1
 phase_flag _ _ = 0
 
 -- whether the member answers
-abbrev pub up_text : ℕ → List ℕ
-up_text up = gauge (codes "swim_up") (codes "Whether the member answers.") up
+abbrev pub up_text : Option ℕ → ℕ → List ℕ
+up_text group up = gauge (codes "swim_up") (codes "Whether the member answers.") group up
 
 -- how many members are of a kind
-unfoldable pub kind_sample : UpdateKind → List Update → List ℕ
-kind_sample kind rows =
-    sample_of (codes "swim_members") (codes "state") (kind_word kind) (count_kind kind rows)
+abbrev pub kind_sample : Option ℕ → UpdateKind → List Update → List ℕ
+kind_sample group kind rows =
+    sample_of (codes "swim_members") group (codes "state") (state_word kind)
+    (count_kind kind rows)
+
+abbrev pub kind_samples : Option ℕ → List Update → List ℕ
+kind_samples group rows =
+    kind_sample group Alive rows ++ (kind_sample group Suspect rows
+    ++ kind_sample group Confirm rows)
 
 -- how many members are alive, suspected and confirmed, by its rows
-abbrev pub kinds_text : List Update → List ℕ
-kinds_text rows =
+abbrev pub kinds_text : Option ℕ → List Update → List ℕ
+kinds_text group rows =
     gauge_head (codes "swim_members")
-    (codes "Members by their state, the member itself among them.")
-    ++ (kind_sample Alive rows ++ (kind_sample Suspect rows ++ kind_sample Confirm rows))
+    (codes "Members by their state, the member itself among them.") ++ kind_samples group rows
 
 -- whether a phase is the member's
-abbrev pub phase_sample : Phase → Phase → List ℕ
-phase_sample is phase =
-    sample_of (codes "swim_phase") (codes "phase") (phase_word is) (phase_flag is phase)
+abbrev pub phase_sample : Option ℕ → Phase → Phase → List ℕ
+phase_sample group is phase =
+    sample_of (codes "swim_phase") group (codes "phase") (phase_word is) (phase_flag is phase)
 
 -- which phase it is in
-abbrev pub phases_text : Phase → List ℕ
-phases_text phase =
+abbrev pub phases_text : Option ℕ → Phase → List ℕ
+phases_text group phase =
     gauge_head (codes "swim_phase") (codes "1 for the phase of the member, and 0 for the others.")
-    ++ (phase_sample Running phase ++ (phase_sample Left phase ++ phase_sample Expelled phase))
+    ++ (phase_sample group Running phase ++ (phase_sample group Left phase
+    ++ phase_sample group Expelled phase))
 
 -- its own number
-abbrev pub number_text : ℕ → List ℕ
-number_text n =
-    gauge (codes "swim_own_number") (codes "The own incarnation number of the member.") n
+abbrev pub number_text : Option ℕ → ℕ → List ℕ
+number_text group n =
+    gauge (codes "swim_own_number") (codes "The own incarnation number of the member.") group n
 
 -- how many entries its era has
-abbrev pub entries_text : ℕ → List ℕ
-entries_text n =
-    gauge (codes "swim_era_entries") (codes "Entries in the present era of the member.") n
+abbrev pub entries_text : Option ℕ → ℕ → List ℕ
+entries_text group n =
+    gauge (codes "swim_era_entries") (codes "Entries in the present era of the member.") group n
 
 -- for how long nothing changed
-abbrev pub quiet_text : ℕ → List ℕ
-quiet_text quiet =
+abbrev pub quiet_text : Option ℕ → ℕ → List ℕ
+quiet_text group quiet =
     gauge (codes "swim_quiet_seconds")
-    (codes "Seconds since this server last saw a change of the member or of its rows.") quiet
+    (codes "Seconds since this server last saw a change of the member or of its rows.") group quiet
 
 -- what a counter of eras or of calls is; those of notes have one text together
 abbrev pub counter_help : Counter → List ℕ
@@ -104,20 +110,30 @@ counter_help counter.Refutations =
     codes "Suspicions of itself that the member refuted by a greater number."
 counter_help (counter.Noted note) = []
 
--- a metric that never falls while the member runs, with its name in short
-unfoldable pub total : List ℕ → List ℕ → ℕ → List ℕ
-total name help n =
+-- what stands before the number of a metric that never falls: its name in short, and what it is
+unfoldable pub total_head : List ℕ → List ℕ → List ℕ
+total_head name help =
     codes "# HELP swim_" ++ (name ++ (codes "_total " ++ (help ++ (codes "\n# TYPE swim_" ++ (name
-    ++ (codes "_total counter\nswim_" ++ (name ++ (codes "_total " ++ (decimal n
-    ++ codes "\n")))))))))
+    ++ codes "_total counter\n")))))
+
+-- its number, of a group
+unfoldable pub total_sample : List ℕ → Option ℕ → ℕ → List ℕ
+total_sample name group n =
+    codes "swim_" ++ (name ++ (codes "_total{group=\"" ++ (group_word group ++ (codes "\"} "
+    ++ (decimal n ++ codes "\n")))))
+
+-- a metric that never falls
+abbrev pub total : List ℕ → List ℕ → Option ℕ → ℕ → List ℕ
+total name help group n = total_head name help ++ total_sample name group n
 
 -- the metric of a counter of eras or of calls
-abbrev pub counter_metric : Counter → ℕ → List ℕ
-counter_metric c n = total (counter_name c) (counter_help c) n
+abbrev pub counter_metric : Option ℕ → Counter → ℕ → List ℕ
+counter_metric group c n = total (counter_name c) (counter_help c) group n
 
 -- how many notes there were of a kind
-abbrev pub note_sample : Counter → ℕ → List ℕ
-note_sample c n = sample_of (codes "swim_notes_total") (codes "note") (counter_name c) n
+abbrev pub note_sample : Option ℕ → Counter → ℕ → List ℕ
+note_sample group c n =
+    sample_of (codes "swim_notes_total") group (codes "note") (counter_name c) n
 
 -- what stands before the counts of notes
 unfoldable pub notes_head : List ℕ
@@ -126,35 +142,39 @@ notes_head =
     ++ codes "# TYPE swim_notes_total counter\n"
 
 -- what is said of all that a member did
-abbrev pub done_text : List ℕ → List ℕ
-done_text counts =
-    lines_from counter_metric 0 (take NOTES_FROM counts)
-    ++ (notes_head ++ lines_from note_sample NOTES_FROM
+abbrev pub done_text : Option ℕ → List ℕ → List ℕ
+done_text group counts =
+    lines_from (counter_metric group) 0 (take NOTES_FROM counts)
+    ++ (notes_head ++ lines_from (note_sample group) NOTES_FROM
     (take NOTE_KINDS (drop NOTES_FROM counts)))
 
 -- the same, where it told what it did
-abbrev pub told_text : Option Counters → List ℕ
-told_text None = []
-told_text (Some counters) = done_text counters.values
+abbrev pub told_text : Option ℕ → Option Counters → List ℕ
+told_text group None = []
+told_text group (Some counters) = done_text group counters.values
 
 -- what is said of a member that answered so
-abbrev pub answering_text : Status → List Update → List ℕ
-answering_text s rows =
-    up_text 1 ++ (kinds_text rows ++ (phases_text s.phase ++ (number_text s.number
-    ++ entries_text s.length)))
+abbrev pub answering_text : Option ℕ → Status → List Update → List ℕ
+answering_text group s rows =
+    up_text group 1 ++ (kinds_text group rows ++ (phases_text group s.phase
+    ++ (number_text group s.number ++ entries_text group s.length)))
 
 -- what is said of a member that answered beside its status: the state of each member, what it has
 -- done, who it is, and since when it runs
-abbrev pub beside_text : Seen → List ℕ
-beside_text seen =
-    states_text seen.rows ++ (told_text seen.counters ++ (about_told seen.about
-    ++ since_text seen.since))
+abbrev pub beside_text : Option ℕ → Seen → List ℕ
+beside_text group seen =
+    states_text group seen.rows ++ (told_text group seen.counters
+    ++ (about_told group seen.about ++ since_text group seen.since))
 
 -- what is said of a member, whether it answered or not
-abbrev pub member_text : Option Status → Seen → List ℕ
-member_text None seen = up_text 0
-member_text (Some s) seen = answering_text s seen.rows ++ beside_text seen
+abbrev pub member_text : Option ℕ → Option Status → Seen → List ℕ
+member_text group None seen = up_text group 0
+member_text group (Some s) seen = answering_text group s seen.rows ++ beside_text group seen
+
+-- all that is said of a member of a group
+abbrev pub text_of : Option ℕ → Seen → List ℕ
+text_of group seen = member_text group seen.status seen ++ quiet_text group seen.quiet
 
 -- all its numbers
 abbrev pub metrics_text : Seen → List ℕ
-metrics_text seen = member_text seen.status seen ++ quiet_text seen.quiet
+metrics_text seen = text_of (group_told seen.about) seen

@@ -1,46 +1,55 @@
 //! Who a member is, and the state of each one that it knows, as Prometheus reads them.
 
 ghost use Rattle.std.specs.Prelude.{◌≡◌, ◌++◌, OnOk};
-ghost use Rattle.swim_http.specs.Members.{about_told, alone_text, info_sample, info_text, since_text, state_sample, state_samples, states_text};
+ghost use Rattle.swim_http.specs.Members.{about_told, alone_sample, alone_text, info_sample, info_text, since_text, state_sample, state_samples, states_text};
 
-use crate::gauges::{write_gauge, write_head};
+use crate::gauges::{GroupLabel, write_gauge, write_head, write_sample};
 use std::alloc::AllocError;
 use std::fmt::Write;
+use swim_news::state_name;
 use swim_shell::{About, Who};
 use swim_wire::Update;
 
-/// Adds the state of a member.
+/// Adds the state of a member of a group.
 #[tactic(auto, unfolding(crate::specs::Members::state_sample))]
-fn write_state(text: &mut String, row: &Update) -> Result<(), AllocError>
+fn write_state(text: &mut String, group: Option<u64>, row: &Update) -> Result<(), AllocError>
     ensures { OnOk result (text.new.bytes.items
-        ≡ text.old.bytes.items ++ state_sample row.now) }
+        ≡ text.old.bytes.items ++ state_sample group row.now) }
 {
-    let (who, kind) = (row.who, row.kind.name());
+    let (of, who, state) = (GroupLabel { number: group }, row.who, state_name(row.kind));
     write!(
         text,
-        "swim_member_state{{member=\"{who}\",state=\"{kind}\"}} 1\n"
+        "swim_member_state{{group=\"{of}\",member=\"{who}\",state=\"{state}\"}} 1\n"
     )
 }
 
-/// Adds the states of members, one after the other.
-fn write_each(text: &mut String, rows: &[Update]) -> Result<(), AllocError>
+/// Adds the states of the members of a group, one after the other.
+pub(crate) fn write_each(
+    text: &mut String,
+    group: Option<u64>,
+    rows: &[Update],
+) -> Result<(), AllocError>
     ensures { OnOk result (text.new.bytes.items
-        ≡ text.old.bytes.items ++ state_samples rows.now) }
+        ≡ text.old.bytes.items ++ state_samples group rows.now) }
 {
     for row in rows {
-        write_state(text, row)?;
+        write_state(text, group, row)?;
     }
     Ok(())
 }
 
 /// Adds the state of each member that has a row.
-pub(crate) fn write_states(text: &mut String, rows: &[Update]) -> Result<(), AllocError>
+pub(crate) fn write_states(
+    text: &mut String,
+    group: Option<u64>,
+    rows: &[Update],
+) -> Result<(), AllocError>
     ensures { OnOk result (text.new.bytes.items
-        ≡ text.old.bytes.items ++ states_text rows.now) }
+        ≡ text.old.bytes.items ++ states_text group rows.now) }
 {
     let help = "1 for the state of each member that has a row, itself among them.";
     write_head(text, "swim_member_state", help)?;
-    write_each(text, rows)
+    write_each(text, group, rows)
 }
 
 /// Adds the labels of a member.
@@ -64,36 +73,58 @@ fn write_info(text: &mut String, who: &Who) -> Result<(), AllocError>
     write_labels(text, who)
 }
 
-/// Adds whether the member is alone.
-fn write_alone(text: &mut String, is_alone: bool) -> Result<(), AllocError>
+/// Adds whether a member of a group is alone.
+pub(crate) fn write_flag(
+    text: &mut String,
+    group: Option<u64>,
+    is_alone: bool,
+) -> Result<(), AllocError>
     ensures { OnOk result (text.new.bytes.items
-        ≡ text.old.bytes.items ++ alone_text is_alone) }
+        ≡ text.old.bytes.items ++ alone_sample group is_alone) }
+{
+    write_sample(text, "swim_alone", group, u64::from(is_alone))
+}
+
+/// Adds whether the member is alone.
+fn write_alone(text: &mut String, group: Option<u64>, is_alone: bool) -> Result<(), AllocError>
+    ensures { OnOk result (text.new.bytes.items
+        ≡ text.old.bytes.items ++ alone_text group is_alone) }
 {
     let help = "Whether the member has others to join and knows none of them.";
-    write_gauge(text, "swim_alone", help, u64::from(is_alone))
+    write_head(text, "swim_alone", help)?;
+    write_flag(text, group, is_alone)
 }
 
 /// Adds who the member is and whether it is alone, where it told that.
-pub(crate) fn write_about(text: &mut String, about: &Option<About>) -> Result<(), AllocError>
+pub(crate) fn write_about(
+    text: &mut String,
+    group: Option<u64>,
+    about: &Option<About>,
+) -> Result<(), AllocError>
     ensures { OnOk result (text.new.bytes.items
-        ≡ text.old.bytes.items ++ about_told about.now) }
+        ≡ text.old.bytes.items ++ about_told group about.now) }
 {
     match about {
         Some(about) => {
             write_info(text, &about.who)?;
-            write_alone(text, about.is_alone)
+            write_alone(text, group, about.is_alone)
         }
         None => Ok(()),
     }
 }
 
 /// Adds since when the member runs, where that is known.
-pub(crate) fn write_since(text: &mut String, since: Option<u64>) -> Result<(), AllocError>
-    ensures { OnOk result (text.new.bytes.items ≡ text.old.bytes.items ++ since_text since) }
+pub(crate) fn write_since(
+    text: &mut String,
+    group: Option<u64>,
+    since: Option<u64>,
+) -> Result<(), AllocError>
+    ensures { OnOk result (text.new.bytes.items
+        ≡ text.old.bytes.items ++ since_text group since) }
 {
     let help = "When the member began, in seconds since 1970.";
     match since {
-        Some(since) => write_gauge(text, "swim_up_since", help, since),
+        Some(since) => write_gauge(text, "swim_up_since", help, group, since),
         None => Ok(()),
     }
 }

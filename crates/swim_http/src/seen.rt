@@ -2,6 +2,7 @@
 
 ghost use Rattle.std.specs.Prelude.{◌≡◌};
 ghost use Rattle.swim_http.specs.Answers.{is_alone_in, phase_in};
+ghost use Rattle.swim_http.specs.Members.{group_told};
 
 use arrayvec::ArrayVec;
 use swim_member::Phase;
@@ -39,6 +40,16 @@ impl Seen {
     {
         match self.status {
             Some(status) => Some(status.phase),
+            None => None,
+        }
+    }
+
+    /// The number of its group; none where it did not tell that.
+    pub(crate) fn group(&self) -> Option<u64>
+        ensures { result ≡ group_told self.now.about }
+    {
+        match &self.about {
+            Some(about) => Some(about.who.group),
             None => None,
         }
     }

@@ -7,4 +7,4 @@ use Rattle.swim_http.proofs.counted.write_calls.Goals as goal
 pub loop-place-preserved : goal.loop-place-preserved
 loop-place-preserved c =
     let added = rw c.at.ensures at c.in_ok-write_metric.ensures in
-    line_written counter_metric c.args.text.now.bytes.items c.loop-place.text.bytes.items c.write_metric.new.text.bytes.items 0 c.loop-place.place (c.loop-place.place) c.args.counts.now (omega arith) c.loop-place-test.true c.loop-place.invariant added
+    line_written (counter_metric c.args.group) c.args.text.now.bytes.items c.loop-place.text.bytes.items c.write_metric.new.text.bytes.items 0 c.loop-place.place (c.loop-place.place) c.args.counts.now (omega arith) c.loop-place-test.true c.loop-place.invariant added

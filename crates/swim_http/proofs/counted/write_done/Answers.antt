@@ -13,8 +13,8 @@ returns c =
     let one = c.write_calls.new.text.bytes.items in
     let two = c.write_notes_head.new.text.bytes.items in
     let three = c.write_notes.new.text.bytes.items in
-    let calls = lines_from counter_metric 0 (take 12 values) in
-    let notes = lines_from note_sample 12 (take 18 (drop 12 values)) in
+    let calls = lines_from (counter_metric c.args.group) 0 (take 12 values) in
+    let notes = lines_from (note_sample c.args.group) 12 (take 18 (drop 12 values)) in
     on_ok_weaker c.write_notes.result
     (λ last.
     and_then old calls one (notes_head ++ notes) three c.in_ok-write_calls.ensures

@@ -6,4 +6,4 @@ use Rattle.swim_http.proofs.counted.write_notes.Given as goal
 
 -- the metrics so far
 abbrev pub invariant-loop-place : goal.invariant-loop-place
-invariant-loop-place l = l.text.bytes.items ≡ l.initial.text.bytes.items ++ lines_from note_sample NOTES_FROM (take l.place l.counts)
+invariant-loop-place l = l.text.bytes.items ≡ l.initial.text.bytes.items ++ lines_from (note_sample l.group) NOTES_FROM (take l.place l.counts)

@@ -13,4 +13,4 @@ loop-group-preserved c =
     let group = c.group-item.result in
     let more : take (i + 1) groups ≡ take i groups ++ group ∷ [] =
     take_more groups i group c.loop-group-test.true ∙ ap (λ (g : SeenGroup). take i groups ++ g ∷ []) (sym c.group-item.is) in
-    more_written (family_sample c.args.family) c.args.text.now.bytes.items c.loop-group.text.bytes.items c.write_sample.new.text.bytes.items (take i groups) (take (i + 1) groups) group c.loop-group.invariant c.in_ok-write_sample.ensures more
+    more_written (family_sample c.args.family) c.args.text.now.bytes.items c.loop-group.text.bytes.items c.write_told.new.text.bytes.items (take i groups) (take (i + 1) groups) group c.loop-group.invariant c.in_ok-write_told.ensures more

@@ -13,5 +13,5 @@ returns c =
     let all = c.write_each.new.text.bytes.items in
     let name = gauge_head (codes "swim_member_state") (codes "1 for the state of each member that has a row, itself among them.") in
     on_ok_weaker c.write_each.result
-    (λ last. and_then old name head (state_samples c.args.rows.now) all c.in_ok-write_head.ensures last)
+    (λ last. and_then old name head (state_samples c.args.group c.args.rows.now) all c.in_ok-write_head.ensures last)
     c.write_each.ensures
