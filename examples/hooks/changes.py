@@ -8,7 +8,7 @@ import sys
 import time
 from typing import NamedTuple, Optional
 
-HERE = ("alive", "suspect")  # a suspected member may live: it is not given up before it is confirmed
+HERE = ("alive", "suspect")  # a suspected member may live: it is not given up before it has failed
 SECONDS = 5  # that a system may take to answer
 
 
@@ -62,7 +62,7 @@ class Group:
     def __init__(self, patience):
         self.patience = patience  # seconds after which one that nobody tells of is not there
         self.here = {}  # whether a member is there
-        self.lost = {}  # since when a member has no row, though nobody has confirmed it
+        self.lost = {}  # since when a member has no row, though it was not seen failed
         self.answers = None  # since when the member that is watched answers
 
     def take(self, line):

@@ -7,6 +7,7 @@ mod asking;
 mod counters;
 mod gap;
 mod joining;
+mod json;
 mod leaving;
 mod looking;
 mod lookup;

@@ -108,7 +108,7 @@ pub fn read_status(answer: &[u8]) -> Option<Status>
 #[derive(Clone, Copy)]
 struct StatusValues(Status);
 
-/// A status as a JSON object: `{"phase":"running","number":3,"alive":4,"suspect":0,"confirmed":0,"length":17}`.
+/// A status as a JSON object: `{"phase":"running","number":3,"alive":4,"suspect":0,"failed":0,"length":17}`.
 #[derive(Clone, Copy)]
 pub struct StatusJson(pub Status);
 
@@ -125,7 +125,7 @@ impl fmt::Display for StatusValues {
         let phase = phase.name();
         write!(
             f,
-            "\"phase\":\"{phase}\",\"number\":{number},\"alive\":{alive},\"suspect\":{suspect},\"confirmed\":{confirmed},\"length\":{length}"
+            "\"phase\":\"{phase}\",\"number\":{number},\"alive\":{alive},\"suspect\":{suspect},\"failed\":{confirmed},\"length\":{length}"
         )
     }
 }

@@ -4,6 +4,7 @@ use crate::about::ask_about;
 use crate::addresses::Addresses;
 use crate::asking::now;
 use crate::gap::{Gap, GapJson};
+use crate::json::{ChangeJson, RowJson};
 use crate::output::Output;
 use crate::paging::{read_all_rows, read_rows};
 use crate::paint::{Paint, PaintedChange, PaintedKind};
@@ -17,7 +18,7 @@ use std::sync::{Wait, WaitMethods};
 use std::thread::Threads;
 use std::time::Duration;
 use swim_exit::{Exit, Failure};
-use swim_news::{Change, ChangeJson, Changes, RowJson, Rows, compare};
+use swim_news::{Change, Changes, Rows, compare};
 use swim_shell::Alone;
 use swim_wire::{Endpoint, Update};
 

@@ -3,6 +3,7 @@
 use crate::group::SeenGroup;
 use crate::metrics::count_kind;
 use crate::page::{HEAD, STYLE, TAIL, remark};
+use crate::rows::write_row;
 use std::alloc::AllocError;
 use std::fmt::Write;
 use swim_news::state_name;
@@ -113,11 +114,8 @@ pub(crate) fn write_directory_page(
 fn write_rows(text: &mut String, group: &SeenGroup) -> Result<(), AllocError> {
     let of = group.number;
     for row in group.seen.rows.as_slice() {
-        let (who, kind, number) = (row.who, row.kind.name(), row.number);
-        write!(
-            text,
-            "{{\"group\":{of},\"member\":\"{who}\",\"kind\":\"{kind}\",\"number\":{number}}}\n"
-        )?;
+        write!(text, "{{\"group\":{of},")?;
+        write_row(text, row)?;
     }
     Ok(())
 }
