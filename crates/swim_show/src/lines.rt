@@ -29,12 +29,12 @@ fn reason_of(fault: RecoverFault) -> &'static str {
     match fault {
         RecoverFault::Device => "it cannot be read",
         RecoverFault::NotState =>
-            "it is no state file, or only the part that a cut off `swim init` left",
+            "it is no state file, or only what an interrupted `swim init` left",
         RecoverFault::WrongOwner => "its head names nobody",
-        RecoverFault::NoSlot => "both gates are shut, as a cut off `swim init` leaves them",
+        RecoverFault::NoSlot => "both gates are shut, as an interrupted `swim init` leaves them",
         RecoverFault::Damaged =>
             "an open slot has a body that no save writes. Keep the file, and see INCIDENTS.md",
-        RecoverFault::Exhausted => "its greatest ceiling is 2^62, and no number is above it",
+        RecoverFault::Exhausted => "its greatest ceiling is 2^62, and no incarnation is above it",
     }
 }
 
@@ -104,7 +104,7 @@ impl fmt::Display for OpeningLine {
                 let peers = PeersSaid(peers);
                 write!(
                     f,
-                    "opening  a life would begin with {number}, one above the greatest ceiling of an open slot, and {peers}\n"
+                    "opening  the next run would have incarnation {number}, one above the greatest ceiling of an open slot, and {peers}\n"
                 )
             }
             Opening::Refused(fault) => {
