@@ -106,8 +106,8 @@ class Told(str):
 HINTS = (
     (
         r"init refused 1 NotEmpty|open refused (2 NotState|4 NoSlot)",
-        'if a member has run on this file, keep it, and see "A lost state file" in OPERATIONS.md. If none has, it is the part that a cut off'
-        " `swim init` or `swim up` left: no number was sent then, so delete it and begin again",
+        'if a member has run on this file, keep it, and see "A lost state file" in OPERATIONS.md. If none has, it is what an interrupted'
+        " `swim init` or `swim up` left: no incarnation was sent then, so delete it and begin again",
     ),
     (
         r"open refused 3 WrongOwner",

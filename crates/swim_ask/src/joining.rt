@@ -171,13 +171,13 @@ impl Display for Joined {
         match self {
             Joined::New(row) => {
                 let (who, number) = (row.who, row.number);
-                write!(f, "{who} is alive, number {number}")
+                write!(f, "{who} is alive, incarnation {number}")
             }
             Joined::Old(row) => {
                 let (who, number) = (row.who, row.number);
                 write!(
                     f,
-                    "{who} was known before, as alive, number {number}; whether it answered is not known"
+                    "{who} was known before, as alive, incarnation {number}; whether it answered is not known"
                 )
             }
         }

@@ -28,7 +28,7 @@ pub enum Subcommand<'a> {
         group: u64,
         /// The member's endpoint, not yet judged.
         me: &'a str,
-        /// The number above which the member begins.
+        /// The incarnation above which the member begins.
         ceiling: u64,
     },
     /// A member that runs, for which what it lacks is made.
@@ -177,7 +177,11 @@ fn number<'a>(alloc: Global, id: &'a str, help: &'a str) -> Arg<'a> {
 fn init_command<'a>(alloc: Global) -> Result<Command<'a>, Error> {
     let group = number(alloc, "group", "The number of the group").required(true);
     let me = word(alloc, "me", "A", "The member's endpoint, as 10.0.0.1:7000").long("me");
-    let ceiling = number(alloc, "ceiling", "The number above which the member begins");
+    let ceiling = number(
+        alloc,
+        "ceiling",
+        "The incarnation above which the member begins",
+    );
     let command = Command::new(alloc, "init")
         .about("Makes a state file")
         .after_help(examples::INIT);

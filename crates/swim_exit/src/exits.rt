@@ -102,9 +102,9 @@ pub enum Exit {
     Script(ScriptFault),
 }
 
-/// What else to say where a part may be there that a cut off `swim init` left.
+/// What else to say where a file may be what an interrupted `swim init` left.
 const MAYBE_PART: &str =
-    "if a member has run on this file, keep it, and see \"A lost state file\" in OPERATIONS.md. If none has, it is the part that a cut off `swim init` or `swim up` left: no number was sent then, so delete it and begin again";
+    "if a member has run on this file, keep it, and see \"A lost state file\" in OPERATIONS.md. If none has, it is what an interrupted `swim init` or `swim up` left: no incarnation was sent then, so delete it and begin again";
 
 /// What else to say where the owner of a state file is another.
 const OTHER_OWNER: &str =

@@ -128,12 +128,12 @@ fn write_life<W: Log>(rt: &W, said: u64, own: u64, status: &Status) {
     } else {
         "it keeps its own"
     };
-    error!(rt; "the group knows this member by number {said}, above its own {own}, and {outcome}: the state file is older than a life of this member, or a second member has its address, or the datagram is forged; see \"Backups and copies\" in OPERATIONS.md");
+    error!(rt; "the group knows this member by incarnation {said}, above its own {own}, and {outcome}: the state file is older than a life of this member, or a second member has its address, or the datagram is forged; see \"Backups and copies\" in OPERATIONS.md");
 }
 
 /// Logs that no number can be saved above this one.
 fn write_failure<W: Log>(rt: &W, number: u64) {
-    error!(rt; "the state file cannot be written: this member goes on with number {number}, and can refute no suspicion until it can be; look at the disk");
+    error!(rt; "the state file cannot be written: this member goes on with incarnation {number}, and can refute no suspicion until it can be; look at the disk");
 }
 
 impl NumberLog {

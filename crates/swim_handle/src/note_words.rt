@@ -39,9 +39,9 @@ fn told_of(note: Note) -> &'static str {
         Note::FromSelf =>
             "sent a datagram of this member: it is ignored; look for a second member with this address",
         Note::Leap =>
-            "told a number of this member far above its own: it is not taken; a new state file has too low a ceiling, or it is forged",
+            "told an incarnation of this member far above its own: it is not taken; a new state file has too low a ceiling, or it is forged",
         Note::NoNumberLeft =>
-            "told the greatest number of this member: it is not taken; it is forged, so keep strangers off the network",
+            "told the greatest incarnation of this member: it is not taken; it is forged, so keep strangers off the network",
         Note::TableFull =>
             "told of a member that gets no row, since 256 are known: look for addresses that no member has",
         Note::Misdirected =>
@@ -53,7 +53,7 @@ fn told_of(note: Note) -> &'static str {
         Note::Unasked =>
             "answered what is not waited for any more: harmless; if it comes often, `direct` or `period` is too short",
         Note::SaveFailed =>
-            "told what only a greater number overrides, and none could be saved: look at the disk at once",
+            "told what only a greater incarnation overrides, and none could be saved: look at the disk at once",
         Note::Expelled =>
             "told that this member failed: it takes no part any more; see OPERATIONS.md, \"A member that is expelled\"",
         Note::Stopped => "sent a datagram, and this member takes no part any more: harmless",

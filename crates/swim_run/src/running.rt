@@ -86,7 +86,7 @@ fn tell_up<T: Log>(logged: &T, level: &LogLevel, told: &RunSettings, number: u64
         ..
     } = settings;
     level.set(Some(LevelFilter::Info));
-    info!(logged; "up: {me} of group {group}, number {number}, rules {rules}; control {control}; joined nobody yet");
+    info!(logged; "up: {me} of group {group}, incarnation {number}, rules {rules}; control {control}; joined nobody yet");
     log_from(level, told.log);
 }
 

@@ -210,7 +210,7 @@ fn tell_made(rt: &HostRuntime, settings: &str, state: &str, beginning: &Beginnin
     };
     let number = ceiling.saturating_add(1);
     let _ = eprintln!(rt;
-        "made {settings} and {state}: this member of group {group} begins at number {number}. If it has run in another folder before, stop it, and give that one by --dir"
+        "made {settings} and {state}: this member of group {group} begins at incarnation {number}. If it has run in another folder before, stop it, and give that one by --dir"
     );
     let _ = eprintln!(rt;
         "another member joins by: swim up --me ITS_ADDRESS:PORT --join {me} --group {group}"
@@ -222,7 +222,7 @@ fn tell_asked(rt: &HostRuntime, at: &str, asked: Asked) {
     let Asked { group, number } = asked;
     let _ = match number {
         Some(number) => eprintln!(rt;
-            "{at} is of group {group}, and holds this member by number {number}"
+            "{at} is of group {group}, and holds this member by incarnation {number}"
         ),
         None => eprintln!(rt; "{at} is of group {group}, and knows nothing of this member"),
     };

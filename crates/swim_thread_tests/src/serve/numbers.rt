@@ -30,19 +30,19 @@ fn called(said: u64, note: Option<Note>, number: u64, logged: Option<&'static st
 }
 
 const KEEPS_1: &str =
-    "ERROR swim_handle::call_log] the group knows this member by number 4, above its own 1, and it keeps its own: the state file is older than a life of this member, or a second member has its address, or the datagram is forged; see \"Backups and copies\" in OPERATIONS.md";
+    "ERROR swim_handle::call_log] the group knows this member by incarnation 4, above its own 1, and it keeps its own: the state file is older than a life of this member, or a second member has its address, or the datagram is forged; see \"Backups and copies\" in OPERATIONS.md";
 
 const RAISED_TO_6: &str =
-    "by number 5, above its own 1, and it goes on with a greater one: the state file is older than a life of this member, or a second member has its address, or the datagram is forged; see \"Backups and copies\" in OPERATIONS.md";
+    "by incarnation 5, above its own 1, and it goes on with a greater one: the state file is older than a life of this member, or a second member has its address, or the datagram is forged; see \"Backups and copies\" in OPERATIONS.md";
 
 const EXPELLED: &str =
-    "by number 9, above its own 6, and it takes no part any more: the state file is older than a life of this member, or a second member has its address, or the datagram is forged; see \"Backups and copies\" in OPERATIONS.md";
+    "by incarnation 9, above its own 6, and it takes no part any more: the state file is older than a life of this member, or a second member has its address, or the datagram is forged; see \"Backups and copies\" in OPERATIONS.md";
 
 const FAILING_6: &str =
-    "ERROR swim_handle::call_log] the state file cannot be written: this member goes on with number 6, and can refute no suspicion until it can be; look at the disk";
+    "ERROR swim_handle::call_log] the state file cannot be written: this member goes on with incarnation 6, and can refute no suspicion until it can be; look at the disk";
 
 const FAILING_7: &str =
-    "this member goes on with number 7, and can refute no suspicion until it can be; look at the disk";
+    "this member goes on with incarnation 7, and can refute no suspicion until it can be; look at the disk";
 
 /// The calls of one life that begins with number 1. A number of another life is told once, and not where its datagram was
 /// not taken. A failed save is told once until a number is taken again.
