@@ -3,6 +3,7 @@
 
 mod board;
 mod call_log;
+mod change_log;
 mod crew;
 mod handle;
 mod identity;
@@ -10,9 +11,11 @@ mod note_log;
 mod note_words;
 mod pace;
 mod parts;
+mod quota;
 
 pub use board::{CounterRow, SharedCounters};
 pub use call_log::{CallLog, NumberLog};
+pub use change_log::{CHANGES_MAX, ChangeLog};
 pub use crew::Crew;
 pub use handle::{Handle, StatusCaller};
 pub use identity::Identity;

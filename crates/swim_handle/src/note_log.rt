@@ -3,6 +3,7 @@
 ghost use Rattle.std.specs.Prelude.{◌≡◌, ◌<◌, ◌+◌, ◌↔◌, min, IsTrue, false};
 
 use crate::note_words::{NoteLine, note_level};
+use crate::quota::{Quota, minute_of};
 use log::{Log, log};
 use std::time::Clock;
 use swim_member::Note;
@@ -13,43 +14,39 @@ use swim_wire::{Endpoint, Rules};
 /// The most notes of one kind that a worker logs in one minute.
 pub const LOGGED_MAX: u8 = 5;
 
-/// The seconds of a minute.
-const MINUTE_SECONDS: u64 = 60;
-
 /// What became of the notes of one kind in the minute that goes on.
 #[derive(Clone, Copy, Debug, PartialEq, Eq)]
 struct Kind {
     /// The last one that was left out.
     note: Note,
-    logged: u8,
-    left_out: u32,
+    quota: Quota,
 }
 
 impl Kind {
     /// Whether one more note of the kind is written in this minute. One that is not is counted.
     fn takes(&mut self, note: Note) -> bool
-        ensures yes { IsTrue result ↔ (self.old.logged < LOGGED_MAX) }
-        ensures written { IsTrue result
-            → self.new ≡ record self.old { logged = self.old.logged + 1 } }
-        ensures left_out { result ≡ false → self.new ≡ record self.old {
+        ensures yes { IsTrue result ↔ (self.old.quota.written < LOGGED_MAX) }
+        ensures written { IsTrue result → self.new ≡ record self.old {
+          quota = record self.old.quota { written = self.old.quota.written + 1 };
+        } }
+        ensures left_out { result ≡ false → self.new ≡ record {
           note = note;
-          left_out = min (self.old.left_out + 1) u32.MAX;
+          quota = record self.old.quota {
+            left_out = min (self.old.quota.left_out + 1) u32.MAX;
+          };
         } }
     {
-        if self.logged < LOGGED_MAX {
-            self.logged += 1;
-            return true;
+        let takes = self.quota.takes(u32::from(LOGGED_MAX));
+        if !takes {
+            self.note = note;
         }
-        self.note = note;
-        self.left_out = self.left_out.saturating_add(1);
-        false
+        takes
     }
 }
 
 const NOTHING: Kind = Kind {
     note: Note::Stopped,
-    logged: 0,
-    left_out: 0,
+    quota: Quota::WHOLE,
 };
 
 /// Which notes were logged in the minute that goes on, and how many were not. A member that takes no part any more notes so at
@@ -79,9 +76,9 @@ impl NoteLog {
     /// Says how many notes of each kind were left out, and begins another minute.
     fn begin<W: Log>(&mut self, rt: &W, minute: u64) {
         for kind in self.kinds {
-            if kind.left_out > 0 {
+            let count = kind.quota.left_out();
+            if count > 0 {
                 let note = kind.note;
-                let count = kind.left_out;
                 log!(rt; note_level(note), "{count} more of this kind in the same minute (note {note})");
             }
         }
@@ -115,7 +112,7 @@ impl NoteLog {
             return;
         }
         if let Ok(now) = rt.monotonic() {
-            let minute = now.as_secs() / MINUTE_SECONDS;
+            let minute = minute_of(now);
             if minute != self.minute {
                 self.begin(rt, minute);
             }

@@ -17,7 +17,7 @@ use log::Log;
 use std::alloc::{AllocError, Global};
 use std::marker::Model;
 use std::time::Clock;
-use swim_handle::Identity;
+use swim_handle::{ChangeLog, Identity};
 use swim_join::{Intervals, Joiner, LIST_MAX};
 use swim_shell::{AnswerText, ControlEnd, Conversation, Doors, Observer, Refusal, Worker};
 use swim_wire::Endpoint;
@@ -28,7 +28,8 @@ use swim_wire::Endpoint;
 /// Connections that are open at the end of an era stay so, and go on in the next one.
 #[derive(Drop)]
 pub struct Desk<W: Log + Clock + Drop, O: Doors + Chores + Drop> {
-    rt: W,
+    /// To which the joiner logs what changes of members.
+    log: ChangeLog<W>,
     /// Who the member is.
     identity: Identity,
     joiner: Joiner,
@@ -98,7 +99,7 @@ impl<W: Log + Clock + Drop, O: Doors + Chores + Drop> Desk<W, O> {
     {
         let others = ConnectionQueue::new(alloc)?;
         Ok(Desk {
-            rt,
+            log: ChangeLog::new(rt),
             identity,
             joiner,
             doors,
@@ -238,7 +239,8 @@ impl<W: Log + Clock + Drop, O: Doors + Chores + Drop> Desk<W, O> {
         ensures silent { OnOk result (self.new.conversation ≡ None
             → length self.old.others ≤ self.old.silent) }
     {
-        self.joiner.turn(&self.rt, caller)?;
+        self.log.tell_left_out();
+        self.joiner.turn(&self.log, caller)?;
         if self.others.len() < OPEN_MAX {
             if let Some((reader, writer)) = self.doors.next() {
                 self.silent = 0;

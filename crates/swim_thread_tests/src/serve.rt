@@ -1,5 +1,6 @@
 //! Callers and workers in threads, and what is logged.
 
+mod changes;
 mod fakes;
 mod notes;
 mod numbers;
