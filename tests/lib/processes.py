@@ -151,6 +151,11 @@ HINTS = (
 
 # And those after `file refused` where the system says more.
 LOCKED = "this member runs already, and `swim status ADDR` asks it at its `control`; or another process has its state file. Nothing is lost: make no new one"
+NO_LOCKS = (
+    "its file system gives no lock (flock), and without one a second process could write the file: ENOLCK comes of NFS without its lock service,"
+    " ENOSYS and EOPNOTSUPP of a file system that has none. Move the file to a local disk (`findmnt -T FILE`), while no member runs on it;"
+    " nothing was written"
+)
 OUTPUT = "standard output was not taken whole: look whether its disk is full (`df`), and whether it was closed (`>&-`)"
 READ_ONLY = (
     "its file system takes no writes (EROFS): it was mounted so, or the system made it so after its disk had failed. Look at"

@@ -1,7 +1,7 @@
 //! Why the program ends before it is done, with the text on standard error and the exit status.
 
 ghost use Rattle.std.specs.Prelude.{◌≡◌};
-ghost use Rattle.swim_exit.specs.Exit.{refused_by};
+ghost use Rattle.swim_exit.specs.Exit.{has_no_locks, refused_by};
 
 use std::io::{self, ErrorKind};
 use std::process::ExitCode;
@@ -28,6 +28,15 @@ const UNREAD: u8 = 141;
 /// The system's number of a disk that fails, EIO.
 const INPUT_OUTPUT: i32 = 5;
 
+/// The system's number where there is no lock to be had, as on NFS without its lock service, ENOLCK.
+const NO_LOCK: i32 = 37;
+
+/// The system's number of a call that it does not have, ENOSYS.
+const NOT_IMPLEMENTED: i32 = 38;
+
+/// The system's number of what a file system does not do, EOPNOTSUPP.
+const NOT_SUPPORTED: i32 = 95;
+
 /// Why the program ends. Each prints its one line, after `swim: `, and some have a hint for a second one.
 #[derive(Debug, Drop, Error)]
 pub enum Exit {
@@ -49,6 +58,9 @@ pub enum Exit {
     /// The same, since another process has the lock of it.
     #[error("file refused")]
     Locked,
+    /// The same, since its file system gives no lock.
+    #[error("file refused")]
+    NoLocks,
     /// What is to be read is a pipe, a device or a socket.
     #[error("file refused: it is a pipe, a device or a socket, and no file")]
     NotFile,
@@ -122,6 +134,10 @@ const FILE: &str =
 const LOCKED: &str =
     "this member runs already, and `swim status ADDR` asks it at its `control`; or another process has its state file. Nothing is lost: make no new one";
 
+/// What else to say where a file system gives no lock.
+const NO_LOCKS: &str =
+    "its file system gives no lock (flock), and without one a second process could write the file: ENOLCK comes of NFS without its lock service, ENOSYS and EOPNOTSUPP of a file system that has none. Move the file to a local disk (`findmnt -T FILE`), while no member runs on it; nothing was written";
+
 /// What else to say where a file system takes no writes.
 const READ_ONLY: &str =
     "its file system takes no writes (EROFS): it was mounted so, or the system made it so after its disk had failed. Look at `findmnt -T FILE` and `dmesg`; leave the file where it is, and start again once its file system can be written";
@@ -149,6 +165,16 @@ const ADDRESS: &str =
 /// What else to say where a host was refused.
 const HOST: &str =
     "the system knows no IPv4 address of this host, or did not say within 5 seconds: `getent ahostsv4 NAME` asks it the same";
+
+/// Whether an error of this number says that the file system gives no lock.
+fn has_no_locks(code: Option<i32>) -> bool
+    ensures { result ≡ has_no_locks code }
+{
+    match code {
+        Some(code) => code == NO_LOCK || code == NOT_IMPLEMENTED || code == NOT_SUPPORTED,
+        None => false,
+    }
+}
 
 /// The exit where a file is refused with an error of this number, which may be the disk's.
 fn refused_by(code: Option<i32>) -> Exit
@@ -183,7 +209,7 @@ impl Exit {
     ghost use Rattle.std.specs.Prelude.{◌≡◌, ◌↔◌, IsTrue};
     ghost use Rattle.std.specs.IoError.{error_kind, raw_os_error};
     ghost use Rattle.std.specs.Process.{exit_status};
-    ghost use Rattle.swim_exit.specs.Exit.{ending_by, ending_of_output, ending_status};
+    ghost use Rattle.swim_exit.specs.Exit.{ending_by, ending_of_output, ending_of_state_file, ending_status};
 
     /// What else there is to say, on a line of its own.
     pub fn hint(&self) -> Option<&'static str> {
@@ -196,6 +222,7 @@ impl Exit {
             Exit::Settings(_) => Some(SETTINGS),
             Exit::File => Some(FILE),
             Exit::Locked => Some(LOCKED),
+            Exit::NoLocks => Some(NO_LOCKS),
             Exit::ReadOnly => Some(READ_ONLY),
             Exit::Device => Some(DEVICE),
             Exit::Output => Some(OUTPUT),
@@ -219,6 +246,18 @@ impl Exit {
             (ErrorKind::ReadOnlyFilesystem, Exit::File) => Exit::ReadOnly,
             (_, Exit::File) => refused_by(error.raw_os_error()),
             (_, otherwise) => otherwise,
+        }
+    }
+
+    /// The exit by an error of opening or locking a state file. Another process has its lock where the error is `ResourceBusy` and has
+    /// no number of the system's.
+    pub fn of_state_file(error: &io::Error) -> Exit
+        ensures { result ≡ ending_of_state_file (error_kind error.now) (raw_os_error error.now) }
+    {
+        match (error.kind(), error.raw_os_error()) {
+            (ErrorKind::ResourceBusy, None) => Exit::Locked,
+            (_, code) if has_no_locks(code) => Exit::NoLocks,
+            _ => Exit::of(error, Exit::File),
         }
     }
 

@@ -4,7 +4,7 @@ use crate::exits::Exit;
 use crate::mistake::mistake_in;
 use std::alloc::Global;
 use std::fmt::{self, Display, Formatter};
-use std::io::{self, ErrorKind};
+use std::io;
 use swim_input::InputFault;
 use swim_settings::SettingsRefusal;
 use swim_words::read_host;
@@ -30,6 +30,8 @@ fn wrong_with(word: &str) -> &'static str {
 
 impl Failure {
     ghost use Rattle.std.specs.Prelude.{◌≡◌, ◌≢◌, IfSome, string_bytes, option_map};
+    ghost use Rattle.std.specs.IoError.{error_kind, raw_os_error};
+    ghost use Rattle.swim_exit.specs.Exit.{ending_of_state_file};
     ghost use Rattle.swim_settings.specs.declared.refusal.SettingsRefusal.TheVariants as refusals;
 
     /// This exit, about what prints so. Without memory for that it is not told.
@@ -73,13 +75,22 @@ impl Failure {
         }
     }
 
-    /// The exit where the system does not open a state file, or another process has the lock of it.
-    pub fn of_state_file(alloc: Global, path: &str, error: &io::Error) -> Failure {
-        if error.kind() == ErrorKind::ResourceBusy {
-            let about = format_args!("state file {path}: locked by another process");
-            return Failure::about(alloc, Exit::Locked, about);
+    /// The exit where the system does not open or lock a state file, or another process has the lock of it.
+    pub fn of_state_file(alloc: Global, path: &str, error: &io::Error) -> Failure
+        ensures { result.exit
+            ≡ ending_of_state_file (error_kind error.now) (raw_os_error error.now) }
+    {
+        match Exit::of_state_file(error) {
+            Exit::Locked => {
+                let about = format_args!("state file {path}: locked by another process");
+                Failure::about(alloc, Exit::Locked, about)
+            }
+            Exit::NoLocks => {
+                let about = format_args!("state file {path} cannot be locked: {error}");
+                Failure::about(alloc, Exit::NoLocks, about)
+            }
+            exit => Failure::about(alloc, exit, format_args!("state file {path}: {error}")),
         }
-        Failure::of_file(alloc, "state file", path, error)
     }
 
     /// The exit where a word, which is the one that it is called, is not the address that it has to be, with what is wrong with it.

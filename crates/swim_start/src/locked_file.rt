@@ -3,7 +3,7 @@
 //!
 //! A [`LockedFile`] is made nowhere else, so that whoever has one has locked it.
 
-use std::fs::{File, OpenOptions};
+use std::fs::{File, OpenOptions, TryLockError};
 use std::io::{self, ErrorKind};
 use std::os::unix::fs::OpenOptionsExt;
 use std::path::Path;
@@ -19,11 +19,13 @@ pub struct LockedFile {
 }
 
 impl LockedFile {
-    /// Locks a file. An error says that another process has the lock.
+    /// Locks a file. Where another process has the lock, the error is `ResourceBusy` and has no number; each other one is the
+    /// system's.
     fn lock(file: File) -> io::Result<LockedFile> {
         match file.try_lock() {
             Ok(()) => Ok(LockedFile { file }),
-            Err(_) => Err(ErrorKind::ResourceBusy.into()),
+            Err(TryLockError::WouldBlock) => Err(ErrorKind::ResourceBusy.into()),
+            Err(TryLockError::Error(error)) => Err(error),
         }
     }
 
@@ -46,7 +48,7 @@ fn open_file<R: Files<File = File>>(rt: &R, path: &str, make: bool) -> io::Resul
 }
 
 /// Opens a file for reading and writing, and locks it for this process until it is closed. Where `make`, it is made if
-/// it is not there. An error is the system's; where another process has the lock, it is `ResourceBusy`.
+/// it is not there. An error is the system's; where another process has the lock, it is `ResourceBusy` and has no number.
 pub fn open_locked<R: Files<File = File>>(
     rt: &R,
     path: &str,
