@@ -113,6 +113,19 @@ HINTS = (
         r"open refused 3 WrongOwner",
         "`group` or `me` is not the one that the file was made with: `swim show FILE` prints what it was made with",
     ),
+    (
+        r"init refused 2 Device",
+        "a write or a sync failed: look at the room of its disk (`df`) and at `dmesg`. No number was used: make room, and begin again",
+    ),
+    (
+        r"open refused 1 Device",
+        "a read, a write or a sync of it failed: look at the room of its disk (`df`) and at `dmesg`, leave the file as it is, and start again",
+    ),
+    (
+        r"open refused 5 Damaged",
+        "something else wrote to it, or its disk lost what it had synced: `swim show FILE` says which bytes are wrong. Do not repair it, and see"
+        ' "A lost state file" in OPERATIONS.md',
+    ),
     (r"settings refused .+", "SETTINGS.md says what each key takes; `swim run --show-settings FILE` tries a file and starts nothing"),
     (
         r"file refused",
@@ -121,8 +134,8 @@ HINTS = (
     ),
     (
         r"socket refused",
-        "to run, the addresses have to be this machine's and free (`ss -lntup`), and each member of a machine needs a `control` of its own"
-        " (127.0.0.1:7001, if `--control` says no other); to ask, a member has to run with this address as its `control`",
+        "the addresses have to be this machine's and free (`ss -lntup`), and each member of a machine needs a `control` of its own"
+        " (127.0.0.1:7001, if `--control` says no other)",
     ),
     (
         r"address refused",
@@ -164,6 +177,10 @@ READ_ONLY = (
 DEVICE = (
     "its disk fails (EIO): look at `dmesg`. Leave a state file where it is, and put no copy in its place: see \"The disk\" in OPERATIONS.md"
 )
+
+# And after `socket refused` where a member is asked.
+UNREACHED = "a member has to run with this address as its `control`: look whether it runs, and where it listens (`ss -lntp`)"
+SILENT = "the member stands still or hangs (`ps`; SIGCONT wakes one that was stopped), or others hold all of its control connections (`ss -tnp`)"
 
 
 def refused(text, hint=None):

@@ -279,7 +279,14 @@ fn join_peer<T: Threads>(
     let answer = joining.send(rt)?;
     print_bytes(rt, answer.as_slice())?;
     if answer.as_slice() != SENT {
-        return Ok(ExitCode::FAILURE);
+        let own = "itself is what it was told to join: name another member";
+        let why = if answer.as_slice() == SELF {
+            own
+        } else {
+            "it did not take the line `join`"
+        };
+        let about = format_args!("{to} (control): {why}");
+        return Err(Failure::about(rt.alloc(), Exit::Answer, about));
     }
     print_line(rt, joining.wait(rt)?)?;
     Ok(ExitCode::SUCCESS)
@@ -287,6 +294,9 @@ fn join_peer<T: Threads>(
 
 /// What a member answers that has sent a join.
 const SENT: &[u8] = b"ok sent\n";
+
+/// What a member answers that was told to join itself.
+const SELF: &[u8] = b"error 7 self\n";
 
 /// Prints what a state file says. The status says whether an opening would begin a life.
 fn show_file(rt: &HostRuntime, path: &str, as_json: bool) -> Result<ExitCode, Failure> {
@@ -309,12 +319,20 @@ struct ToldTales {
     are_all: bool,
 }
 
-/// Names a file or a folder that tells nothing on standard error. An error is that there is no memory.
+/// Names a file or a folder that tells nothing on standard error; why it is not read is asked once more. An error is that there is no
+/// memory.
 fn name_refused(rt: &HostRuntime, path: &str, fault: ExplainFault) -> Result<(), Failure> {
     if fault == ExplainFault::Memory {
         return Err(Failure::from(Exit::Memory));
     }
-    let _ = eprintln!(rt; "swim: {path}: {fault}");
+    let refused = match fault {
+        ExplainFault::File => open_file(rt, path).err(),
+        _ => None,
+    };
+    let _ = match refused {
+        Some(InputFault::System(error)) => eprintln!(rt; "swim: {path}: {fault}: {error}"),
+        _ => eprintln!(rt; "swim: {path}: {fault}"),
+    };
     Ok(())
 }
 
@@ -503,6 +521,33 @@ fn answer<T: Threads + Wait + Log + Clock + Send + Sync + Copy + Drop>(
                 to: to.unwrap_or(usual.as_str()),
                 line: "leave",
                 as_json: false,
+                at_once: false,
+            };
+            ask_member(rt, logged, &question)
+        }
+        Subcommand::Reload { to } => {
+            let question = Question {
+                to: to.unwrap_or(usual.as_str()),
+                line: "reload",
+                as_json: false,
+                at_once: false,
+            };
+            ask_member(rt, logged, &question)
+        }
+        Subcommand::Record { to } => {
+            let question = Question {
+                to: to.unwrap_or(usual.as_str()),
+                line: "record",
+                as_json: false,
+                at_once: false,
+            };
+            ask_member(rt, logged, &question)
+        }
+        Subcommand::Counters { to, as_json } => {
+            let question = Question {
+                to: to.unwrap_or(usual.as_str()),
+                line: "counters",
+                as_json,
                 at_once: false,
             };
             ask_member(rt, logged, &question)

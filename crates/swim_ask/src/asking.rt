@@ -1,6 +1,7 @@
 //! `swim ctl`.
 
-ghost use Rattle.std.specs.Prelude.{◌≡◌, ◌+◌, ◌↔◌, ℕ, min, IfNone, IfOk, IfSome, IsOk, IsTrue};
+ghost use Rattle.std.specs.Prelude.{◌≡◌, ◌+◌, ◌⊎◌, ◌↔◌, ℕ, min, IfNone, IfOk, IfSome, IsOk, IsTrue};
+ghost use Rattle.std.specs.declared.io.ErrorKind.TheVariants as kinds;
 ghost use Rattle.swim_words.specs.Words.{Lacks};
 ghost use Rattle.swim_ask.specs.Whole.{AsksLines, Follow, IsWhole, ends};
 
@@ -123,9 +124,24 @@ fn talk<R: Net<Stream = TcpStream> + Clock + AllocGlobal>(
     Ok(answer)
 }
 
-/// The exit where the control socket of a member does not answer.
+/// Whether what ended an exchange is its time limit. Where that is the limit of a read or of a write, the system says that it would
+/// have to wait.
+fn is_late(kind: ErrorKind) -> bool
+    ensures { IsTrue result ↔ ((kind ≡ kinds.WouldBlock) ⊎ (kind ≡ kinds.TimedOut)) }
+{
+    matches!(kind, ErrorKind::WouldBlock | ErrorKind::TimedOut)
+}
+
+/// The exit where the control socket of a member does not answer. A member that was only late may still read the line.
 fn unanswered(alloc: Global, to: Endpoint, error: &io::Error) -> Failure {
-    let exit = Exit::of(error, Exit::Socket);
+    if is_late(error.kind()) {
+        let seconds = LIMIT_MILLIS / 1000;
+        let about = format_args!(
+            "TCP {to} (control): no answer in {seconds} s; the line may still be carried out"
+        );
+        return Failure::about(alloc, Exit::Silent, about);
+    }
+    let exit = Exit::of(error, Exit::Unreached);
     Failure::about(alloc, exit, format_args!("TCP {to} (control): {error}"))
 }
 
@@ -134,7 +150,7 @@ pub(crate) fn now<R: Clock + AllocGlobal>(rt: &R) -> Result<Instant, Failure> {
     match Instant::now(rt) {
         Ok(now) => Ok(now),
         Err(error) => {
-            let exit = Exit::of(&error, Exit::Socket);
+            let exit = Exit::of(&error, Exit::Unreached);
             Err(Failure::about(rt.alloc(), exit, format_args!("clock: {error}")))
         }
     }

@@ -125,7 +125,10 @@ fn rows_at<R: Net<Stream = TcpStream> + Clock + AllocGlobal>(
 
 /// Whether a failure says that a member does not answer, or not so.
 fn is_silence(failure: &Failure) -> bool {
-    matches!(failure.exit(), Exit::Host | Exit::Socket | Exit::Answer)
+    matches!(
+        failure.exit(),
+        Exit::Host | Exit::Unreached | Exit::Silent | Exit::Answer
+    )
 }
 
 impl Watched<'_> {

@@ -68,6 +68,23 @@ pub enum Subcommand<'a> {
         /// The control socket, if it is named, not yet judged.
         to: Option<&'a str>,
     },
+    /// A member reads its settings again.
+    Reload {
+        /// The control socket, if it is named, not yet judged.
+        to: Option<&'a str>,
+    },
+    /// A member ends the present era, so that it is recorded.
+    Record {
+        /// The control socket, if it is named, not yet judged.
+        to: Option<&'a str>,
+    },
+    /// What a member has counted since it began.
+    Counters {
+        /// The control socket, if it is named, not yet judged.
+        to: Option<&'a str>,
+        /// Whether as JSON.
+        as_json: bool,
+    },
     /// A member stops.
     Stop {
         /// The control socket, if it is named, not yet judged.
@@ -289,6 +306,31 @@ fn leave_command<'a>(alloc: Global) -> Result<Command<'a>, Error> {
     with_arg(Ok(command), address(alloc))
 }
 
+/// `swim reload [ADDR]`.
+fn reload_command<'a>(alloc: Global) -> Result<Command<'a>, Error> {
+    let command = Command::new(alloc, "reload")
+        .about("Has a member read its settings again, and prints which keys need a restart")
+        .after_help(examples::RELOAD);
+    with_arg(Ok(command), address(alloc))
+}
+
+/// `swim record [ADDR]`.
+fn record_command<'a>(alloc: Global) -> Result<Command<'a>, Error> {
+    let command = Command::new(alloc, "record")
+        .about("Has a member end the present era, so that its recording is written now")
+        .after_help(examples::RECORD);
+    with_arg(Ok(command), address(alloc))
+}
+
+/// `swim counters [ADDR] [--json]`.
+fn counters_command<'a>(alloc: Global) -> Result<Command<'a>, Error> {
+    let command = Command::new(alloc, "counters")
+        .about("Prints what a member has counted since it began")
+        .after_help(examples::COUNTERS);
+    let command = with_arg(Ok(command), address(alloc));
+    with_arg(command, json(alloc))
+}
+
 /// `swim stop [ADDR] [--now]`.
 fn stop_command<'a>(alloc: Global) -> Result<Command<'a>, Error> {
     let command = Command::new(alloc, "stop")
@@ -503,8 +545,11 @@ fn command<'a>(alloc: Global) -> Result<Command<'a>, Error> {
     let command = with_subcommand(command, run_command(alloc));
     let command = with_subcommand(command, join_command(alloc));
     let command = with_subcommand(command, leave_command(alloc));
+    let command = with_subcommand(command, reload_command(alloc));
+    let command = with_subcommand(command, record_command(alloc));
     let command = with_subcommand(command, stop_command(alloc));
     let command = with_subcommand(command, status_command(alloc));
+    let command = with_subcommand(command, counters_command(alloc));
     let command = with_subcommand(command, ctl_command(alloc));
     let command = with_subcommand(command, members_command(alloc));
     let command = with_subcommand(command, watch_command(alloc));
@@ -644,6 +689,16 @@ fn chosen<'a>(matches: &ArgMatches<'a>, all: &'a [String]) -> Option<Subcommand<
         }),
         "leave" => Some(Subcommand::Leave {
             to: words.get_str("addr"),
+        }),
+        "reload" => Some(Subcommand::Reload {
+            to: words.get_str("addr"),
+        }),
+        "record" => Some(Subcommand::Record {
+            to: words.get_str("addr"),
+        }),
+        "counters" => Some(Subcommand::Counters {
+            to: words.get_str("addr"),
+            as_json: words.get_flag("json"),
         }),
         "stop" => Some(Subcommand::Stop {
             to: words.get_str("addr"),

@@ -11,6 +11,8 @@ Run:
   run       Runs a member until it is stopped
   join      Has a member join another one, and waits up to 3 seconds for it
   leave     Has a member leave its group, which goes on answering until it is stopped
+  reload    Has a member read its settings again, and prints which keys need a restart
+  record    Has a member end the present era, so that its recording is written now
   stop      Stops a member, and waits until it has ended
 
 Look:
@@ -18,6 +20,7 @@ Look:
   members   Prints all members that a member knows
   watch     Prints what changes of the members, a line a change, until it is stopped or nobody reads it
   web       Serves what a member says over HTTP: a page, metrics, all rows and its health
+  counters  Prints what a member has counted since it began
   ctl       Sends a control line and prints the answer
 
 Explain:
@@ -74,6 +77,20 @@ pub(crate) const JOIN: &str = "Examples:
 /// Examples of `swim leave`.
 pub(crate) const LEAVE: &str = "Examples:
   swim leave  the others hold it for failed at once; then stop it";
+
+/// Examples of `swim reload`.
+pub(crate) const RELOAD: &str = "Examples:
+  swim reload                 takes the keys that need no restart
+  swim reload 127.0.0.1:7001  the same of the member with this control socket";
+
+/// Examples of `swim record`.
+pub(crate) const RECORD: &str = "Examples:
+  swim record  then `swim explain` tells the story up to now";
+
+/// Examples of `swim counters`.
+pub(crate) const COUNTERS: &str = "Examples:
+  swim counters         what the member has done since it began
+  swim counters --json  the same as an object";
 
 /// Examples of `swim stop`.
 pub(crate) const STOP: &str = "Examples:

@@ -13,9 +13,23 @@ use swim_state::{InitFault, Owner, init};
 use swim_wire::NUMBER_MAX;
 use swim_words::read_endpoint;
 
-/// The exit where a new state file is not written.
-fn unwritten(alloc: Global, file: &str, fault: InitFault) -> Failure {
-    Failure::about(alloc, Exit::Init(fault), format_args!("state file {file}"))
+/// The exit where a state file is not written. Of a new one, which has this name until it is whole, it has what the system says of another
+/// write, if its disk still refuses that.
+fn unwritten<R: Files<File = File> + AllocGlobal>(
+    rt: &R,
+    path: &str,
+    new: Option<&NewFile<'_>>,
+    fault: InitFault,
+) -> Failure {
+    let (alloc, exit) = (rt.alloc(), Exit::Init(fault));
+    let asked = match new {
+        Some(new) if fault == InitFault::Device => new.ask_anew(rt),
+        _ => Ok(()),
+    };
+    match asked {
+        Ok(()) => Failure::about(alloc, exit, format_args!("state file {path}")),
+        Err(error) => Failure::about(alloc, exit, format_args!("state file {path}: {error}")),
+    }
 }
 
 /// Refuses a ceiling above all numbers.
@@ -38,22 +52,23 @@ struct Beginning {
 }
 
 /// Writes the state file at this path into an open file, which it gives as a disk: the file stays locked until that is let go.
-fn write_state(
-    alloc: Global,
+fn write_state<R: Files<File = File> + AllocGlobal>(
+    rt: &R,
     path: &str,
+    new: Option<&NewFile<'_>>,
     file: File,
     beginning: &Beginning,
 ) -> Result<FileDisk, Failure> {
-    let mut disk = match FileDisk::load(alloc, file) {
+    let mut disk = match FileDisk::load(rt.alloc(), file) {
         Ok(disk) => disk,
         Err(error) if error.kind() == ErrorKind::OutOfMemory => {
             return Err(Failure::from(Exit::Memory));
         }
-        Err(_) => return Err(unwritten(alloc, path, InitFault::Device)),
+        Err(_) => return Err(unwritten(rt, path, new, InitFault::Device)),
     };
     match init(&mut disk, beginning.owner, beginning.ceiling) {
         Ok(()) => Ok(disk),
-        Err(fault) => Err(unwritten(alloc, path, fault)),
+        Err(fault) => Err(unwritten(rt, path, new, fault)),
     }
 }
 
@@ -66,20 +81,21 @@ fn make_in_place<R: Files<File = File> + AllocGlobal>(
     let alloc = rt.alloc();
     let unopened = |error: io::Error| Failure::of_state_file(alloc, path, &error);
     let opened = open_locked(rt, path, false).map_err(&unopened)?;
-    let _locked = write_state(alloc, path, opened.into_file(), beginning)?;
+    let _locked = write_state(rt, path, None, opened.into_file(), beginning)?;
     sync_folder(rt, path).map_err(&unopened)
 }
 
 /// Writes the state file into a new file without a path, and locks it, so that nobody runs on it before its path is durable.
-fn fill<R: AllocGlobal>(
+fn fill<R: Files<File = File> + AllocGlobal>(
     rt: &R,
     path: &str,
+    new: &NewFile<'_>,
     file: File,
     beginning: &Beginning,
 ) -> Result<FileDisk, Failure> {
     let alloc = rt.alloc();
     file.lock().map_err(|error: io::Error| Failure::of_state_file(alloc, path, &error))?;
-    write_state(alloc, path, file, beginning)
+    write_state(rt, path, Some(new), file, beginning)
 }
 
 /// Makes the state file where none is: it is whole, and on the disk, before it has its path. What comes to be there meanwhile stays.
@@ -90,7 +106,7 @@ fn make_new<R: Files<File = File> + RandomSource + AllocGlobal>(
 ) -> Result<(), Failure> {
     let unmade = |error: io::Error| Failure::of_state_file(rt.alloc(), path, &error);
     let (new, file) = NewFile::begin(rt, path).map_err(&unmade)?;
-    let locked = match fill(rt, path, file, beginning) {
+    let locked = match fill(rt, path, &new, file, beginning) {
         Ok(disk) => disk,
         Err(failure) => {
             new.give_up(rt);

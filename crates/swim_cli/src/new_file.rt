@@ -1,7 +1,7 @@
 //! A file that is whole before it has its path. **What the system does can't be proved: these functions are to be read and believed.**
 
 use std::fs::{self, File, OpenOptions};
-use std::io::{self, ErrorKind};
+use std::io::{self, ErrorKind, Write};
 use std::os::unix::fs::OpenOptionsExt;
 use std::random::RandomSource;
 use std::rt::Files;
@@ -65,6 +65,15 @@ impl<'a> NewFile<'a> {
         self.give_up(rt);
         named?;
         sync_folder(rt, self.path)
+    }
+
+    /// What the system says now of a write to the file, which has its first name, where one has just failed: the disk does not say why it did.
+    pub fn ask_anew<R: Files<File = File>>(&self, rt: &R) -> io::Result<()> {
+        let mut opened = OpenOptions::new()
+            .append(true)
+            .open(rt, self.aside.as_str())?;
+        opened.write_all(&[0])?;
+        opened.sync_all()
     }
 
     /// Takes the first name away, and with it a file that has no other.

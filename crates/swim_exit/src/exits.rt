@@ -73,9 +73,15 @@ pub enum Exit {
     /// Nobody reads standard output any more.
     #[error("output unread")]
     Unread,
-    /// A socket was not bound or connected, or a connection ended before the whole answer.
+    /// A socket was not bound.
     #[error("socket refused")]
     Socket,
+    /// A member that was asked was not reached, or its connection ended before the whole answer.
+    #[error("socket refused")]
+    Unreached,
+    /// A member that was asked did not answer in time.
+    #[error("socket refused")]
+    Silent,
     /// No IPv4 address was found of a host.
     #[error("host refused")]
     Host,
@@ -118,6 +124,18 @@ pub enum Exit {
 const MAYBE_PART: &str =
     "if a member has run on this file, keep it, and see \"A lost state file\" in OPERATIONS.md. If none has, it is what an interrupted `swim init` or `swim up` left: no incarnation was sent then, so delete it and begin again";
 
+/// What else to say where a new state file was not written.
+const UNWRITTEN: &str =
+    "a write or a sync failed: look at the room of its disk (`df`) and at `dmesg`. No number was used: make room, and begin again";
+
+/// What else to say where a state file could not be read or written at the start.
+const UNOPENED: &str =
+    "a read, a write or a sync of it failed: look at the room of its disk (`df`) and at `dmesg`, leave the file as it is, and start again";
+
+/// What else to say where a state file is damaged.
+const DAMAGED: &str =
+    "something else wrote to it, or its disk lost what it had synced: `swim show FILE` says which bytes are wrong. Do not repair it, and see \"A lost state file\" in OPERATIONS.md";
+
 /// What else to say where the owner of a state file is another.
 const OTHER_OWNER: &str =
     "`group` or `me` is not the one that the file was made with: `swim show FILE` prints what it was made with";
@@ -150,9 +168,17 @@ const DEVICE: &str =
 const OUTPUT: &str =
     "standard output was not taken whole: look whether its disk is full (`df`), and whether it was closed (`>&-`)";
 
-/// What else to say where a socket was refused.
+/// What else to say where a socket of this process was refused.
 const SOCKET: &str =
-    "to run, the addresses have to be this machine's and free (`ss -lntup`), and each member of a machine needs a `control` of its own (127.0.0.1:7001, if `--control` says no other); to ask, a member has to run with this address as its `control`";
+    "the addresses have to be this machine's and free (`ss -lntup`), and each member of a machine needs a `control` of its own (127.0.0.1:7001, if `--control` says no other)";
+
+/// What else to say where a member was not reached.
+const UNREACHED: &str =
+    "a member has to run with this address as its `control`: look whether it runs, and where it listens (`ss -lntp`)";
+
+/// What else to say where a member did not answer in time.
+const SILENT: &str =
+    "the member stands still or hangs (`ps`; SIGCONT wakes one that was stopped), or others hold all of its control connections (`ss -tnp`)";
 
 /// What else to say where a member did not end.
 const NOT_ENDED: &str =
@@ -215,6 +241,9 @@ impl Exit {
     pub fn hint(&self) -> Option<&'static str> {
         match self {
             Exit::Init(InitFault::NotEmpty) => Some(MAYBE_PART),
+            Exit::Init(InitFault::Device) => Some(UNWRITTEN),
+            Exit::Open(OpenFault::Refused(RecoverFault::Device)) => Some(UNOPENED),
+            Exit::Open(OpenFault::Refused(RecoverFault::Damaged)) => Some(DAMAGED),
             Exit::Open(OpenFault::Refused(RecoverFault::NotState | RecoverFault::NoSlot)) => {
                 Some(MAYBE_PART)
             }
@@ -227,6 +256,8 @@ impl Exit {
             Exit::Device => Some(DEVICE),
             Exit::Output => Some(OUTPUT),
             Exit::Socket => Some(SOCKET),
+            Exit::Unreached => Some(UNREACHED),
+            Exit::Silent => Some(SILENT),
             Exit::Host => Some(HOST),
             Exit::NotEnded => Some(NOT_ENDED),
             Exit::Address => Some(ADDRESS),

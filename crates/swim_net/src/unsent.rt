@@ -1,7 +1,8 @@
 //! What the log says of datagrams that the system did not send: to whom and why, once in a minute.
 
+use crate::udp::address_of;
 use log::{Log, warn};
-use std::io;
+use std::io::{self, ErrorKind};
 use std::time::Clock;
 use swim_wire::Endpoint;
 
@@ -13,6 +14,11 @@ const WINDOW_SECONDS: u64 = 60;
 pub(crate) struct Unsent {
     /// The window of time, counted from the clock's beginning.
     window: Option<u64>,
+}
+
+/// Whether the system refused so to send from a socket on loopback to another machine.
+fn is_from_loopback(error: &io::Error, to: Endpoint) -> bool {
+    error.kind() == ErrorKind::InvalidInput && !address_of(to).ip().is_loopback()
 }
 
 impl Unsent {
@@ -34,6 +40,8 @@ impl Unsent {
         self.window = window;
         match said {
             Ok(length) => warn!(rt; "a datagram to {to} was cut to {length} bytes, and is lost"),
+            Err(error) if is_from_loopback(error, to) =>
+                warn!(rt; "no datagram was sent to {to}: {error}; `me` is on loopback (127.0.0.0/8), from where nothing leaves this machine: give `me` an address of this machine that the others reach (once a minute)"),
             Err(error) =>
                 warn!(rt; "no datagram was sent to {to}: {error}; look at its address and at the route to it (once a minute)"),
         }
