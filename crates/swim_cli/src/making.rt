@@ -118,7 +118,7 @@ fn make_new<R: Files<File = File> + RandomSource + AllocGlobal>(
     match named {
         Ok(()) => Ok(()),
         Err(error) if error.kind() == ErrorKind::AlreadyExists => {
-            Err(unwritten(rt.alloc(), path, InitFault::NotEmpty))
+            Err(unwritten(rt, path, None, InitFault::NotEmpty))
         }
         Err(error) => Err(unmade(error)),
     }
