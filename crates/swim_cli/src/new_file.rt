@@ -1,8 +1,8 @@
 //! A file that is whole before it has its path. **What the system does can't be proved: these functions are to be read and believed.**
 
 use std::fs::{self, File, OpenOptions};
-use std::io::{self, ErrorKind, Write};
-use std::os::unix::fs::OpenOptionsExt;
+use std::io::{self, ErrorKind};
+use std::os::unix::fs::{FileExt, OpenOptionsExt};
 use std::random::RandomSource;
 use std::rt::Files;
 use swim_start::sync_folder;
@@ -69,10 +69,10 @@ impl<'a> NewFile<'a> {
 
     /// What the system says now of a write to the file, which has its first name, where one has just failed: the disk does not say why it did.
     pub fn ask_anew<R: Files<File = File>>(&self, rt: &R) -> io::Result<()> {
-        let mut opened = OpenOptions::new()
-            .append(true)
+        let opened = OpenOptions::new()
+            .write(true)
             .open(rt, self.aside.as_str())?;
-        opened.write_all(&[0])?;
+        opened.write_all_at(&[0], 0)?;
         opened.sync_all()
     }
 
