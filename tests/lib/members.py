@@ -85,8 +85,13 @@ class Member:
             return None
 
     def connect(self):
-        """A connection to its control socket."""
-        return socket.create_connection(self.control, PATIENCE)
+        """A connection to its control socket, an endpoint or a path."""
+        if isinstance(self.control, Endpoint):
+            return socket.create_connection(self.control, PATIENCE)
+        stream = socket.socket(socket.AF_UNIX)
+        stream.settimeout(PATIENCE)
+        stream.connect(str(self.control))
+        return stream
 
     def talk(self, data):
         """The answers to these bytes, over a connection of their own."""

@@ -134,13 +134,13 @@ HINTS = (
     ),
     (
         r"socket refused",
-        "the addresses have to be this machine's and free (`ss -lntup`), and each member of a machine needs a `control` of its own"
-        " (127.0.0.1:7001, if `--control` says no other)",
+        "the addresses have to be this machine's and free (`ss -lntup`), and each member of a machine needs a `control` of its own, a port or a"
+        " path (`ss -lxp`)",
     ),
     (
         r"address refused",
-        "an address is an IPv4 endpoint without leading zeros, such as 127.0.0.1:7001; where a member is asked, and at `up --join`, it may be a host"
-        " name with a port too, such as db1.example:7001",
+        "an address is an IPv4 endpoint without leading zeros, such as 127.0.0.1:7001; where a member is asked, it may be the path of its control"
+        " socket, with a slash, and there and at `up --join` a host name with a port, such as db1.example:7001",
     ),
     (
         r"threads refused",
@@ -179,7 +179,10 @@ DEVICE = (
 )
 
 # And after `socket refused` where a member is asked.
-UNREACHED = "a member has to run with this address as its `control`: look whether it runs, and where it listens (`ss -lntp`)"
+UNREACHED = (
+    "a member has to run with this `control`: look whether it runs, and where it listens (`ss -lntp`, or `ss -lxp` for a path, which only the"
+    " member's own user may use)"
+)
 SILENT = "the member stands still or hangs (`ps`; SIGCONT wakes one that was stopped), or others hold all of its control connections (`ss -tnp`)"
 
 

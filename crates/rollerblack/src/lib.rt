@@ -189,8 +189,8 @@ pub use swim_shell::{
 
 // The sockets that it usually has.
 pub use swim_net::{
-    SocketAlarm, Sockets, TcpDoors, UdpInbound, UdpLink, Waits, address_of, bind_datagrams,
-    endpoint_of,
+    ControlDoors, ControlListener, SocketAlarm, Sockets, UdpInbound, UdpLink, Waits, address_of,
+    bind_datagrams, endpoint_of,
 };
 
 // A state file that no other process has.

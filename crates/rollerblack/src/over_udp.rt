@@ -19,7 +19,7 @@ use std::time::{Clock, Duration};
 use swim_disk::Disk;
 use swim_join::{Intervals, LIST_MAX};
 use swim_member::{Settings, SettingsFault};
-use swim_net::{SocketAlarm, Sockets, Waits, address_of, bind_datagrams, wait_of};
+use swim_net::{ControlListener, SocketAlarm, Sockets, Waits, address_of, bind_datagrams, wait_of};
 use swim_node::{Node, OpenFault};
 use swim_serve::{DoorsAndChores, EndedMember, Joins, LifeSetup, NoChores, Outside, run_member};
 use swim_wire::{Endpoint, is_no_members};
@@ -114,7 +114,14 @@ where
         Ok(datagrams) => datagrams,
         Err(error) => return Err(StartFault::Datagrams(error)),
     };
-    let sockets = match Sockets::new(datagrams, control, logged, waits, connections, wait) {
+    let sockets = match Sockets::new(
+        datagrams,
+        ControlListener::Tcp(control),
+        logged,
+        waits,
+        connections,
+        wait,
+    ) {
         Ok(sockets) => sockets,
         Err(error) => return Err(StartFault::Control(error)),
     };

@@ -23,7 +23,7 @@ use swim_ask::{
     watch_members,
 };
 use swim_check::{CaptureStop, check};
-use swim_cli::{Subcommand, hold_standard, make, read_words};
+use swim_cli::{MemberWords, Subcommand, hold_standard, make, read_words};
 use swim_exit::{Exit, Failure};
 use swim_explain::{ExplainFault, Printed, Tale, in_order, print_tales, recordings_at, tell_file};
 use swim_input::{InputFault, SETTINGS_MAX, look_at, open_file};
@@ -35,7 +35,7 @@ use swim_script::ScriptFault;
 use swim_shell::Alone;
 use swim_show::ShowFault;
 use swim_survey::{Asked, AskedFault};
-use swim_up::prepare;
+use swim_up::{control_here, control_in, prepare};
 use swim_web::{Web, serve_web};
 use swim_wire::Endpoint;
 use swim_words::read_endpoint;
@@ -143,8 +143,8 @@ const STOP: &str = "stop";
 /// A control line that is asked, and what becomes of its answer.
 #[derive(Clone, Copy, Debug)]
 struct Question<'a> {
-    /// The control socket, not yet judged.
-    to: &'a str,
+    /// Which member.
+    of: MemberWords<'a>,
     line: &'a str,
     /// Whether a status or counters are printed as a JSON object.
     as_json: bool,
@@ -164,7 +164,7 @@ fn print_answer(rt: &HostRuntime, text: &[u8], as_json: bool) -> Result<(), Fail
 /// Waits until a member has ended that has answered that it stops, if that is wanted.
 fn await_stop(rt: &HostRuntime, question: &Question<'_>, answer: &Answered) -> Result<(), Failure> {
     if question.line == STOP && !question.at_once {
-        return await_end(rt, answer.at);
+        return await_end(rt, &answer.at);
     }
     Ok(())
 }
@@ -190,7 +190,8 @@ fn ask_member<T: Threads>(
     threads: &T,
     question: &Question<'_>,
 ) -> Result<ExitCode, Failure> {
-    let answer = ask(rt, threads, question.to, question.line)?;
+    let to = control_of(rt, question.of)?;
+    let answer = ask(rt, threads, to.as_str(), question.line)?;
     let printed = print_answer(rt, answer.text.as_slice(), question.as_json);
     if !answer.text.as_slice().starts_with(b"ok") {
         printed?;
@@ -221,12 +222,30 @@ const CONTROL: &str = "127.0.0.1:7001";
 /// The environment variable that names another one.
 const CONTROL_VARIABLE: &str = "SWIM_CONTROL";
 
-/// The control socket of a member that no word names: the environment's, or else the usual one. It is not yet judged.
+/// A word of its own.
+fn owned(rt: &HostRuntime, word: &str) -> Result<String, Failure> {
+    String::from_str(rt.alloc(), word).map_err(|_| Failure::from(Exit::Memory))
+}
+
+/// The control socket of a member that no word names: the environment's, or else that of the member whose folder is here or of the
+/// service, or else the usual one. It is not yet judged.
 fn usual_control(rt: &HostRuntime) -> Result<String, Failure> {
     if let Ok(named) = env::var(rt, CONTROL_VARIABLE) {
         return Ok(named);
     }
-    String::from_str(rt.alloc(), CONTROL).map_err(|_| Failure::from(Exit::Memory))
+    match control_here(rt)? {
+        Some(control) => Ok(control),
+        None => owned(rt, CONTROL),
+    }
+}
+
+/// The control socket of the member that these words name, not yet judged.
+fn control_of(rt: &HostRuntime, words: MemberWords<'_>) -> Result<String, Failure> {
+    match (words.to, words.dir) {
+        (Some(word), _) => owned(rt, word),
+        (None, Some(folder)) => control_in(rt, folder),
+        (None, None) => usual_control(rt),
+    }
 }
 
 /// Prints what a member says of itself: its status, who it is, and that it is alone, where it is. One of an older version tells its
@@ -234,16 +253,17 @@ fn usual_control(rt: &HostRuntime) -> Result<String, Failure> {
 fn show_status<T: Threads>(
     rt: &HostRuntime,
     threads: &T,
-    to: &str,
+    of: MemberWords<'_>,
     as_json: bool,
 ) -> Result<ExitCode, Failure> {
-    let answer = ask(rt, threads, to, "status")?;
+    let to = control_of(rt, of)?;
+    let answer = ask(rt, threads, to.as_str(), "status")?;
     let text = answer.text.as_slice();
     let Some(status) = read_status(text) else {
         print_bytes(rt, text)?;
         return Ok(ExitCode::FAILURE);
     };
-    match ask_about(rt, answer.at)? {
+    match ask_about(rt, &answer.at)? {
         Some(about) if as_json => print_line(rt, WholeJson(status, about))?,
         Some(about) => {
             print_bytes(rt, text)?;
@@ -257,10 +277,16 @@ fn show_status<T: Threads>(
     Ok(ExitCode::SUCCESS)
 }
 
-/// The addresses that are named, or the usual one where none is.
-fn named_or(mut named: Vec<String>, usual: String) -> Result<Vec<String>, Failure> {
+/// The addresses that are named, or where none is that of the member in this folder, or else the usual one.
+fn named_or(
+    rt: &HostRuntime,
+    mut named: Vec<String>,
+    dir: Option<&str>,
+) -> Result<Vec<String>, Failure> {
     if named.is_empty() {
-        named.push(usual).map_err(|_| Failure::from(Exit::Memory))?;
+        let control = control_of(rt, MemberWords { to: None, dir })?;
+        let pushed = named.push(control);
+        pushed.map_err(|_| Failure::from(Exit::Memory))?;
     }
     Ok(named)
 }
@@ -269,13 +295,14 @@ fn named_or(mut named: Vec<String>, usual: String) -> Result<Vec<String>, Failur
 fn join_peer<T: Threads>(
     rt: &HostRuntime,
     threads: &T,
-    to: &str,
+    of: MemberWords<'_>,
     peer: &str,
 ) -> Result<ExitCode, Failure> {
     let Some(who) = read_endpoint(peer.as_bytes()) else {
         return Err(Failure::of_address(rt.alloc(), "A", peer));
     };
-    let joining = JoinRequest::new(rt, threads, to, who)?;
+    let to = control_of(rt, of)?;
+    let joining = JoinRequest::new(rt, threads, to.as_str(), who)?;
     let answer = joining.send(rt)?;
     print_bytes(rt, answer.as_slice())?;
     if answer.as_slice() != SENT {
@@ -473,7 +500,6 @@ fn answer<T: Threads + Wait + Log + Clock + Send + Sync + Copy + Drop>(
     level: &LogLevel,
     asked: Subcommand<'_>,
 ) -> Result<ExitCode, Failure> {
-    let usual = usual_control(rt)?;
     match asked {
         Subcommand::Init {
             file,
@@ -485,7 +511,8 @@ fn answer<T: Threads + Wait + Log + Clock + Send + Sync + Copy + Drop>(
             Ok(ExitCode::SUCCESS)
         }
         Subcommand::Up(words) => {
-            let config = prepare(rt, &words, usual.as_str())?;
+            let named = env::var(rt, CONTROL_VARIABLE).ok();
+            let config = prepare(rt, &words, named.as_ref().map(|word| word.as_str()))?;
             run_until_stopped(rt, logged, level, config.as_str())?;
             Ok(ExitCode::SUCCESS)
         }
@@ -499,80 +526,48 @@ fn answer<T: Threads + Wait + Log + Clock + Send + Sync + Copy + Drop>(
         }
         Subcommand::Ctl {
             words,
+            dir,
             as_json,
             at_once,
         } => {
+            let of = MemberWords { to: words.to, dir };
             let question = Question {
-                to: words.to.unwrap_or(usual.as_str()),
+                of,
                 line: words.line.as_str(),
                 as_json,
                 at_once,
             };
             ask_member(rt, logged, &question)
         }
-        Subcommand::Status { to, as_json } => {
-            show_status(rt, logged, to.unwrap_or(usual.as_str()), as_json)
-        }
-        Subcommand::Join { peer, to } => {
-            join_peer(rt, logged, to.unwrap_or(usual.as_str()), peer)
-        }
-        Subcommand::Leave { to } => {
+        Subcommand::Line {
+            of,
+            line,
+            as_json,
+            at_once,
+        } => {
             let question = Question {
-                to: to.unwrap_or(usual.as_str()),
-                line: "leave",
-                as_json: false,
-                at_once: false,
-            };
-            ask_member(rt, logged, &question)
-        }
-        Subcommand::Reload { to } => {
-            let question = Question {
-                to: to.unwrap_or(usual.as_str()),
-                line: "reload",
-                as_json: false,
-                at_once: false,
-            };
-            ask_member(rt, logged, &question)
-        }
-        Subcommand::Record { to } => {
-            let question = Question {
-                to: to.unwrap_or(usual.as_str()),
-                line: "record",
-                as_json: false,
-                at_once: false,
-            };
-            ask_member(rt, logged, &question)
-        }
-        Subcommand::Counters { to, as_json } => {
-            let question = Question {
-                to: to.unwrap_or(usual.as_str()),
-                line: "counters",
+                of,
+                line,
                 as_json,
-                at_once: false,
-            };
-            ask_member(rt, logged, &question)
-        }
-        Subcommand::Stop { to, at_once } => {
-            let question = Question {
-                to: to.unwrap_or(usual.as_str()),
-                line: STOP,
-                as_json: false,
                 at_once,
             };
             ask_member(rt, logged, &question)
         }
-        Subcommand::Members { to, as_json } => {
-            let to = to.unwrap_or(usual.as_str());
-            show_members(rt, logged, to, as_json, paint(rt))?;
+        Subcommand::Status { of, as_json } => show_status(rt, logged, of, as_json),
+        Subcommand::Join { peer, of } => join_peer(rt, logged, of, peer),
+        Subcommand::Members { of, as_json } => {
+            let to = control_of(rt, of)?;
+            show_members(rt, logged, to.as_str(), as_json, paint(rt))?;
             Ok(ExitCode::SUCCESS)
         }
         Subcommand::Watch {
             to,
+            dir,
             as_json,
             every,
             once,
         } => {
-            let to = named_or(to, usual)?;
+            let to = named_or(rt, to, dir)?;
             let watched = Watched {
                 to: Addresses::judged(rt.alloc(), to.as_slice())?,
                 as_json,
@@ -583,8 +578,8 @@ fn answer<T: Threads + Wait + Log + Clock + Send + Sync + Copy + Drop>(
             watch_members(rt, logged, watched)?;
             Ok(ExitCode::SUCCESS)
         }
-        Subcommand::Web { of, listen } => {
-            let of = named_or(of, usual)?;
+        Subcommand::Web { of, dir, listen } => {
+            let of = named_or(rt, of, dir)?;
             let web = Web {
                 of: of.as_slice(),
                 listen,

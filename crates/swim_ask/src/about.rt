@@ -10,8 +10,9 @@ use std::net::{Net, TcpStream};
 use std::rt::Clock;
 use std::{fmt, str};
 use swim_exit::Failure;
+use swim_settings::ControlPlace;
 use swim_shell::{About, ProgramVersion, Who, about_answer};
-use swim_wire::{Endpoint, Rules};
+use swim_wire::Rules;
 use swim_words::{read_endpoint, split_at_byte};
 
 /// Whether the byte may be in a version, so that it stands as it is on a page and in a metric.
@@ -75,7 +76,7 @@ pub fn read_about(answer: &[u8]) -> Option<About>
 /// Asks a member who it is; none where it does not say, as it is of an older version. An error says that it did not answer.
 pub fn ask_about<R: Net<Stream = TcpStream> + Clock + AllocGlobal>(
     rt: &R,
-    to: Endpoint,
+    to: &ControlPlace,
 ) -> Result<Option<About>, Failure> {
     let answer = exchange(rt, to, "about")?;
     Ok(read_about(answer.as_slice()))

@@ -5,6 +5,7 @@ ghost use Rattle.std.specs.declared.io.ErrorKind.TheVariants as kinds;
 ghost use Rattle.swim_words.specs.Words.{Lacks};
 ghost use Rattle.swim_ask.specs.Whole.{AsksLines, Follow, IsWhole, ends};
 
+use crate::connecting::connect;
 use crate::place::find_from;
 use std::alloc::Global;
 use std::io::{self, ErrorKind, Read, Write};
@@ -13,8 +14,8 @@ use std::rt::Clock;
 use std::thread::Threads;
 use std::time::{Duration, Instant};
 use swim_exit::{Exit, Failure};
-use swim_net::address_of;
-use swim_wire::Endpoint;
+use swim_net::ControlStream;
+use swim_settings::{ControlPlace, NamedControl};
 use swim_words::{read_number, split_at_byte};
 
 /// How many milliseconds the whole exchange may take, and a lookup of the host with it.
@@ -84,7 +85,7 @@ fn is_whole(line: &str, answer: &[u8]) -> bool
 fn read_answer<R: Clock>(
     rt: &R,
     start: &Instant,
-    stream: &mut TcpStream,
+    stream: &mut ControlStream,
     line: &str,
     answer: &mut Vec<u8>,
 ) -> io::Result<()>
@@ -94,7 +95,7 @@ fn read_answer<R: Clock>(
         if is_whole(line, answer.as_slice()) {
             return Ok(());
         }
-        stream.set_read_timeout(Some(left(rt, start)?))?;
+        stream.set_read_timeout(left(rt, start)?)?;
         let mut bytes = [0u8; 512];
         match stream.read(&mut bytes) {
             Ok(0) => return Err(io::Error::from(ErrorKind::UnexpectedEof)),
@@ -110,13 +111,13 @@ fn read_answer<R: Clock>(
 fn talk<R: Net<Stream = TcpStream> + Clock + AllocGlobal>(
     rt: &R,
     start: &Instant,
-    to: Endpoint,
+    to: &ControlPlace,
     line: &str,
 ) -> io::Result<Vec<u8>>
     ensures { IfOk result (λ answer. IsWhole line.now answer.items) }
 {
-    let mut stream = TcpStream::connect_timeout(rt, &address_of(to), left(rt, start)?)?;
-    stream.set_write_timeout(Some(left(rt, start)?))?;
+    let mut stream = connect(rt, to, left(rt, start)?)?;
+    stream.set_write_timeout(left(rt, start)?)?;
     stream.write_all(line.as_bytes())?;
     stream.write_all(b"\n")?;
     let mut answer = Vec::new(rt.alloc());
@@ -133,16 +134,17 @@ fn is_late(kind: ErrorKind) -> bool
 }
 
 /// The exit where the control socket of a member does not answer. A member that was only late may still read the line.
-fn unanswered(alloc: Global, to: Endpoint, error: &io::Error) -> Failure {
+fn unanswered(alloc: Global, to: &ControlPlace, error: &io::Error) -> Failure {
+    let to = NamedControl(*to);
     if is_late(error.kind()) {
         let seconds = LIMIT_MILLIS / 1000;
         let about = format_args!(
-            "TCP {to} (control): no answer in {seconds} s; the line may still be carried out"
+            "{to}: no answer in {seconds} s; the line may still be carried out"
         );
         return Failure::about(alloc, Exit::Silent, about);
     }
     let exit = Exit::of(error, Exit::Unreached);
-    Failure::about(alloc, exit, format_args!("TCP {to} (control): {error}"))
+    Failure::about(alloc, exit, format_args!("{to}: {error}"))
 }
 
 /// Now, from which on a time limit is counted. An error says that there is no memory, or that the clock fails.
@@ -160,7 +162,7 @@ pub(crate) fn now<R: Clock + AllocGlobal>(rt: &R) -> Result<Instant, Failure> {
 /// not answer.
 pub(crate) fn exchange<R: Net<Stream = TcpStream> + Clock + AllocGlobal>(
     rt: &R,
-    to: Endpoint,
+    to: &ControlPlace,
     line: &str,
 ) -> Result<Vec<u8>, Failure>
     ensures { IfOk result (λ answer. IsWhole line.now answer.items) }
@@ -175,25 +177,41 @@ pub(crate) fn exchange<R: Net<Stream = TcpStream> + Clock + AllocGlobal>(
 #[derive(Drop)]
 pub struct Answered {
     /// Its control socket.
-    pub at: Endpoint,
+    pub at: ControlPlace,
     /// The whole answer.
     pub text: Vec<u8>,
 }
 
-/// Sends one control line as it is, with its end, and gives the whole answer. The address is an endpoint, or a host name
-/// and a port, not yet judged. All of it takes at most 5 seconds, the lookup of the host too.
+/// The exit where a line has an end within: what follows that would be another line, whose answer nobody reads.
+fn refuse_lines(alloc: Global, line: &str) -> Result<(), Failure>
+    ensures one { IsOk result ↔ Lacks 10 line.now }
+{
+    match split_at_byte(line.as_bytes(), b'\n') {
+        None => Ok(()),
+        Some(_) => {
+            let about = format_args!("{line:?}: it has the end of a line within");
+            Err(Failure::about(alloc, Exit::Words, about))
+        }
+    }
+}
+
+/// Sends one control line as it is, with its end, and gives the whole answer; a text of several lines is refused. The address is the
+/// path of a socket, an endpoint, or a host name and a port, not yet judged. All of it takes at most 5 seconds, the lookup of the host
+/// too.
 pub fn ask<T: Threads>(
     rt: &HostRuntime,
     threads: &T,
     to: &str,
     line: &str,
 ) -> Result<Answered, Failure>
-    ensures { IfOk result (λ answered. IsWhole line.now answered.text.items) }
+    ensures whole { IfOk result (λ answered. IsWhole line.now answered.text.items) }
+    ensures one { IfOk result (λ _. Lacks 10 line.now) }
 {
+    refuse_lines(rt.alloc(), line)?;
     let start = now(rt)?;
     let at = find_from(rt, threads, to, &start)?;
-    match talk(rt, &start, at, line) {
+    match talk(rt, &start, &at, line) {
         Ok(text) => Ok(Answered { at, text }),
-        Err(error) => Err(unanswered(rt.alloc(), at, &error)),
+        Err(error) => Err(unanswered(rt.alloc(), &at, &error)),
     }
 }

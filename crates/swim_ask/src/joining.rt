@@ -17,6 +17,7 @@ use std::thread::{self, Threads};
 use std::time::Duration;
 use swim_exit::{Exit, Failure};
 use swim_news::Rows;
+use swim_settings::ControlPlace;
 use swim_shell::{Counters, ERA_COUNTS};
 use swim_wire::{Endpoint, Update, UpdateKind};
 
@@ -49,7 +50,7 @@ struct Look {
 /// A member, and one that it is to join.
 #[derive(Clone, Copy)]
 pub struct JoinRequest {
-    at: Endpoint,
+    at: ControlPlace,
     who: Endpoint,
     /// What was told before the join.
     before: Look,
@@ -72,7 +73,7 @@ fn received_by(counters: &Counters) -> u64
 /// How many datagrams have come to a member; none where it does not count them.
 fn ask_received<R: Net<Stream = TcpStream> + Clock + AllocGlobal>(
     rt: &R,
-    at: Endpoint,
+    at: &ControlPlace,
 ) -> Result<Option<u64>, Failure> {
     let answer = exchange(rt, at, "counters")?;
     let counters = read_counters(answer.as_slice());
@@ -114,8 +115,8 @@ impl JoinRequest {
     ) -> Result<JoinRequest, Failure> {
         let at = find_from(rt, threads, to, &now(rt)?)?;
         let before = Look {
-            row: alive_in(&read_all_rows(rt, at)?, who),
-            received: ask_received(rt, at)?,
+            row: alive_in(&read_all_rows(rt, &at)?, who),
+            received: ask_received(rt, &at)?,
         };
         Ok(JoinRequest { at, who, before })
     }
@@ -127,7 +128,7 @@ impl JoinRequest {
     ) -> Result<Vec<u8>, Failure> {
         let who = self.who;
         match format!(in rt.alloc(); "join {who}") {
-            Ok(line) => exchange(rt, self.at, line.as_str()),
+            Ok(line) => exchange(rt, &self.at, line.as_str()),
             Err(_) => Err(Failure::from(Exit::Memory)),
         }
     }
@@ -137,11 +138,11 @@ impl JoinRequest {
         &self,
         rt: &R,
     ) -> Result<Option<Joined>, Failure> {
-        let Some(rows) = read_rows(rt, self.at)? else {
+        let Some(rows) = read_rows(rt, &self.at)? else {
             return Ok(None);
         };
         let Look { row, received } = self.before;
-        let is_silent = has_none(received, ask_received(rt, self.at)?);
+        let is_silent = has_none(received, ask_received(rt, &self.at)?);
         Ok(known_by(row, alive_in(&rows, self.who), is_silent))
     }
 

@@ -4,6 +4,7 @@
 mod about;
 mod addresses;
 mod asking;
+mod connecting;
 mod counters;
 mod gap;
 mod joining;

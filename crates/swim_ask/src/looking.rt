@@ -32,11 +32,11 @@ pub fn look<R: Net<Stream = TcpStream> + Clock + AllocGlobal>(
     word: &str,
 ) -> Option<MemberReport> {
     let to = find(rt, word).ok()?;
-    let answer = exchange(rt, to, "status").ok()?;
+    let answer = exchange(rt, &to, "status").ok()?;
     let status = read_status(answer.as_slice())?;
-    let rows = read_rows(rt, to).ok()?;
-    let answer = exchange(rt, to, "counters").ok()?;
-    let about = ask_about(rt, to).ok()?;
+    let rows = read_rows(rt, &to).ok()?;
+    let answer = exchange(rt, &to, "counters").ok()?;
+    let about = ask_about(rt, &to).ok()?;
     Some(MemberReport {
         status,
         rows,

@@ -16,7 +16,8 @@ use std::time::Duration;
 use std::{str, thread};
 use swim_exit::{Exit, Failure};
 use swim_news::{PAGES_MAX, Rows};
-use swim_wire::{Endpoint, MEMBERS_MAX, UPDATES_MAX, Update, UpdateKind};
+use swim_settings::{ControlPlace, NamedControl};
+use swim_wire::{MEMBERS_MAX, UPDATES_MAX, Update, UpdateKind};
 use swim_words::{read_endpoint, read_number, split_at_byte};
 
 /// How long a member is left alone until it is asked again whose era was full, in milliseconds, and how often it is asked.
@@ -126,21 +127,18 @@ fn next_line(rows: &Rows) -> ArrayString<LINE_MAX> {
 }
 
 /// The exit where an answer is no page of rows, with its first line.
-fn unread(alloc: Global, to: Endpoint, answer: &[u8], exit: Exit) -> Failure {
+fn unread(alloc: Global, to: &ControlPlace, answer: &[u8], exit: Exit) -> Failure {
     let first = answer.split(|byte| *byte == b'\n').next().unwrap_or(b"");
     let said = str::from_utf8(first).unwrap_or("");
-    Failure::about(
-        alloc,
-        exit,
-        format_args!("TCP {to} (control) answered {said:?}"),
-    )
+    let to = NamedControl(*to);
+    Failure::about(alloc, exit, format_args!("{to} answered {said:?}"))
 }
 
 /// All rows of a member, by as many control lines as there are pages. None if its era is full, so that it has to be asked
 /// again. What changes meanwhile may be in the rows or not.
 pub(crate) fn read_rows<R: Net<Stream = TcpStream> + Clock + AllocGlobal>(
     rt: &R,
-    to: Endpoint,
+    to: &ControlPlace,
 ) -> Result<Option<Rows>, Failure> {
     let mut rows = Rows::new();
     for _ in 0..PAGES_MAX {
@@ -159,7 +157,7 @@ pub(crate) fn read_rows<R: Net<Stream = TcpStream> + Clock + AllocGlobal>(
 /// The same, where a member whose era is full is asked again.
 pub(crate) fn read_all_rows<R: Net<Stream = TcpStream> + Clock + AllocGlobal>(
     rt: &R,
-    to: Endpoint,
+    to: &ControlPlace,
 ) -> Result<Rows, Failure> {
     for _ in 0..AGAIN_MAX {
         if let Some(rows) = read_rows(rt, to)? {
@@ -167,6 +165,7 @@ pub(crate) fn read_all_rows<R: Net<Stream = TcpStream> + Clock + AllocGlobal>(
         }
         thread::sleep(rt, Duration::from_millis(AGAIN_MILLIS));
     }
-    let full = format_args!("TCP {to} (control): each page that was asked for found its era full");
+    let to = NamedControl(*to);
+    let full = format_args!("{to}: each page that was asked for found its era full");
     Err(Failure::about(rt.alloc(), Exit::Answer, full))
 }

@@ -9,16 +9,16 @@ use std::time::Instant;
 use std::{io, str};
 use swim_exit::{Exit, Failure};
 use swim_net::first_address;
+use swim_settings::{ControlPlace, read_control};
 use swim_wire::Endpoint;
-use swim_words::{read_endpoint, read_host};
+use swim_words::read_host;
 
 /// What the word is called that names a control socket.
 const ADDRESS: &str = "ADDR";
 
-/// Refuses a word that names no control socket: it is neither an endpoint nor a host name and a port.
+/// Refuses a word that names no control socket: it is neither the path of one, nor an endpoint, nor a host name and a port.
 pub(crate) fn judge(alloc: Global, word: &str) -> Result<(), Failure> {
-    let bytes = word.as_bytes();
-    if read_endpoint(bytes).is_some() || read_host(bytes).is_some() {
+    if read_control(word).is_some() || read_host(word.as_bytes()).is_some() {
         Ok(())
     } else {
         Err(Failure::of_address(alloc, ADDRESS, word))
@@ -35,9 +35,9 @@ fn taken(
     alloc: Global,
     word: &str,
     found: io::Result<Option<Endpoint>>,
-) -> Result<Endpoint, Failure> {
+) -> Result<ControlPlace, Failure> {
     match found {
-        Ok(Some(endpoint)) => Ok(endpoint),
+        Ok(Some(endpoint)) => Ok(ControlPlace::Tcp(endpoint)),
         Ok(None) => Err(unknown(alloc, word)),
         Err(error) => {
             let exit = Exit::of(&error, Exit::Host);
@@ -46,17 +46,17 @@ fn taken(
     }
 }
 
-/// The host and the port that a word names, which is no endpoint.
+/// The host and the port that a word names, which is neither a path nor an endpoint.
 fn host_in(word: &str) -> Option<(&str, u16)> {
     let (host, port) = read_host(word.as_bytes())?;
     Some((str::from_utf8(host).ok()?, port))
 }
 
-/// The control socket that a word names now: an endpoint as it stands, or else a port of a host, which is looked up each time. An error
-/// says that the word is neither, that no such host was found, or that there was no memory. A lookup may take long.
-pub fn find<R: Net + AllocGlobal>(rt: &R, word: &str) -> Result<Endpoint, Failure> {
-    if let Some(endpoint) = read_endpoint(word.as_bytes()) {
-        return Ok(endpoint);
+/// The control socket that a word names now: a path or an endpoint as it stands, or else a port of a host, which is looked up each time. An error
+/// says that the word is none of these, that no such host was found, or that there was no memory. A lookup may take long.
+pub fn find<R: Net + AllocGlobal>(rt: &R, word: &str) -> Result<ControlPlace, Failure> {
+    if let Some(place) = read_control(word) {
+        return Ok(place);
     }
     let Some((host, port)) = host_in(word) else {
         return Err(Failure::of_address(rt.alloc(), ADDRESS, word));
@@ -71,9 +71,9 @@ pub(crate) fn find_from<T: Threads>(
     threads: &T,
     word: &str,
     start: &Instant,
-) -> Result<Endpoint, Failure> {
-    if let Some(endpoint) = read_endpoint(word.as_bytes()) {
-        return Ok(endpoint);
+) -> Result<ControlPlace, Failure> {
+    if let Some(place) = read_control(word) {
+        return Ok(place);
     }
     let alloc = rt.alloc();
     let Some((host, port)) = host_in(word) else {

@@ -4,14 +4,14 @@ ghost use Rattle.std.specs.Prelude.{◌≡◌, ◌⊎◌, ◌↔◌, IsTrue};
 ghost use Rattle.std.specs.declared.io.ErrorKind.TheVariants as kinds;
 
 use crate::asking::{left_of, now};
+use crate::connecting::connect;
 use std::io::{self, ErrorKind, Read};
 use std::net::{Net, TcpStream};
 use std::rt::Clock;
 use std::thread;
 use std::time::{Duration, Instant};
 use swim_exit::{Exit, Failure};
-use swim_net::address_of;
-use swim_wire::Endpoint;
+use swim_settings::{ControlPlace, NamedControl};
 
 /// How many milliseconds a member may take to end.
 const END_MILLIS: u64 = 60_000;
@@ -22,14 +22,15 @@ const PAUSE_MILLIS: u64 = 20;
 /// The most looks: the time is over by then.
 const LOOKS_MAX: u64 = END_MILLIS / PAUSE_MILLIS;
 
-/// Whether what ended a connection says that nobody listens any more: it was refused, or it was never taken, and is not to be.
+/// Whether what ended a connection says that nobody listens any more: it was refused, or its path is gone, or it was never taken, and
+/// is not to be.
 fn is_gone(kind: ErrorKind) -> bool
-    ensures { IsTrue result
-        ↔ ((kind ≡ kinds.ConnectionRefused) ⊎ (kind ≡ kinds.ConnectionReset)) }
+    ensures { IsTrue result ↔ ((kind ≡ kinds.ConnectionRefused)
+        ⊎ (kind ≡ kinds.ConnectionReset) ⊎ (kind ≡ kinds.NotFound)) }
 {
     matches!(
         kind,
-        ErrorKind::ConnectionRefused | ErrorKind::ConnectionReset
+        ErrorKind::ConnectionRefused | ErrorKind::ConnectionReset | ErrorKind::NotFound
     )
 }
 
@@ -37,11 +38,11 @@ fn is_gone(kind: ErrorKind) -> bool
 fn wait_on_connection<R: Net<Stream = TcpStream> + Clock>(
     rt: &R,
     start: &Instant,
-    at: Endpoint,
+    at: &ControlPlace,
 ) -> io::Result<()> {
     let left = left_of(rt, start, END_MILLIS)?;
-    let mut stream = TcpStream::connect_timeout(rt, &address_of(at), left)?;
-    stream.set_read_timeout(Some(left_of(rt, start, END_MILLIS)?))?;
+    let mut stream = connect(rt, at, left)?;
+    stream.set_read_timeout(left_of(rt, start, END_MILLIS)?)?;
     let mut byte = [0u8; 1];
     stream.read(&mut byte)?;
     Ok(())
@@ -51,7 +52,7 @@ fn wait_on_connection<R: Net<Stream = TcpStream> + Clock>(
 /// eras are recorded. An error says that this took more than a minute.
 pub fn await_end<R: Net<Stream = TcpStream> + Clock + AllocGlobal>(
     rt: &R,
-    at: Endpoint,
+    at: &ControlPlace,
 ) -> Result<(), Failure> {
     let start = now(rt)?;
     for _ in 0..LOOKS_MAX {
@@ -64,6 +65,7 @@ pub fn await_end<R: Net<Stream = TcpStream> + Clock + AllocGlobal>(
         }
         thread::sleep(rt, Duration::from_millis(PAUSE_MILLIS));
     }
-    let open = format_args!("TCP {at} (control): it is still open");
+    let at = NamedControl(*at);
+    let open = format_args!("{at}: it is still open");
     Err(Failure::about(rt.alloc(), Exit::NotEnded, open))
 }

@@ -19,8 +19,9 @@ use std::thread::Threads;
 use std::time::Duration;
 use swim_exit::{Exit, Failure};
 use swim_news::{Change, Changes, Rows, compare};
+use swim_settings::ControlPlace;
 use swim_shell::Alone;
-use swim_wire::{Endpoint, Update};
+use swim_wire::Update;
 
 /// The width of the longest endpoint.
 const ENDPOINT_WIDTH: usize = 21;
@@ -63,7 +64,7 @@ fn print_table<P: Print + AllocGlobal>(rt: &P, rows: &Rows, paint: Paint) -> Res
 /// Prints that a member is alone, where it says so.
 fn print_alone<R: Net<Stream = TcpStream> + Clock + AllocGlobal + Print>(
     rt: &R,
-    to: Endpoint,
+    to: &ControlPlace,
 ) -> Result<(), Failure> {
     let about = ask_about(rt, to).unwrap_or(None);
     match about {
@@ -81,12 +82,12 @@ pub fn show_members<T: Threads>(
     paint: Paint,
 ) -> Result<(), Failure> {
     let to = find_from(rt, threads, to, &now(rt)?)?;
-    let rows = read_all_rows(rt, to)?;
+    let rows = read_all_rows(rt, &to)?;
     if as_json {
         return print_objects(rt, &rows);
     }
     print_table(rt, &rows, paint)?;
-    print_alone(rt, to)
+    print_alone(rt, &to)
 }
 
 /// A change as what a JSON object has of it.
@@ -120,7 +121,7 @@ fn rows_at<R: Net<Stream = TcpStream> + Clock + AllocGlobal>(
     rt: &R,
     word: &str,
 ) -> Result<Option<Rows>, Failure> {
-    read_rows(rt, find(rt, word)?)
+    read_rows(rt, &find(rt, word)?)
 }
 
 /// Whether a failure says that a member does not answer, or not so.

@@ -2,6 +2,7 @@
 
 use crate::control_words::ControlWords;
 use crate::examples;
+use crate::member_words::MemberWords;
 use crate::up_words::UpWords;
 use clap::builder::ValueParser;
 use clap::{Arg, ArgAction, ArgMatches, Command, Error};
@@ -44,15 +45,28 @@ pub enum Subcommand<'a> {
     Ctl {
         /// The control socket, if it is named, and the line.
         words: ControlWords<'a>,
+        /// The member's folder, if that is named in its place.
+        dir: Option<&'a str>,
         /// Whether as JSON, which only the lines `status`, `about` and `counters` have.
         as_json: bool,
         /// Whether to wait for nothing but the answer, which only the line `stop` has.
         at_once: bool,
     },
+    /// A control line that has a command of its own: `leave`, `reload`, `record`, `counters` or `stop`.
+    Line {
+        /// Which member.
+        of: MemberWords<'a>,
+        /// The line.
+        line: &'static str,
+        /// Whether as JSON, which only `counters` has.
+        as_json: bool,
+        /// Whether to wait for nothing but the answer, which only `stop` has.
+        at_once: bool,
+    },
     /// What a member says of itself.
     Status {
-        /// The control socket, if it is named, not yet judged.
-        to: Option<&'a str>,
+        /// Which member.
+        of: MemberWords<'a>,
         /// Whether as JSON.
         as_json: bool,
     },
@@ -60,42 +74,13 @@ pub enum Subcommand<'a> {
     Join {
         /// The other one, not yet judged.
         peer: &'a str,
-        /// The control socket, if it is named, not yet judged.
-        to: Option<&'a str>,
-    },
-    /// A member leaves its group.
-    Leave {
-        /// The control socket, if it is named, not yet judged.
-        to: Option<&'a str>,
-    },
-    /// A member reads its settings again.
-    Reload {
-        /// The control socket, if it is named, not yet judged.
-        to: Option<&'a str>,
-    },
-    /// A member ends the present era, so that it is recorded.
-    Record {
-        /// The control socket, if it is named, not yet judged.
-        to: Option<&'a str>,
-    },
-    /// What a member has counted since it began.
-    Counters {
-        /// The control socket, if it is named, not yet judged.
-        to: Option<&'a str>,
-        /// Whether as JSON.
-        as_json: bool,
-    },
-    /// A member stops.
-    Stop {
-        /// The control socket, if it is named, not yet judged.
-        to: Option<&'a str>,
-        /// Whether to wait for nothing but the answer.
-        at_once: bool,
+        /// Which member.
+        of: MemberWords<'a>,
     },
     /// All rows of a member.
     Members {
-        /// The control socket, if it is named, not yet judged.
-        to: Option<&'a str>,
+        /// Which member.
+        of: MemberWords<'a>,
         /// Whether as JSON.
         as_json: bool,
     },
@@ -103,6 +88,8 @@ pub enum Subcommand<'a> {
     Watch {
         /// The control sockets that are named, not yet judged.
         to: Vec<String>,
+        /// The member's folder, if that is named.
+        dir: Option<&'a str>,
         /// Whether as JSON.
         as_json: bool,
         /// Milliseconds from one comparison to the next.
@@ -114,6 +101,8 @@ pub enum Subcommand<'a> {
     Web {
         /// The control sockets that are named, not yet judged.
         of: Vec<String>,
+        /// A member's folder, if one is named.
+        dir: Option<&'a str>,
         /// Where it listens, not yet judged.
         listen: &'a str,
     },
@@ -213,19 +202,33 @@ fn init_command<'a>(alloc: Global) -> Result<Command<'a>, Error> {
 
 /// What is said of the control socket of a member.
 const ADDRESS: &str =
-    "The member's control socket, e.g. 127.0.0.1:7001; without it SWIM_CONTROL, or else 127.0.0.1:7001";
+    "The member's control socket, a path or e.g. 127.0.0.1:7001; without it and --dir that of SWIM_CONTROL, or else of the member whose folder is here, or else of the service, or else 127.0.0.1:7001";
 
 /// The same where several may be named.
 const ADDRESSES: &str =
-    "The member's control socket, e.g. 127.0.0.1:7001, and those of others to ask where it does not answer; without any SWIM_CONTROL, or else 127.0.0.1:7001";
+    "The member's control socket, a path or e.g. 127.0.0.1:7001, and those of others to ask where it does not answer; without any and --dir as for `swim members`";
 
 /// What the addresses are whose members are shown over HTTP.
 const SHOWN: &str =
-    "A member's control socket, e.g. 127.0.0.1:7001; of several in one group the next one is asked where one does not answer, and several groups are shown together; without any SWIM_CONTROL, or else 127.0.0.1:7001";
+    "A member's control socket, a path or e.g. 127.0.0.1:7001; of several in one group the next one is asked where one does not answer, and several groups are shown together; without any and --dir as for `swim members`";
+
+/// What is said of the folder of a member.
+const FOLDER: &str = "The member's folder, whose settings name its control socket";
 
 /// The control socket of a member.
 fn address<'a>(alloc: Global) -> Arg<'a> {
     word(alloc, "addr", "ADDR", ADDRESS).required(false)
+}
+
+/// `--dir DIR`, in the place of what has this name.
+fn folder<'a>(alloc: Global, other: &'a str) -> Result<Arg<'a>, Error> {
+    Ok(option(alloc, "dir", "DIR", FOLDER).conflicts_with(other)?)
+}
+
+/// A command of one member, which is named by `[ADDR | --dir DIR]`.
+fn of_member<'a>(alloc: Global, command: Result<Command<'a>, Error>) -> Result<Command<'a>, Error> {
+    let command = with_arg(command, address(alloc));
+    with_arg(command, folder(alloc, "addr")?)
 }
 
 /// `--json`.
@@ -279,77 +282,77 @@ fn explain_command<'a>(alloc: Global) -> Result<Command<'a>, Error> {
     with_arg(command, places)
 }
 
-/// `swim status [ADDR] [--json]`.
+/// `swim status [ADDR | --dir DIR] [--json]`.
 fn status_command<'a>(alloc: Global) -> Result<Command<'a>, Error> {
     let command = Command::new(alloc, "status")
         .about("Prints what a member says of itself")
         .after_help(examples::STATUS);
-    let command = with_arg(Ok(command), address(alloc));
+    let command = of_member(alloc, Ok(command));
     with_arg(command, json(alloc))
 }
 
-/// `swim join A [ADDR]`.
+/// `swim join A [ADDR | --dir DIR]`.
 fn join_command<'a>(alloc: Global) -> Result<Command<'a>, Error> {
     let peer = word(alloc, "peer", "A", "Whom it joins, e.g. 10.0.0.2:7000");
     let command = Command::new(alloc, "join")
         .about("Has a member join another one, and waits up to 3 seconds for it")
         .after_help(examples::JOIN);
     let command = with_arg(Ok(command), peer);
-    with_arg(command, address(alloc))
+    of_member(alloc, command)
 }
 
-/// `swim leave [ADDR]`.
+/// `swim leave [ADDR | --dir DIR]`.
 fn leave_command<'a>(alloc: Global) -> Result<Command<'a>, Error> {
     let command = Command::new(alloc, "leave")
         .about("Has a member leave its group, which goes on answering until it is stopped")
         .after_help(examples::LEAVE);
-    with_arg(Ok(command), address(alloc))
+    of_member(alloc, Ok(command))
 }
 
-/// `swim reload [ADDR]`.
+/// `swim reload [ADDR | --dir DIR]`.
 fn reload_command<'a>(alloc: Global) -> Result<Command<'a>, Error> {
     let command = Command::new(alloc, "reload")
         .about("Has a member read its settings again, and prints which keys need a restart")
         .after_help(examples::RELOAD);
-    with_arg(Ok(command), address(alloc))
+    of_member(alloc, Ok(command))
 }
 
-/// `swim record [ADDR]`.
+/// `swim record [ADDR | --dir DIR]`.
 fn record_command<'a>(alloc: Global) -> Result<Command<'a>, Error> {
     let command = Command::new(alloc, "record")
         .about("Has a member end the present era, so that its recording is written now")
         .after_help(examples::RECORD);
-    with_arg(Ok(command), address(alloc))
+    of_member(alloc, Ok(command))
 }
 
-/// `swim counters [ADDR] [--json]`.
+/// `swim counters [ADDR | --dir DIR] [--json]`.
 fn counters_command<'a>(alloc: Global) -> Result<Command<'a>, Error> {
     let command = Command::new(alloc, "counters")
         .about("Prints what a member has counted since it began")
         .after_help(examples::COUNTERS);
-    let command = with_arg(Ok(command), address(alloc));
+    let command = of_member(alloc, Ok(command));
     with_arg(command, json(alloc))
 }
 
-/// `swim stop [ADDR] [--now]`.
+/// `swim stop [ADDR | --dir DIR] [--now]`.
 fn stop_command<'a>(alloc: Global) -> Result<Command<'a>, Error> {
     let command = Command::new(alloc, "stop")
         .about("Stops a member, and waits until it has ended")
         .after_help(examples::STOP);
-    let command = with_arg(Ok(command), address(alloc));
+    let command = of_member(alloc, Ok(command));
     with_arg(command, at_once(alloc))
 }
 
-/// `swim members [ADDR] [--json]`.
+/// `swim members [ADDR | --dir DIR] [--json]`.
 fn members_command<'a>(alloc: Global) -> Result<Command<'a>, Error> {
     let command = Command::new(alloc, "members")
         .about("Prints all members that a member knows")
         .after_help(examples::MEMBERS);
-    let command = with_arg(Ok(command), address(alloc));
+    let command = of_member(alloc, Ok(command));
     with_arg(command, json(alloc))
 }
 
-/// `swim watch [ADDR].. [--json] [--every N] [--once]`.
+/// `swim watch [ADDR.. | --dir DIR] [--json] [--every N] [--once]`.
 fn watch_command<'a>(alloc: Global) -> Result<Command<'a>, Error> {
     let every = number(
         alloc,
@@ -371,12 +374,13 @@ fn watch_command<'a>(alloc: Global) -> Result<Command<'a>, Error> {
         .required(false)
         .num_args(0..);
     let command = with_arg(Ok(command), addresses);
+    let command = with_arg(command, folder(alloc, "addr")?);
     let command = with_arg(command, json(alloc));
     let command = with_arg(command, every);
     with_arg(command, once)
 }
 
-/// `swim web [--of ADDR].. [--listen ADDR]`.
+/// `swim web [--of ADDR.. | --dir DIR] [--listen ADDR]`.
 fn web_command<'a>(alloc: Global) -> Result<Command<'a>, Error> {
     let of = option(alloc, "of", "ADDR", SHOWN).action(ArgAction::Append);
     let listen = option(
@@ -389,6 +393,7 @@ fn web_command<'a>(alloc: Global) -> Result<Command<'a>, Error> {
         .about("Serves what a member says over HTTP: a page, metrics, all rows and its health")
         .after_help(examples::WEB);
     let command = with_arg(Ok(command), of);
+    let command = with_arg(command, folder(alloc, "of")?);
     with_arg(command, listen.default_value("127.0.0.1:7080"))
 }
 
@@ -400,7 +405,7 @@ fn at_once<'a>(alloc: Global) -> Arg<'a> {
         .help("Ends at the answer to stop, and not once the member has ended")
 }
 
-/// `swim ctl [ADDR] LINE.. [--json] [--now]`.
+/// `swim ctl [ADDR | --dir DIR] LINE.. [--json] [--now]`.
 fn ctl_command<'a>(alloc: Global) -> Result<Command<'a>, Error> {
     let line =
         "The control socket, if it is another one, and then status, about, members, members A, counters, join A, leave, record, reload or stop";
@@ -412,6 +417,7 @@ fn ctl_command<'a>(alloc: Global) -> Result<Command<'a>, Error> {
         .about("Sends a control line and prints the answer")
         .after_help(examples::CTL);
     let command = with_arg(Ok(command), line);
+    let command = with_arg(command, option(alloc, "dir", "DIR", FOLDER));
     let command = with_arg(command, as_json);
     with_arg(command, at_once(alloc))
 }
@@ -483,7 +489,7 @@ fn with_beginning<'a>(
         .long("first")
         .action(ArgAction::SetTrue)
         .help("Begins a new member in the folder of --dir, where none is");
-    let ceiling = "The number above which a new member begins; 0 without it";
+    let ceiling = "The incarnation above which a new member begins; 0 without it";
     let ask =
         "The control socket of a member of its group, which tells the group, and what it holds of a new member: that one begins above";
     let command = with_arg(command, first);
@@ -514,7 +520,8 @@ fn up_command<'a>(alloc: Global) -> Result<Command<'a>, Error> {
         "The number of the group; a new member that joins nobody draws one",
     );
     let command = with_arg(command, group);
-    let control = "The control socket; SWIM_CONTROL, or else 127.0.0.1:7001, where the file is new";
+    let control =
+        "The control socket, a path with a slash or e.g. 127.0.0.1:7001; SWIM_CONTROL, or else `control` in the folder of both files, where they are new";
     let command = with_arg(command, option(alloc, "control", "ADDR", control));
     let preset = "The times that it takes: local, lan or wan";
     let command = with_arg(command, option(alloc, "preset", "P", preset));
@@ -610,14 +617,34 @@ fn up<'a>(alloc: Global, words: &ArgMatches<'a>) -> Result<Subcommand<'a>, Alloc
     }))
 }
 
+/// Which member the words of a command name.
+fn member<'a>(words: &ArgMatches<'a>) -> MemberWords<'a> {
+    MemberWords {
+        to: words.get_str("addr"),
+        dir: words.get_str("dir"),
+    }
+}
+
+/// What the words after a command ask for that stands for a control line.
+fn line<'a>(words: &ArgMatches<'a>, line: &'static str) -> Option<Subcommand<'a>> {
+    Some(Subcommand::Line {
+        of: member(words),
+        line,
+        as_json: words.get_flag("json"),
+        at_once: words.get_flag("now"),
+    })
+}
+
 /// What the words after `ctl` ask for; none where they name no line.
 fn ctl<'a>(alloc: Global, words: &ArgMatches<'a>) -> Result<Option<Subcommand<'a>>, AllocError> {
-    let said = ControlWords::of(alloc, words.get_strs("line").unwrap_or(&[]))?;
+    let dir = words.get_str("dir");
+    let said = ControlWords::of(alloc, words.get_strs("line").unwrap_or(&[]), dir.is_some())?;
     let Some(said) = said else {
         return Ok(None);
     };
     Ok(Some(Subcommand::Ctl {
         words: said,
+        dir,
         as_json: words.get_flag("json"),
         at_once: words.get_flag("now"),
     }))
@@ -631,6 +658,7 @@ fn watch<'a>(alloc: Global, words: &ArgMatches<'a>) -> Result<Option<Subcommand<
     };
     Ok(Some(Subcommand::Watch {
         to,
+        dir: words.get_str("dir"),
         as_json: words.get_flag("json"),
         every,
         once: words.get_flag("once"),
@@ -641,6 +669,7 @@ fn watch<'a>(alloc: Global, words: &ArgMatches<'a>) -> Result<Option<Subcommand<
 fn web<'a>(alloc: Global, words: &ArgMatches<'a>) -> Result<Subcommand<'a>, AllocError> {
     Ok(Subcommand::Web {
         of: texts(alloc, words, "of")?,
+        dir: words.get_str("dir"),
         listen: text(words, "listen"),
     })
 }
@@ -680,34 +709,22 @@ fn chosen<'a>(matches: &ArgMatches<'a>, all: &'a [String]) -> Option<Subcommand<
             shows: words.get_flag("show-settings"),
         }),
         "status" => Some(Subcommand::Status {
-            to: words.get_str("addr"),
+            of: member(words),
             as_json: words.get_flag("json"),
         }),
         "join" => Some(Subcommand::Join {
             peer: text(words, "peer"),
-            to: words.get_str("addr"),
-        }),
-        "leave" => Some(Subcommand::Leave {
-            to: words.get_str("addr"),
-        }),
-        "reload" => Some(Subcommand::Reload {
-            to: words.get_str("addr"),
-        }),
-        "record" => Some(Subcommand::Record {
-            to: words.get_str("addr"),
-        }),
-        "counters" => Some(Subcommand::Counters {
-            to: words.get_str("addr"),
-            as_json: words.get_flag("json"),
-        }),
-        "stop" => Some(Subcommand::Stop {
-            to: words.get_str("addr"),
-            at_once: words.get_flag("now"),
+            of: member(words),
         }),
         "members" => Some(Subcommand::Members {
-            to: words.get_str("addr"),
+            of: member(words),
             as_json: words.get_flag("json"),
         }),
+        "leave" => line(words, "leave"),
+        "reload" => line(words, "reload"),
+        "record" => line(words, "record"),
+        "counters" => line(words, "counters"),
+        "stop" => line(words, "stop"),
         "show" => Some(Subcommand::Show {
             file: text(words, "file"),
             as_json: words.get_flag("json"),

@@ -51,16 +51,17 @@ pub struct ControlWords<'a> {
 }
 
 impl<'a> ControlWords<'a> {
-    /// What these words name: the first is the control socket, unless a control line begins with it or with what stands before its first
-    /// space. None where no word is left for a line.
+    /// What these words name: the first is the control socket, unless the member is named beside them, or a control line begins with it
+    /// or with what stands before its first space. None where no word is left for a line.
     pub(crate) fn of(
         alloc: Global,
         words: &[&'a str],
+        is_named: bool,
     ) -> Result<Option<ControlWords<'a>>, AllocError> {
         let Some((first, rest)) = words.split_first() else {
             return Ok(None);
         };
-        let (to, said) = if begins_line(head_of(*first)) {
+        let (to, said) = if is_named || begins_line(head_of(*first)) {
             (None, words)
         } else {
             (Some(*first), rest)

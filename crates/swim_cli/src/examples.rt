@@ -67,8 +67,9 @@ pub(crate) const RUN: &str = "Examples:
 
 /// Examples of `swim status`.
 pub(crate) const STATUS: &str = "Examples:
-  swim status                        of the member at 127.0.0.1:7001, or at SWIM_CONTROL
-  swim status 10.0.0.1:7001 --json   of another one, as an object";
+  swim status                                    of the member whose folder is here, or of the service
+  swim status --dir swim-10.0.0.1:7000           of the member of this folder
+  swim status 10.0.0.1:7001 --json               of one whose control socket is TCP, as an object";
 
 /// Examples of `swim join`.
 pub(crate) const JOIN: &str = "Examples:
@@ -80,8 +81,8 @@ pub(crate) const LEAVE: &str = "Examples:
 
 /// Examples of `swim reload`.
 pub(crate) const RELOAD: &str = "Examples:
-  swim reload                 takes the keys that need no restart
-  swim reload 127.0.0.1:7001  the same of the member with this control socket";
+  swim reload                           takes the keys that need no restart
+  swim reload --dir swim-10.0.0.1:7000  the same of the member of this folder";
 
 /// Examples of `swim record`.
 pub(crate) const RECORD: &str = "Examples:
@@ -99,27 +100,27 @@ pub(crate) const STOP: &str = "Examples:
 
 /// Examples of `swim ctl`.
 pub(crate) const CTL: &str = "Examples:
-  swim ctl counters                            what the member has done since it began
-  swim ctl 127.0.0.1:7001 join 10.0.0.2:7000   has it join another one
-  swim ctl 127.0.0.1:7001 reload               has it read its settings again";
+  swim ctl counters                                 what the member has done since it began
+  swim ctl 127.0.0.1:7001 join 10.0.0.2:7000        has it join another one
+  swim ctl --dir swim-10.0.0.1:7000 members         the first thirty rows of the member of this folder";
 
 /// Examples of `swim members`.
 pub(crate) const MEMBERS: &str = "Examples:
-  swim members                        a table of all members
-  swim members 127.0.0.1:7001 --json  an object a line, for scripts";
+  swim members                                  a table of all members
+  swim members --dir swim-10.0.0.1:7000 --json  an object a line, for scripts";
 
 /// Examples of `swim watch`.
 pub(crate) const WATCH: &str = "Examples:
-  swim watch 127.0.0.1:7001                     each change, until it is stopped
-  swim watch 127.0.0.1:7001 --json --every 500  for scripts, twice a second
-  swim watch 10.0.0.1:7001 10.0.0.2:7001        the second one while the first does not answer";
+  swim watch                              each change, until it is stopped
+  swim watch --json --every 500           for scripts, twice a second
+  swim watch 10.0.0.1:7001 10.0.0.2:7001  the second one while the first does not answer";
 
 /// Examples of `swim web`.
 pub(crate) const WEB: &str = "Examples:
-  swim web --of 127.0.0.1:7001                          at http://127.0.0.1:7080
-  swim web --of 127.0.0.1:7001 --listen 127.0.0.1:8080  elsewhere
-  swim web --of 10.0.0.1:7001 --of 10.0.0.2:7001        of the second one while the first does not answer
-  swim web --of 10.0.0.1:7001 --of 10.0.9.1:7001        of both groups, if they are of two";
+  swim web                                        of the member whose folder is here, at http://127.0.0.1:7080
+  swim web --dir 1 --listen 127.0.0.1:8080        of another one, elsewhere
+  swim web --of 10.0.0.1:7001 --of 10.0.0.2:7001  of the second one while the first does not answer
+  swim web --of 10.0.0.1:7001 --of 10.0.9.1:7001  of both groups, if they are of two";
 
 /// Examples of `swim show`.
 pub(crate) const SHOW: &str = "Examples:

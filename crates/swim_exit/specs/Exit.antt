@@ -6,13 +6,14 @@ use Rattle.swim_exit.specs.declared.exits.Exit.{Exit}
 use Rattle.swim_exit.specs.declared.exits.Exit.TheVariants.{Address, Device, Expelled, File}
 use Rattle.swim_exit.specs.declared.exits.Exit.TheVariants.{Locked, Memory, NoLocks, Output}
 use Rattle.swim_exit.specs.declared.exits.Exit.TheVariants.{ReadOnly}
-use Rattle.swim_exit.specs.declared.exits.Exit.TheVariants.{Script, Settings, Unread}
+use Rattle.swim_exit.specs.declared.exits.Exit.TheVariants.{Script, Settings, Unread, Words}
 use Rattle.swim_exit.specs.declared.exits.TheConstants.{UNREAD}
 
 -- the exit status: 2 where a word, the settings or a script is at fault, 3 where the member was
 -- expelled and was to end then, 141 where nobody reads standard output any more, and 1 else
 abbrev pub ending_status : Exit → ℕ
 ending_status Address = 2
+ending_status Words = 2
 ending_status (Settings refusal) = 2
 ending_status (Script fault) = 2
 ending_status Expelled = 3

@@ -112,6 +112,9 @@ pub enum Exit {
     /// An endpoint among the words is none.
     #[error("address refused")]
     Address,
+    /// The words name several members, or several lines, where one has to be.
+    #[error("words refused")]
+    Words,
     /// A key of the settings is refused, or their text.
     #[error("settings refused {0}")]
     Settings(SettingsRefusal),
@@ -170,11 +173,11 @@ const OUTPUT: &str =
 
 /// What else to say where a socket of this process was refused.
 const SOCKET: &str =
-    "the addresses have to be this machine's and free (`ss -lntup`), and each member of a machine needs a `control` of its own (127.0.0.1:7001, if `--control` says no other)";
+    "the addresses have to be this machine's and free (`ss -lntup`), and each member of a machine needs a `control` of its own, a port or a path (`ss -lxp`)";
 
 /// What else to say where a member was not reached.
 const UNREACHED: &str =
-    "a member has to run with this address as its `control`: look whether it runs, and where it listens (`ss -lntp`)";
+    "a member has to run with this `control`: look whether it runs, and where it listens (`ss -lntp`, or `ss -lxp` for a path, which only the member's own user may use)";
 
 /// What else to say where a member did not answer in time.
 const SILENT: &str =
@@ -186,7 +189,7 @@ const NOT_ENDED: &str =
 
 /// What else to say where an address was refused.
 const ADDRESS: &str =
-    "an address is an IPv4 endpoint without leading zeros, such as 127.0.0.1:7001; where a member is asked, and at `up --join`, it may be a host name with a port too, such as db1.example:7001";
+    "an address is an IPv4 endpoint without leading zeros, such as 127.0.0.1:7001; where a member is asked, it may be the path of its control socket, with a slash, and there and at `up --join` a host name with a port, such as db1.example:7001";
 
 /// What else to say where a host was refused.
 const HOST: &str =
@@ -315,7 +318,9 @@ impl Exit {
         ensures { exit_status result ≡ ending_status self.now }
     {
         match self {
-            Exit::Address | Exit::Settings(_) | Exit::Script(_) => ExitCode::from(REFUSED),
+            Exit::Address | Exit::Words | Exit::Settings(_) | Exit::Script(_) => {
+                ExitCode::from(REFUSED)
+            }
             Exit::Expelled => ExitCode::from(EXPELLED),
             Exit::Unread => ExitCode::from(UNREAD),
             _ => ExitCode::from(FAILED),

@@ -19,7 +19,9 @@ pub struct Failure {
 
 /// What is wrong with a word that is not the address that it has to be.
 fn wrong_with(word: &str) -> &'static str {
-    if read_host(word.as_bytes()).is_some() {
+    if word.as_bytes().contains(&b'/') {
+        "it is a path, which is no endpoint; that of a control socket has at most 103 bytes"
+    } else if read_host(word.as_bytes()).is_some() {
         "it has a host name, where an IPv4 address has to be"
     } else if word.as_bytes().contains(&b':') {
         "it is no IPv4 address with a port of 1 to 65535"

@@ -35,7 +35,9 @@ impl Takes {
             Key::File => Takes::Text("the path of the state file"),
             Key::Group => Takes::Number(0, GROUP_MAX),
             Key::Me => Takes::Text("an endpoint, e.g. \"10.0.0.1:7000\""),
-            Key::Control => Takes::Text("an endpoint, e.g. \"127.0.0.1:7001\""),
+            Key::Control => Takes::Text(
+                "a path with a slash, at most 103 bytes, or an endpoint, e.g. \"127.0.0.1:7001\"",
+            ),
             Key::Preset => Takes::Text("\"local\", \"lan\" or \"wan\""),
             Key::TickMs => Takes::Number(1, 60_000),
             Key::Lambda => Takes::Number(1, 16),

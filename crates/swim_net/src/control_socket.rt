@@ -7,9 +7,7 @@
 ghost use Rattle.std.specs.Prelude.{◌≡◌, ◌++◌, ◌∷◌, []};
 ghost use Rattle.swim_net.specs.Moves.{moved_in};
 
-use mio::event::Source;
-use mio::net::{TcpListener, TcpStream};
-use mio::{Interest, Registry, Token};
+use crate::control_stream::{ControlListener, ControlStream};
 use std::io::{self, Read, Write};
 use std::os::fd::{AsRawFd, RawFd};
 use swim_trace::{Pairs, Trace};
@@ -17,13 +15,13 @@ use swim_trace::{Pairs, Trace};
 /// A socket at which connections come in. It never waits.
 #[derive(Drop)]
 pub(crate) struct ListeningSocket {
-    listener: TcpListener,
+    listener: ControlListener,
 }
 
 /// The end of a connection from which is read. It never waits.
 #[derive(Drop)]
 pub(crate) struct IncomingStream {
-    stream: TcpStream,
+    stream: ControlStream,
     /// What the buffer held after each read, and what was answered.
     pub(crate) answers: Pairs<Trace<u8>, io::Result<usize>>,
 }
@@ -31,25 +29,34 @@ pub(crate) struct IncomingStream {
 /// The end of a connection to which is written. It never waits.
 #[derive(Drop)]
 pub struct OutgoingStream {
-    stream: TcpStream,
+    stream: ControlStream,
     /// What was to go out by each write, and what was answered.
     pub(crate) answers: Pairs<Trace<u8>, io::Result<usize>>,
 }
 
 impl ListeningSocket {
-    pub(crate) fn new(listener: TcpListener) -> ListeningSocket {
-        ListeningSocket { listener }
+    /// The socket of this listener, which does not wait any more. An error is the system's.
+    pub(crate) fn new(listener: ControlListener) -> io::Result<ListeningSocket> {
+        listener.stop_waiting()?;
+        Ok(ListeningSocket { listener })
     }
 
-    /// The next connection that has come. An error is that none has, or the system's.
-    pub(crate) fn accept(&self) -> io::Result<TcpStream> {
-        let (stream, _) = self.listener.accept()?;
+    /// The next connection that has come, which does not wait either. An error is that none has, or the system's.
+    pub(crate) fn accept(&self) -> io::Result<ControlStream> {
+        let stream = self.listener.accept()?;
+        stream.stop_waiting()?;
         Ok(stream)
     }
 }
 
+impl AsRawFd for ListeningSocket {
+    fn as_raw_fd(&self) -> RawFd {
+        self.listener.as_raw_fd()
+    }
+}
+
 impl IncomingStream {
-    pub(crate) fn new(stream: TcpStream) -> IncomingStream
+    pub(crate) fn new(stream: ControlStream) -> IncomingStream
         ensures { result.answers.items ≡ [] }
     {
         IncomingStream {
@@ -75,7 +82,7 @@ impl Read for IncomingStream {
 }
 
 impl OutgoingStream {
-    pub(crate) fn new(stream: TcpStream) -> OutgoingStream
+    pub(crate) fn new(stream: ControlStream) -> OutgoingStream
         ensures { result.answers.items ≡ [] }
     {
         OutgoingStream {

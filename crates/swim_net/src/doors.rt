@@ -1,18 +1,19 @@
-//! Control connections over TCP.
+//! Control connections.
 
 use crate::connection::{ConnectionReader, ConnectionWriter, Patience};
 use crate::control_socket::{IncomingStream, ListeningSocket, OutgoingStream};
+use crate::control_stream::{ControlListener, ControlStream};
 use crate::waits::Waits;
 use mio::Interest;
-use mio::net::{TcpListener as Listener, TcpStream as Stream};
+use mio::unix::SourceFd;
 use std::io;
-use std::net::{TcpListener, TcpStream};
+use std::os::fd::AsRawFd;
 use std::time::{Clock, Duration, Instant};
 use swim_shell::Doors;
 
-/// Control connections over TCP.
+/// Control connections, which come in at a TCP port or at a path.
 #[derive(Drop)]
-pub struct TcpDoors<'a, C: Clock> {
+pub struct ControlDoors<'a, C: Clock> {
     listener: ListeningSocket,
     waits: &'a Waits,
     clock: &'a C,
@@ -25,21 +26,21 @@ type Ends<'a, C> = (
     ConnectionWriter<'a, OutgoingStream, C>,
 );
 
-impl<'a, C: Clock> TcpDoors<'a, C> {
+impl<'a, C: Clock> ControlDoors<'a, C> {
     /// Doors over a bound listener, which wait as long as `wait` at most; an open connection whose second is over is found so
     /// soon after it. The waits are those of the thread that calls them, and it waits in none beside them. An error is the
     /// system's: it watches too many sockets.
     pub fn new(
-        listener: TcpListener,
+        listener: ControlListener,
         waits: &'a Waits,
         clock: &'a C,
         wait: Duration,
-    ) -> io::Result<TcpDoors<'a, C>> {
-        listener.set_nonblocking(true)?;
-        let mut listener = Listener::from_std(listener);
-        waits.watch(&mut listener, Interest::READABLE)?;
-        Ok(TcpDoors {
-            listener: ListeningSocket::new(listener),
+    ) -> io::Result<ControlDoors<'a, C>> {
+        let listener = ListeningSocket::new(listener)?;
+        let descriptor = listener.as_raw_fd();
+        waits.watch(&mut SourceFd(&descriptor), Interest::READABLE)?;
+        Ok(ControlDoors {
+            listener,
             waits,
             clock,
             wait,
@@ -56,12 +57,12 @@ impl<'a, C: Clock> TcpDoors<'a, C> {
     }
 
     /// Both ends of a connection that begins now.
-    fn ends_of(&self, stream: Stream) -> io::Result<Ends<'a, C>> {
+    fn ends_of(&self, stream: ControlStream) -> io::Result<Ends<'a, C>> {
         let began = Instant::now(self.clock)?;
-        let stream = TcpStream::from(stream);
-        let other = Stream::from_std(stream.try_clone()?);
-        let mut stream = Stream::from_std(stream);
-        self.waits.watch(&mut stream, Interest::READABLE)?;
+        let other = stream.try_clone()?;
+        let descriptor = stream.as_raw_fd();
+        self.waits
+            .watch(&mut SourceFd(&descriptor), Interest::READABLE)?;
         Ok((
             ConnectionReader::new(IncomingStream::new(stream), self.patience(began)),
             ConnectionWriter::new(OutgoingStream::new(other), self.patience(began)),
@@ -69,7 +70,7 @@ impl<'a, C: Clock> TcpDoors<'a, C> {
     }
 }
 
-impl<'a, C: Clock> Doors for TcpDoors<'a, C> {
+impl<'a, C: Clock> Doors for ControlDoors<'a, C> {
     type Reader = ConnectionReader<'a, C>;
 
     type Writer = ConnectionWriter<'a, OutgoingStream, C>;

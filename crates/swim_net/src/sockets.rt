@@ -3,12 +3,12 @@
 ghost use Rattle.std.specs.Prelude.{◌≡◌, ◌*◌, min};
 ghost use Rattle.std.specs.Duration.{as_nanos};
 
-use crate::doors::TcpDoors;
+use crate::control_stream::ControlListener;
+use crate::doors::ControlDoors;
 use crate::udp::{UdpInbound, UdpLink};
 use crate::waits::{SocketAlarm, Waits};
 use log::Log;
 use std::io;
-use std::net::TcpListener;
 use std::time::{Clock, Duration};
 
 /// No socket waits longer, in milliseconds.
@@ -43,7 +43,7 @@ pub struct Sockets<'a, C: Clock + Log> {
     /// What sends them.
     pub link: UdpLink<'a, C>,
     /// Where control connections come in.
-    pub doors: TcpDoors<'a, C>,
+    pub doors: ControlDoors<'a, C>,
     /// What ends a wait for datagrams, and one for control.
     pub alarms: [SocketAlarm; 2],
 }
@@ -54,13 +54,13 @@ impl<'a, C: Clock + Log> Sockets<'a, C> {
     /// system's: it watches too many sockets.
     pub fn new(
         datagrams: BoundDatagrams<'a, C>,
-        control: TcpListener,
+        control: ControlListener,
         clock: &'a C,
         waits: &'a Waits,
         connections: SocketAlarm,
         wait: Duration,
     ) -> io::Result<Sockets<'a, C>> {
-        let doors = TcpDoors::new(control, waits, clock, doors_wait_of(wait))?;
+        let doors = ControlDoors::new(control, waits, clock, doors_wait_of(wait))?;
         let (inbound, link, alarm) = datagrams;
         Ok(Sockets {
             inbound,

@@ -14,6 +14,7 @@ mod reading;
 mod rereading;
 mod running;
 mod settings_reading;
+mod socket_file;
 mod state_file;
 mod surroundings;
 

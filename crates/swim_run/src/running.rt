@@ -25,9 +25,9 @@ use std::time::{Clock, Duration};
 use swim_exit::{Exit, Failure};
 use swim_log::LogLevel;
 use swim_member::Settings;
-use swim_net::Sockets;
+use swim_net::{Sockets, address_of};
 use swim_serve::{DoorsAndChores, Joins, LifeSetup, Outside, run_kept};
-use swim_settings::{RunSettings, show_settings};
+use swim_settings::{ControlPlace, RunSettings, show_settings};
 use swim_start::key_of;
 
 /// The settings that a file says, as the text of a file with all keys, but for `random_key`. Nothing else is opened, and nothing is
@@ -94,6 +94,16 @@ fn tell_up<T: Log>(logged: &T, level: &LogLevel, told: &RunSettings, number: u64
 fn tell_rules<T: Log>(logged: &T, config: &str, told: &RunSettings) {
     if !told.has_rules {
         warn!(logged; "{config} has no `rules`, so this member has rules 1: a new group takes `rules = 2` in the file of each member, and one that runs changes all at once; `rules = 1` ends this line (SETTINGS.md, \"From rules 1 to rules 2\")");
+    }
+}
+
+/// Says that others than programs of this machine may control the member, if that is so.
+fn tell_control<T: Log>(logged: &T, told: &RunSettings) {
+    let ControlPlace::Tcp(control) = told.control else {
+        return;
+    };
+    if !address_of(control).ip().is_loopback() {
+        warn!(logged; "control {control} is open to whoever reaches that address, and who does can stop this member: `control = \"PATH\"` is a socket that only this user may use (SECURITY.md)");
     }
 }
 
@@ -182,7 +192,7 @@ pub fn run<T: Threads + Wait + Log + Clock + Send + Sync + Copy + Drop>(
     let key = drawn.map_err(|error: io::Error| undrawn(alloc, &error))?;
     let (waits, connections) = waits(rt, rt.alloc())?;
     // The control socket stays open until all else is closed: who finds it closed may start the next life at once.
-    let (sockets, _control) = bind(rt, logged, &waits, connections, &told)?;
+    let (sockets, control) = bind(rt, logged, &waits, connections, &told)?;
     let handed = HandedOver {
         listing: Mutex::new(JoinList::new(&told.join)),
         reread: Mutex::new(None),
@@ -193,6 +203,9 @@ pub fn run<T: Threads + Wait + Log + Clock + Send + Sync + Copy + Drop>(
         level,
         config,
     };
+    tell_control(logged, &told);
     let start = StartParts { key, file, sockets };
-    live(around, told, &handed, start)
+    let ended = live(around, told, &handed, start);
+    control.close(rt);
+    ended
 }

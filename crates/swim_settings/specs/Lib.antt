@@ -1,3 +1,4 @@
+pub mod Controls
 pub mod Keys
 pub mod Levels
 pub mod Presets

@@ -5,6 +5,7 @@ use Rattle.std.specs.List.{filter}
 use Rattle.swim_settings.specs.declared.key.Key.{Key}
 use Rattle.swim_settings.specs.declared.key.Key.TheVariants as key
 use Rattle.swim_settings.specs.declared.settings.RunSettings.{RunSettings}
+use Rattle.swim_settings.specs.Controls.{is_same_control}
 use Rattle.swim_settings.specs.Keys.{keys}
 use Rattle.swim_settings.specs.Shown.{shown_number, shown_text}
 
@@ -45,7 +46,7 @@ same_text _ _ = false
 -- both have the same at a key that is not taken anew
 abbrev pub agree_at : RunSettings → RunSettings → Key → Bool
 agree_at now then key.Me = now.settings.me == then.settings.me
-agree_at now then key.Control = now.control == then.control
+agree_at now then key.Control = is_same_control now.control then.control
 agree_at now then key.RandomKey = same_text now.random_key then.random_key
 agree_at now then key =
     same_number (shown_number key now) (shown_number key then)

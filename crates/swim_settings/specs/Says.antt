@@ -21,6 +21,7 @@ use Rattle.swim_settings.specs.declared.key.Key.TheVariants.{RandomKey, Join, Re
 use Rattle.swim_settings.specs.declared.key.Key.TheVariants.{Expelled, Record, RecordEras}
 use Rattle.swim_member.specs.declared.settings.TheConstants.{HELPERS_MAX, BLOCK_MAX}
 use Rattle.swim_member.specs.declared.settings.Settings.{Settings}
+use Rattle.swim_settings.specs.declared.control.ControlPlace.{ControlPlace}
 use Rattle.swim_settings.specs.declared.level.Level.{Level}
 use Rattle.swim_settings.specs.declared.refusal.SettingsRefusal.{SettingsRefusal}
 use Rattle.swim_settings.specs.declared.refusal.SettingsRefusal.TheVariants as refusals
@@ -30,6 +31,7 @@ use Rattle.swim_settings.specs.declared.place.Place.{Place}
 use Rattle.swim_settings.specs.declared.place.Place.TheVariants as place
 use Rattle.swim_settings.specs.declared.preset.Preset.{Preset}
 use Rattle.swim_settings.specs.declared.preset.DefaultTimes.{DefaultTimes}
+use Rattle.swim_settings.specs.Controls.{control_text, IsControl}
 use Rattle.swim_settings.specs.Keys.{key_text, keys, keys_before}
 use Rattle.swim_settings.specs.Levels.{level_text}
 use Rattle.swim_settings.specs.Presets.{preset_text, times_of}
@@ -137,7 +139,7 @@ pub record Says (table : Members) (run : RunSettings) : Type 0 where
   pub file : text_at File table ≡ Some (string_bytes run.file)
   pub group : number_at Group table ≡ Some run.settings.group
   pub me : text_at Me table ≡ Some (endpoint_text run.settings.me)
-  pub control : text_at Control table ≡ Some (endpoint_text run.control)
+  pub control : text_at Control table ≡ Some (control_text run.control)
   pub preset : IsPreset table run.preset
   pub tick_ms : IsNumber TickMs (times_of run.preset).tick_ms table run.tick_ms
   pub member : SaysMember (times_of run.preset) table run.settings
@@ -157,6 +159,10 @@ pub record Says (table : Members) (run : RunSettings) : Type 0 where
 -- the endpoint whose text is there
 abbrev pub IsEndpointAt : Key → Members → ℕ → Type 0
 IsEndpointAt key table e = (text_at key table ≡ Some (endpoint_text e)) × IsEndpoint e
+
+-- the control socket whose text is there
+abbrev pub IsControlAt : Members → ControlPlace → Type 0
+IsControlAt table place = (text_at Control table ≡ Some (control_text place)) × IsControl place
 
 -- the number there, or the default, from the least to the most
 abbrev pub IsWithin : Key → ℕ → ℕ → ℕ → Members → ℕ → Type 0
@@ -178,7 +184,7 @@ abbrev pub IsRefused : Key → Members → Type 0
 IsRefused File table = text_at File table ≡ None
 IsRefused Group table = number_at Group table ≡ None
 IsRefused Me table = No (IsEndpointAt Me table)
-IsRefused Control table = No (IsEndpointAt Control table)
+IsRefused Control table = No (IsControlAt table)
 IsRefused key.Preset table = No (IsPreset table)
 IsRefused TickMs table = IsNoTime TickMs (λ times. times.tick_ms) 1 60000 table
 IsRefused Lambda table = IsNoTime Lambda (λ times. times.lambda) 1 16 table
@@ -213,7 +219,7 @@ abbrev pub IsTaken : Key → Members → Type 0
 IsTaken File table = (text : List ℕ) × (text_at File table ≡ Some text)
 IsTaken Group table = (n : ℕ) × (number_at Group table ≡ Some n)
 IsTaken Me table = (e : ℕ) × (text_at Me table ≡ Some (endpoint_text e))
-IsTaken Control table = (e : ℕ) × (text_at Control table ≡ Some (endpoint_text e))
+IsTaken Control table = (place : ControlPlace) × (text_at Control table ≡ Some (control_text place))
 IsTaken key.Preset table = (preset : Option Preset) × IsPreset table preset
 IsTaken TickMs table = IsTime TickMs (λ times. times.tick_ms) 1 60000 table
 IsTaken Lambda table = IsTime Lambda (λ times. times.lambda) 1 16 table

@@ -6,6 +6,7 @@ use Rattle.swim_words.specs.Words.{endpoint_text}
 use Rattle.swim_settings.specs.declared.key.Key.{Key}
 use Rattle.swim_settings.specs.declared.key.Key.TheVariants as key
 use Rattle.swim_settings.specs.declared.settings.RunSettings.{RunSettings}
+use Rattle.swim_settings.specs.Controls.{control_text}
 use Rattle.swim_settings.specs.Levels.{level_text}
 use Rattle.swim_settings.specs.Presets.{preset_text}
 use Rattle.swim_settings.specs.Says.{AreTexts}
@@ -40,7 +41,7 @@ shown_text _ run = None
 -- what stands at the key says the setting. The generator's key does not stand there
 abbrev pub ShowsSetting : Key → RunSettings → Option Data → Type 0
 ShowsSetting key.Me run value = value ≡ Some (string (endpoint_text run.settings.me))
-ShowsSetting key.Control run value = value ≡ Some (string (endpoint_text run.control))
+ShowsSetting key.Control run value = value ≡ Some (string (control_text run.control))
 ShowsSetting key.Join run value =
     (items : Items) × (value ≡ Some (array items)) × AreTexts items run.join.items
 ShowsSetting key.RandomKey run value = value ≡ None

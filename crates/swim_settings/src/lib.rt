@@ -2,6 +2,7 @@
 //! another value than it takes, in the order of `Key::ALL`, and else at a key that is none of these.
 #![tactic(auto)]
 
+mod control;
 mod detection;
 mod key;
 mod level;
@@ -14,6 +15,7 @@ mod shown;
 mod table;
 mod value;
 
+pub use control::{CONTROL_PATH_MAX, ControlPath, ControlPlace, NamedControl, read_control};
 pub use key::{KEYS, Key};
 pub use level::Level;
 pub use place::{HostName, Place};

@@ -60,7 +60,7 @@ fn agree_at(now: &RunSettings, then: &RunSettings, key: Key) -> bool
 {
     match key {
         Key::Me => now.settings.me == then.settings.me,
-        Key::Control => now.control == then.control,
+        Key::Control => now.control.is_same(&then.control),
         Key::RandomKey => is_same_key(now.random_key, then.random_key),
         key => {
             is_same_number(number_of(key, now), number_of(key, then))

@@ -11,6 +11,7 @@ ghost use Rattle.swim_settings.specs.Says.{AreTakenBefore, AreTimes, IsFolder, I
 ghost use Rattle.swim_settings.specs.Unknown.{AreNamed};
 ghost use Rattle.swim_settings.specs.declared.key.Key.TheVariants as key;
 
+use crate::control::ControlPlace;
 use crate::key::Key;
 use crate::level::Level;
 use crate::place::Place;
@@ -18,8 +19,8 @@ use crate::preset::{DefaultTimes, Preset};
 use crate::refusal::SettingsRefusal;
 use crate::table::{read_table, refuse_unknown};
 use crate::value::{
-    has_key, read_bytes, read_choice, read_endpoint_at, read_folder, read_number, read_places,
-    read_text, read_within, read_word,
+    has_key, read_bytes, read_choice, read_control_at, read_endpoint_at, read_folder, read_number,
+    read_places, read_text, read_within, read_word,
 };
 use arrayvec::ArrayVec;
 use std::alloc::Global;
@@ -39,8 +40,8 @@ pub struct RunSettings {
     pub settings: Settings,
     /// `rules`: whether the file has it. The settings of a member without it have rules 1.
     pub has_rules: bool,
-    /// `control`: the endpoint of the control socket.
-    pub control: Endpoint,
+    /// `control`: where the control socket is.
+    pub control: ControlPlace,
     /// `preset`: whose times stand for those that the file has not, if it names one.
     pub preset: Option<Preset>,
     /// `tick_ms`: milliseconds from one tick to the next, 1 to 60,000.
@@ -150,7 +151,7 @@ fn read_keys(alloc: Global, table: &Table) -> Result<RunSettings, SettingsRefusa
     let file = read_text(table, Key::File)?;
     let group = read_number(table, Key::Group)?;
     let me = read_endpoint_at(table, Key::Me)?;
-    let control = read_endpoint_at(table, Key::Control)?;
+    let control = read_control_at(table)?;
     let preset = read_word(table, Key::Preset, &Preset::ALL)?;
     let times = DefaultTimes::of(preset);
     let tick_ms = read_within(table, Key::TickMs, times.tick_ms, 1, 60_000)?;

@@ -8,6 +8,7 @@ ghost use Rattle.swim_settings.specs.Ranges.{AreInRange};
 ghost use Rattle.swim_settings.specs.Says.{AreTexts};
 ghost use Rattle.swim_settings.specs.Shown.{shown_number, shown_text, ShowsSetting};
 
+use crate::control::value_of_control;
 use crate::detection::write_detection;
 use crate::key::Key;
 use crate::place::{Place, value_of_place};
@@ -97,7 +98,7 @@ fn value_of(alloc: Global, key: Key, run: &RunSettings) -> Result<Option<Value>,
     }
     match key {
         Key::Me => Ok(Some(value_of_endpoint(alloc, run.settings.me)?)),
-        Key::Control => Ok(Some(value_of_endpoint(alloc, run.control)?)),
+        Key::Control => Ok(Some(value_of_control(alloc, &run.control)?)),
         Key::Join => Ok(Some(Value::from(texts_of(alloc, run.join.as_slice())?))),
         _ => Ok(None),
     }

@@ -7,9 +7,11 @@ ghost use Rattle.toml.specs.Data.{as_str};
 ghost use Rattle.toml.specs.View.{view, items_view, table_view};
 ghost use Rattle.swim_wire.specs.Numbers.{IsEndpoint};
 ghost use Rattle.swim_words.specs.Words.{endpoint_text, No};
-ghost use Rattle.swim_settings.specs.Says.{value_at, text_at, number_at, IsNumber, IsWithin, IsEndpointAt, IsChoice, IsFolder, IsPlace, IsWordAt, AreBytes, AreTexts, ArePlaces};
+ghost use Rattle.swim_settings.specs.Says.{value_at, text_at, number_at, IsNumber, IsWithin, IsControlAt, IsEndpointAt, IsChoice, IsFolder, IsPlace, IsWordAt, AreBytes, AreTexts, ArePlaces};
+ghost use Rattle.swim_settings.specs.declared.key.Key.TheVariants as keys;
 ghost use Rattle.swim_settings.specs.declared.refusal.SettingsRefusal.TheVariants as refusals;
 
+use crate::control::{ControlPlace, as_control};
 use crate::key::Key;
 use crate::place::{Place, as_place};
 use crate::refusal::SettingsRefusal;
@@ -162,6 +164,18 @@ pub(crate) fn read_endpoint_at(table: &Table, key: Key) -> Result<Endpoint, Sett
     match find(table, key) {
         Some(value) => as_endpoint(value).ok_or(SettingsRefusal::Key(key)),
         None => Err(SettingsRefusal::Key(key)),
+    }
+}
+
+/// The control socket at its key, which has to be there.
+pub(crate) fn read_control_at(table: &Table) -> Result<ControlPlace, SettingsRefusal>
+    ensures place { IfOk result (IsControlAt (table_view table.now)) }
+    ensures none { IfErr result (λ refusal. (refusal ≡ refusals.Key keys.Control)
+        × No (IsControlAt (table_view table.now))) }
+{
+    match find(table, Key::Control) {
+        Some(value) => as_control(value).ok_or(SettingsRefusal::Key(Key::Control)),
+        None => Err(SettingsRefusal::Key(Key::Control)),
     }
 }
 

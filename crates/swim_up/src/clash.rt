@@ -29,7 +29,7 @@ pub(crate) fn clash_of(
         Some(Key::Group)
     } else if told.settings.me != wanted.settings.me {
         Some(Key::Me)
-    } else if given.control && told.control != wanted.control {
+    } else if given.control && !told.control.is_same(&wanted.control) {
         Some(Key::Control)
     } else if given.preset && told.preset != wanted.preset {
         Some(Key::Preset)

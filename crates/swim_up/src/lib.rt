@@ -3,6 +3,7 @@
 
 mod asking;
 mod clash;
+mod finding;
 mod folder;
 mod grouping;
 mod lacking;
@@ -11,4 +12,5 @@ mod preparing;
 mod said;
 mod text;
 
+pub use finding::{control_here, control_in};
 pub use preparing::prepare;

@@ -14,7 +14,9 @@ use std::{env, fs, io};
 use swim_cli::{UpWords, judge_ceiling, make_first};
 use swim_exit::{Exit, Failure};
 use swim_run::{settings_at, try_addresses};
-use swim_settings::{JOIN_MAX, Key, RunSettings, SettingsRefusal, read_settings};
+use swim_settings::{
+    CONTROL_PATH_MAX, JOIN_MAX, Key, RunSettings, SettingsRefusal, read_control, read_settings,
+};
 use swim_state::InitFault;
 use swim_wire::Endpoint;
 use swim_words::{read_endpoint, read_host};
@@ -29,6 +31,8 @@ struct Paths {
     settings: String,
     /// The state file of a member that has no settings yet.
     state: String,
+    /// Its control socket, where no word names another one.
+    control: String,
 }
 
 /// A path, from the root on.
@@ -57,10 +61,12 @@ fn paths_in(alloc: Global, folder: String) -> Result<Paths, AllocError> {
     let name = folder.as_str();
     let settings = format!(in alloc; "{name}/member.toml")?;
     let state = format!(in alloc; "{name}/member.state")?;
+    let control = format!(in alloc; "{name}/control")?;
     Ok(Paths {
         folder,
         settings,
         state,
+        control,
     })
 }
 
@@ -73,6 +79,14 @@ fn is_there(rt: &HostRuntime, called: &str, path: &str) -> Result<bool, Failure>
 fn judge(alloc: Global, called: &str, word: &str) -> Result<Endpoint, Failure> {
     match read_endpoint(word.as_bytes()) {
         Some(endpoint) => Ok(endpoint),
+        None => Err(Failure::of_address(alloc, called, word)),
+    }
+}
+
+/// Refuses a control socket, which is called so, where it is neither a path with a slash nor an endpoint.
+fn judge_control(alloc: Global, called: &str, word: &str) -> Result<(), Failure> {
+    match read_control(word) {
+        Some(_) => Ok(()),
         None => Err(Failure::of_address(alloc, called, word)),
     }
 }
@@ -93,6 +107,12 @@ fn refused(alloc: Global, refusal: SettingsRefusal, words: &UpWords<'_>) -> Fail
     let preset = words.preset.unwrap_or("");
     if refusal == SettingsRefusal::Key(Key::Join) {
         let about = format_args!("--join: it takes {JOIN_MAX} at most");
+        return Failure::about(alloc, Exit::Settings(refusal), about);
+    }
+    if refusal == SettingsRefusal::Key(Key::Control) {
+        let about = format_args!(
+            "the folder's path is too long for a control socket in it, whose own has {CONTROL_PATH_MAX} bytes at most: name another one by --control, a shorter path or e.g. 127.0.0.1:7001"
+        );
         return Failure::about(alloc, Exit::Settings(refusal), about);
     }
     let about = format_args!("--preset {preset:?}: it takes local, lan or wan");
@@ -343,12 +363,14 @@ fn make_all(
     paths: &Paths,
     words: &UpWords<'_>,
     me: Endpoint,
-    usual: &str,
+    named: Option<&str>,
 ) -> Result<(), Failure> {
     let alloc = rt.alloc();
     let (folder, settings) = (paths.folder.as_str(), paths.settings.as_str());
     let unknown = |error: io::Error| Failure::of_file(alloc, "folder", folder, &error);
     let state = whole_path(rt, paths.state.as_str()).map_err(&unknown)?;
+    let control = whole_path(rt, paths.control.as_str()).map_err(&unknown)?;
+    let usual = named.unwrap_or(control.as_str());
     settings_of(
         alloc,
         state.as_str(),
@@ -371,13 +393,17 @@ fn make_all(
 
 /// Makes what the member of these words lacks, and gives the path of its settings. A folder that others may write is refused. Where its
 /// settings are there, nothing is made: they have to say what the words do, and their state file has to be there. In a folder that the
-/// words name nothing is made where nothing is, unless they say that a member begins. Where the words name no control socket, new settings have the
-/// usual one, which is that of `SWIM_CONTROL`, if that is set.
-pub fn prepare(rt: &HostRuntime, words: &UpWords<'_>, usual: &str) -> Result<String, Failure> {
+/// words name nothing is made where nothing is, unless they say that a member begins. Where the words name no control socket, new settings have that
+/// of `SWIM_CONTROL`, if that is set and so given here, or else one in the folder.
+pub fn prepare(
+    rt: &HostRuntime,
+    words: &UpWords<'_>,
+    named: Option<&str>,
+) -> Result<String, Failure> {
     let alloc = rt.alloc();
     let me = judge(alloc, "--me", words.me)?;
     if let Some(control) = words.control {
-        judge(alloc, "--control", control)?;
+        judge_control(alloc, "--control", control)?;
     }
     judge_joins(alloc, words)?;
     let folder = folder_of(alloc, words).map_err(lacks_memory)?;
@@ -386,10 +412,10 @@ pub fn prepare(rt: &HostRuntime, words: &UpWords<'_>, usual: &str) -> Result<Str
     if is_there(rt, "settings", paths.settings.as_str())? {
         keep(rt, &paths, words, UNNAMED)?;
     } else {
-        if words.control.is_none() {
-            judge(alloc, "SWIM_CONTROL", usual)?;
+        if let (None, Some(control)) = (words.control, named) {
+            judge_control(alloc, "SWIM_CONTROL", control)?;
         }
-        make_all(rt, &paths, words, me, usual)?;
+        make_all(rt, &paths, words, me, named)?;
     }
     Ok(paths.settings)
 }

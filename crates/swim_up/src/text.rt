@@ -20,7 +20,9 @@ fn comment_of(key: Key) -> &'static str {
         }
         Key::Group => "# The number of the group, the same for all its members.",
         Key::Me => "# The member: its address and its UDP port, by which the others reach it.",
-        Key::Control => "# The control socket, TCP. Who reaches it controls the member.",
+        Key::Control => {
+            "# The control socket. Who may use that of a path, or reaches that of an address, controls the member."
+        }
         Key::Preset => "# Whose times it takes, the same for all members of the group.",
         Key::Join => "# Whom it joins after the start, at most 8. One that runs is enough.",
         Key::Rules => {

@@ -47,7 +47,7 @@ fn look_at_any<R: Net<Stream = TcpStream> + Clock + AllocGlobal>(
 /// The group of the member whose control socket a word names; none where it does not answer, or does not tell that.
 fn group_at<R: Net<Stream = TcpStream> + Clock + AllocGlobal>(rt: &R, word: &str) -> Option<u64> {
     let to = find(rt, word).ok()?;
-    let about = ask_about(rt, to).ok()??;
+    let about = ask_about(rt, &to).ok()??;
     Some(about.who.group)
 }
 

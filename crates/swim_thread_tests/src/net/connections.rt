@@ -8,7 +8,7 @@ use std::os::fd::{AsRawFd, RawFd};
 use std::test::Fail;
 use std::thread::join;
 use std::time::{Duration, Instant};
-use swim_net::{SocketAlarm, TcpDoors, Waits};
+use swim_net::{ControlDoors, ControlListener, SocketAlarm, Waits};
 use swim_shell::{Alarm, Doors};
 
 /// How many connections come one after the other.
@@ -27,7 +27,10 @@ fn short() -> Duration {
 fn alarm_ends_wait(rt: HostRuntime) -> Result<(), Fail> {
     let listener = given(&rt, TcpListener::bind(&rt, address(0)));
     let (waits, alarm) = given(&rt, Waits::new(&rt, rt.alloc()));
-    let mut doors = given(&rt, TcpDoors::new(listener, &waits, &rt, long()));
+    let mut doors = given(
+        &rt,
+        ControlDoors::new(ControlListener::Tcp(listener), &waits, &rt, long()),
+    );
     let start = given(&rt, Instant::now(&rt));
     holds(&rt, doors.next().is_none());
     let _ = join(&rt, || doors.wait(long()), || ring_later(&rt, &alarm));
@@ -42,7 +45,10 @@ fn connection_ends_wait(rt: HostRuntime) -> Result<(), Fail> {
     let listener = given(&rt, TcpListener::bind(&rt, address(0)));
     let port = given(&rt, listener.local_addr()).port();
     let (waits, _) = given(&rt, Waits::new(&rt, rt.alloc()));
-    let mut doors = given(&rt, TcpDoors::new(listener, &waits, &rt, long()));
+    let mut doors = given(
+        &rt,
+        ControlDoors::new(ControlListener::Tcp(listener), &waits, &rt, long()),
+    );
     let start = given(&rt, Instant::now(&rt));
     let (made, _) = join(
         &rt,
@@ -75,7 +81,10 @@ fn read_of_nothing(rt: HostRuntime) -> Result<(), Fail> {
         TcpStream::connect(&rt, given(&rt, listener.local_addr())),
     );
     let (waits, _) = given(&rt, Waits::new(&rt, rt.alloc()));
-    let mut doors = given(&rt, TcpDoors::new(listener, &waits, &rt, long()));
+    let mut doors = given(
+        &rt,
+        ControlDoors::new(ControlListener::Tcp(listener), &waits, &rt, long()),
+    );
     let (mut reader, _) = doors.next().expect(&rt, "a connection");
     let start = given(&rt, Instant::now(&rt));
     same(&rt, failed(&mut reader), Some(ErrorKind::WouldBlock));
@@ -125,7 +134,10 @@ fn endless_line(rt: HostRuntime) -> Result<(), Fail> {
         TcpStream::connect(&rt, given(&rt, listener.local_addr())),
     );
     let (waits, _) = given(&rt, Waits::new(&rt, rt.alloc()));
-    let mut doors = given(&rt, TcpDoors::new(listener, &waits, &rt, short()));
+    let mut doors = given(
+        &rt,
+        ControlDoors::new(ControlListener::Tcp(listener), &waits, &rt, short()),
+    );
     let (mut reader, writer) = doors.next().expect(&rt, "a connection");
     let start = given(&rt, Instant::now(&rt));
     let (_, took) = join(
@@ -150,7 +162,10 @@ fn stalled_connection(rt: HostRuntime) -> Result<(), Fail> {
     let at = given(&rt, listener.local_addr());
     let silent = given(&rt, TcpStream::connect(&rt, at));
     let (waits, _) = given(&rt, Waits::new(&rt, rt.alloc()));
-    let mut doors = given(&rt, TcpDoors::new(listener, &waits, &rt, short()));
+    let mut doors = given(
+        &rt,
+        ControlDoors::new(ControlListener::Tcp(listener), &waits, &rt, short()),
+    );
     let (mut reader, _) = doors.next().expect(&rt, "a connection");
     let start = given(&rt, Instant::now(&rt));
     let mut second = given(&rt, TcpStream::connect(&rt, at));
@@ -207,7 +222,10 @@ fn slow_line(rt: HostRuntime) -> Result<(), Fail> {
         TcpStream::connect(&rt, given(&rt, listener.local_addr())),
     );
     let (waits, alarm) = given(&rt, Waits::new(&rt, rt.alloc()));
-    let mut doors = given(&rt, TcpDoors::new(listener, &waits, &rt, long()));
+    let mut doors = given(
+        &rt,
+        ControlDoors::new(ControlListener::Tcp(listener), &waits, &rt, long()),
+    );
     let (mut reader, mut writer) = doors.next().expect(&rt, "a connection");
     let mut line = [0u8; 7];
     let (said, turns) = join(
@@ -243,7 +261,10 @@ fn full_writer(rt: HostRuntime) -> Result<(), Fail> {
         TcpStream::connect(&rt, given(&rt, listener.local_addr())),
     );
     let (waits, alarm) = given(&rt, Waits::new(&rt, rt.alloc()));
-    let mut doors = given(&rt, TcpDoors::new(listener, &waits, &rt, long()));
+    let mut doors = given(
+        &rt,
+        ControlDoors::new(ControlListener::Tcp(listener), &waits, &rt, long()),
+    );
     let (_, mut writer) = doors.next().expect(&rt, "a connection");
     let start = given(&rt, Instant::now(&rt));
     let (kind, _) = join(&rt, || fill(&mut writer), || ring_later(&rt, &alarm));
@@ -293,7 +314,10 @@ fn late_peer(rt: HostRuntime) -> Result<(), Fail> {
         TcpStream::connect(&rt, given(&rt, listener.local_addr())),
     );
     let (waits, _) = given(&rt, Waits::new(&rt, rt.alloc()));
-    let mut doors = given(&rt, TcpDoors::new(listener, &waits, &rt, long()));
+    let mut doors = given(
+        &rt,
+        ControlDoors::new(ControlListener::Tcp(listener), &waits, &rt, long()),
+    );
     let (reader, mut writer) = doors.next().expect(&rt, "a connection");
     let (count, whole) = join(
         &rt,
@@ -322,7 +346,10 @@ fn descriptors(rt: HostRuntime) -> Result<(), Fail> {
     let listener = given(&rt, TcpListener::bind(&rt, address(0)));
     let at = given(&rt, listener.local_addr());
     let (waits, _) = given(&rt, Waits::new(&rt, rt.alloc()));
-    let mut doors = given(&rt, TcpDoors::new(listener, &waits, &rt, long()));
+    let mut doors = given(
+        &rt,
+        ControlDoors::new(ControlListener::Tcp(listener), &waits, &rt, long()),
+    );
     let before = next_descriptor(&rt);
     for number in 0..CONNECTIONS {
         let mut stream = given(&rt, TcpStream::connect(&rt, at));
