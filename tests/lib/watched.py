@@ -44,6 +44,20 @@ def time_of_day(at):
     return f"{seconds // 3600 % 24:02}:{seconds // 60 % 60:02}:{seconds % 60:02}.{tenths}Z"
 
 
+def last_suspicion(story, number):
+    """What is told from where the last suspicion with this number begins: the one before it was forgotten, or it is told to be alive again
+    without a greater number."""
+    said = rf"(suspect|confirm), number {number}, (accused|expired): .*|\S+ told: (suspect|confirm), number {number} \(.*"
+    start, is_held, is_over = 0, False, False
+    for place, (_, text) in enumerate(story):
+        alive = re.fullmatch(r"\S+ told: alive, number (\d+) \(.*", text)
+        if re.fullmatch(said, text):
+            start, is_held, is_over = place if is_over else start, True, False
+        elif is_held and (text.startswith("forgotten: ") or alive and int(alive[1]) <= int(number)):
+            is_over = True
+    return story[start:]
+
+
 def first(story, pattern):
     """The first that is told so, in full."""
     return next((told for told in story if re.fullmatch(pattern, told.text)), None)
@@ -72,10 +86,11 @@ def cause(me, it, story, when, stood):
     if not numbers:
         return f"nobody suspected {it} in these recordings"
     number = numbers[-1]
-    suspected = first(story, rf"suspect, number {number}, accused: .*")
-    told = first(story, rf"\S+ told: (suspect|confirm), number {number} \(it was.*\)")
-    expired = first(story, rf"confirm, number {number}, expired: .*")
-    refuted = first(story, rf"\S+ told: alive, number \d+ \((?:refuted: |it is back: )it was (suspect|confirm), number {number}, .*\)")
+    last = last_suspicion(story, number)
+    suspected = first(last, rf"suspect, number {number}, accused: .*")
+    told = first(last, rf"\S+ told: (suspect|confirm), number {number} \(it was.*\)")
+    expired = first(last, rf"confirm, number {number}, expired: .*")
+    refuted = first(last, rf"\S+ told: alive, number \d+ \((?:refuted: |it is back: )it was (suspect|confirm), number {number}, .*\)")
     if suspected:
         said = accusation(me, it, story, suspected, when)
     elif told:

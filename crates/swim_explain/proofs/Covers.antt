@@ -1,13 +1,8 @@
 -- Ceilings rise in a legal history, and a step more of it.
-use Rattle.std.proofs.Common.{◌≡◌, ℕ, ◌+◌, ◌<◌, ◌≤◌, List, [], ◌∷◌, ◌++◌, length, drop, take, get_or, refl, ap, sym, ◌∙◌, arith, subst, Option, Some, None, nat_le, inl, inr}
-use Rattle.std.proofs.lemmas.Bool.{cases_Bool, leb-true}
-use Rattle.std.proofs.lemmas.List.{take_more, drop_more, map-append}
-use Rattle.swim_member.specs.Events.{number_after}
+use Rattle.std.proofs.Common.{◌≡◌, ℕ, ◌≤◌, List, [], ◌∷◌, ◌++◌, refl, arith, subst}
 use Rattle.swim_member.specs.Judge.{wanted}
 use Rattle.swim_node.specs.declared.entry.Entry.{Entry}
-use Rattle.swim_node.specs.declared.entry.Save.{Save}
-use Rattle.swim_node.specs.declared.entry.Save.TheVariants.{Kept, Done, Failed}
-use Rattle.swim_node.specs.History.{Base, AreNext, Saves, granted_from, granted_of, state_after}
+use Rattle.swim_node.specs.History.{Base, AreNext, granted_from, granted_of, state_after}
 use Rattle.swim_explain.specs.Machinery.Covering.{AreCovered}
 use Rattle.swim_node.proofs.Nodes.{granted-grows}
 

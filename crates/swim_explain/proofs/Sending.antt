@@ -3,7 +3,6 @@ use Rattle.std.proofs.Common.{◌≡◌, ℕ, ◌+◌, ◌<◌, ◌≤◌, List,
 use Rattle.std.proofs.lemmas.List.{drop_more, drop_all}
 use Rattle.swim_member.specs.declared.answer.Out.{Out}
 use Rattle.swim_node.specs.declared.entry.Outcome.{Outcome}
-use Rattle.swim_explain.specs.declared.fact.Fact.{Fact}
 use Rattle.swim_explain.specs.declared.fact.Purpose.{Purpose}
 use Rattle.swim_explain.specs.Facts.{sent, sent_about}
 

@@ -1,12 +1,10 @@
 -- What a story says of one suspicion, that of the number n: who began it, and how it ended.
 use Rattle.std.specs.Prelude.{ℕ, ◌==◌, ◌&&◌, nat_le, nat_lt, Bool, false, List, [], ◌∷◌}
 use Rattle.std.specs.Prelude.{Option, Some, None, if◌then◌else◌}
-use Rattle.swim_rules.specs.declared.table.Heard.{Heard}
 use Rattle.swim_rules.specs.declared.table.Heard.TheVariants.{Accepted}
 use Rattle.swim_rules.specs.declared.table.Row.{Row}
-use Rattle.swim_wire.specs.declared.update.Update.{Update}
 use Rattle.swim_wire.specs.declared.update.UpdateKind.{UpdateKind}
-use Rattle.swim_wire.specs.declared.update.UpdateKind.TheVariants.{Alive, Suspect, Confirm}
+use Rattle.swim_wire.specs.declared.update.UpdateKind.TheVariants.{Alive}
 use Rattle.swim_explain.specs.declared.account.Account.{Account}
 use Rattle.swim_explain.specs.declared.cause.CasePart.{CasePart}
 use Rattle.swim_explain.specs.declared.cause.CasePart.TheVariants as part

@@ -1,7 +1,10 @@
 pub mod Causes
 pub mod Causing
 pub mod Facts
+pub mod Lasting
+pub mod Lives
 pub mod Moments
 pub mod News
+pub mod Probing
 pub mod Story
 pub mod Machinery

@@ -3,6 +3,7 @@
 ghost use Rattle.std.specs.Prelude.{IsPermutation};
 
 use crate::fact::Happening;
+use crate::lives::{answered_later, lives_of, place_before};
 use crate::news::news_of;
 use crate::tale::Tale;
 use std::alloc::{AllocError, Global};
@@ -13,6 +14,8 @@ use swim_wire::Endpoint;
 pub struct Account {
     /// Who tells it.
     pub teller: Endpoint,
+    /// In which life, named by the place of its first tale.
+    pub life: usize,
     /// The length of its ticks in milliseconds, if its recording says it.
     pub tick: Option<u64>,
     /// When it was: milliseconds since the beginning of 1970, in UTC, if its recording says it.
@@ -22,11 +25,12 @@ pub struct Account {
 }
 
 /// What of a tale is shown: all, or what changes or explains something. What is held of the member where the era began is shown
-/// unless the tale before has said so.
+/// unless the tale before has said so. The probe with the sequence `later` was answered in a later tale.
 fn shown(
     alloc: Global,
     tale: &Tale,
     is_held: bool,
+    later: Option<u32>,
     shows_all: bool,
 ) -> Result<Vec<Happening>, AllocError> {
     let mut told = Vec::new(alloc);
@@ -39,40 +43,41 @@ fn shown(
     if shows_all {
         told.extend_from_slice(after)?;
     } else {
-        told.extend_from_slice(&news_of(alloc, after)?)?;
+        told.extend_from_slice(&news_of(alloc, after, later)?)?;
     }
     Ok(told)
 }
 
 /// Whether the last tale of the same member before this place ends with what this one begins with.
 fn is_held(tales: &[Tale], place: usize, who: Endpoint) -> bool {
-    let Some(tale) = tales.get(place) else {
+    let Some(before) = place_before(tales, place) else {
         return false;
     };
-    let mut held = false;
-    for earlier in tales.iter().take(place) {
-        if earlier.teller() == tale.teller() {
-            held = earlier.held_last(who) == tale.held_first(who);
-        }
+    match (tales.get(before), tales.get(place)) {
+        (Some(earlier), Some(tale)) => earlier.held_last(who) == tale.held_first(who),
+        _ => false,
     }
-    held
 }
 
 /// What the tale at this place tells, with who tells it and when it was.
 fn accounts_of(
     alloc: Global,
     tales: &[Tale],
+    lives: &[usize],
     place: usize,
     who: Endpoint,
     shows_all: bool,
 ) -> Result<Vec<Account>, AllocError> {
     let mut accounts = Vec::new(alloc);
-    let Some(tale) = tales.get(place) else {
+    let (Some(tale), Some(life)) = (tales.get(place), lives.get(place)) else {
         return Ok(accounts);
     };
-    for happening in &shown(alloc, tale, is_held(tales, place, who), shows_all)? {
+    let is_held = is_held(tales, place, who);
+    let later = answered_later(tales, lives, place);
+    for happening in &shown(alloc, tale, is_held, later, shows_all)? {
         accounts.push(Account {
             teller: tale.teller(),
+            life: *life,
             tick: tale.time.map(|time| time.tick),
             at: tale.moment_of(happening),
             happening: *happening,
@@ -95,9 +100,10 @@ pub(crate) fn in_time(
     who: Endpoint,
     shows_all: bool,
 ) -> Result<Vec<Account>, AllocError> {
+    let lives = lives_of(alloc, tales)?;
     let mut accounts = Vec::new(alloc);
     for place in 0..tales.len() {
-        accounts.extend_from_slice(&accounts_of(alloc, tales, place, who, shows_all)?)?;
+        accounts.extend_from_slice(&accounts_of(alloc, tales, &lives, place, who, shows_all)?)?;
     }
     order(&mut accounts)?;
     Ok(accounts)

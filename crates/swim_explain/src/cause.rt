@@ -1,14 +1,13 @@
-//! Why a member was suspected last, and how that ended.
+//! Why a member was suspected, and how that ended.
 
 ghost use Rattle.std.specs.Prelude.{◌≡◌};
 ghost use Rattle.swim_explain.specs.Causing.{accuses, blames, expires, first, is_part, ends_case, refutes, tells};
 ghost use Rattle.swim_explain.specs.declared.cause.CasePart.TheVariants as part;
 
 use crate::account::Account;
-use crate::fact::{Fact, Purpose};
-use std::alloc::{AllocError, Global};
+use crate::fact::Fact;
 use swim_rules::{Heard, Row};
-use swim_wire::{Endpoint, Update, UpdateKind};
+use swim_wire::{Update, UpdateKind};
 
 /// Whether an update of this kind says that the member is suspected or confirmed, with this number.
 fn blames(number: u64, update: &Update) -> bool
@@ -118,28 +117,6 @@ fn first(part: CasePart, number: u64, accounts: &[Account]) -> Option<Account>
     None
 }
 
-/// The number of the last suspicion or Confirm that is told of.
-fn last_number(accounts: &[Account]) -> Option<u64> {
-    for account in accounts.iter().rev() {
-        match account.happening.fact {
-            Fact::Suspected { number, .. } | Fact::Confirmed { number, .. } => {
-                return Some(number);
-            }
-            Fact::Told {
-                update,
-                became: Heard::Accepted,
-                ..
-            }
-            | Fact::ToldItself { update, .. }
-                if update.kind != UpdateKind::Alive => {
-                return Some(update.number);
-            }
-            _ => {}
-        }
-    }
-    None
-}
-
 /// One suspicion of a member, and how it ended.
 #[derive(Clone, Copy, Debug, PartialEq, Eq)]
 pub struct Case {
@@ -170,49 +147,4 @@ pub fn suspicion(accounts: &[Account], number: u64) -> Case
         expired: first(CasePart::Expiry, number, accounts),
         refuted: first(CasePart::Refutation, number, accounts),
     }
-}
-
-/// The last suspicion that accounts tell of.
-pub(crate) fn last_suspicion(accounts: &[Account]) -> Option<Case> {
-    Some(suspicion(accounts, last_number(accounts)?))
-}
-
-/// A probe: when its ping was sent, and who was asked to ping as well.
-#[derive(Drop)]
-pub(crate) struct Probing {
-    pub(crate) ping: Option<Account>,
-    pub(crate) helpers: Vec<Endpoint>,
-}
-
-/// The last probe of this teller with this sequence.
-pub(crate) fn last_probing(
-    alloc: Global,
-    accounts: &[Account],
-    teller: Endpoint,
-    sequence: u32,
-) -> Result<Probing, AllocError> {
-    let mut found = Probing {
-        ping: None,
-        helpers: Vec::new(alloc),
-    };
-    for account in accounts {
-        if account.teller != teller {
-            continue;
-        }
-        match account.happening.fact {
-            Fact::Pinged {
-                purpose: Purpose::Probe,
-                seq,
-                ..
-            } if seq == sequence => {
-                found = Probing {
-                    ping: Some(*account),
-                    helpers: Vec::new(alloc),
-                };
-            }
-            Fact::Asked { helper, seq, .. } if seq == sequence => found.helpers.push(helper)?,
-            _ => {}
-        }
-    }
-    Ok(found)
 }

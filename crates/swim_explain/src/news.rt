@@ -1,7 +1,7 @@
 //! Which facts change or explain something.
 
 ghost use Rattle.std.specs.Prelude.{◌≡◌, IfOk};
-ghost use Rattle.swim_explain.specs.News.{answers_probe, was_answered, is_news, news_in};
+ghost use Rattle.swim_explain.specs.News.{answers_probe, has_answer, was_answered, is_news, news_in};
 
 use crate::fact::{Fact, Happening, Purpose};
 use std::alloc::{AllocError, Global};
@@ -19,7 +19,7 @@ fn answers_probe(seq: u32, happening: &Happening) -> bool
 }
 
 /// Whether somebody did in the story.
-fn was_answered(seq: u32, story: &[Happening]) -> bool
+pub(crate) fn was_answered(seq: u32, story: &[Happening]) -> bool
     ensures { result ≡ was_answered seq story.now }
 {
     for happening in story {
@@ -30,10 +30,20 @@ fn was_answered(seq: u32, story: &[Happening]) -> bool
     false
 }
 
+/// Whether somebody did in the story, or it is the probe that was answered in a later one.
+fn has_answer(seq: u32, story: &[Happening], later: Option<u32>) -> bool
+    ensures { result ≡ has_answer seq story.now later }
+{
+    match later {
+        Some(answered) if answered == seq => true,
+        _ => was_answered(seq, story),
+    }
+}
+
 /// Whether a fact of this story changes or explains something. What a probe did that was answered does not, nor an update that was
 /// not taken, nor a datagram that came, nor what was held where the era began.
-fn is_news(story: &[Happening], fact: &Fact) -> bool
-    ensures { result ≡ is_news story.now fact.now }
+fn is_news(story: &[Happening], later: Option<u32>, fact: &Fact) -> bool
+    ensures { result ≡ is_news story.now later fact.now }
 {
     match fact {
         Fact::Began { .. } | Fact::Came { .. } | Fact::Answered { .. } => false,
@@ -44,18 +54,22 @@ fn is_news(story: &[Happening], fact: &Fact) -> bool
             seq,
             ..
         }
-        | Fact::Asked { seq, .. } => !was_answered(*seq, story),
+        | Fact::Asked { seq, .. } => !has_answer(*seq, story, later),
         _ => true,
     }
 }
 
-/// What of a story changes or explains something, in order.
-pub fn news_of(alloc: Global, story: &[Happening]) -> Result<Vec<Happening>, AllocError>
-    ensures { IfOk result (λ told. told.items ≡ news_in story.now story.now) }
+/// What of a story changes or explains something, in order. The probe with the sequence `later` was answered after its end.
+pub fn news_of(
+    alloc: Global,
+    story: &[Happening],
+    later: Option<u32>,
+) -> Result<Vec<Happening>, AllocError>
+    ensures { IfOk result (λ told. told.items ≡ news_in story.now later story.now) }
 {
     let mut told = Vec::new(alloc);
     for happening in story {
-        if is_news(story, &happening.fact) {
+        if is_news(story, later, &happening.fact) {
             told.push(*happening)?;
         }
     }

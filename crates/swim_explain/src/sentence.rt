@@ -1,9 +1,11 @@
 //! The cause of the last suspicion, in one sentence.
 
 use crate::account::Account;
-use crate::cause::{Case, Probing, last_probing, last_suspicion};
+use crate::cause::Case;
 use crate::clock::{Ticks, When};
 use crate::fact::Fact;
+use crate::last::last_suspicion;
+use crate::probing::{Probing, probing_of};
 use std::alloc::{AllocError, Global};
 use std::fmt::{self, Display, Formatter};
 use swim_wire::{Endpoint, Update, UpdateKind};
@@ -225,47 +227,15 @@ pub(crate) struct Sentence {
     probing: Probing,
 }
 
-/// Who began a suspicion, and the sequence of the probe that nobody answered.
-fn accuser_of(case: Option<Case>) -> Option<(Endpoint, u32)> {
-    let Some(case) = case else {
-        return None;
-    };
-    let Some(accused) = case.accused else {
-        return None;
-    };
-    match accused.happening.fact {
-        Fact::Suspected { seq, .. } => Some((accused.teller, seq)),
-        _ => None,
-    }
-}
-
-/// The probe by which a suspicion began, as far as accounts tell of it.
-fn probing_of(
-    alloc: Global,
-    accounts: &[Account],
-    case: Option<Case>,
-) -> Result<Probing, AllocError> {
-    match accuser_of(case) {
-        Some((teller, seq)) => last_probing(alloc, accounts, teller, seq),
-        None => Ok(Probing {
-            ping: None,
-            helpers: Vec::new(alloc),
-        }),
-    }
-}
-
 /// What accounts say of the cause.
 pub(crate) fn sentence_of(
     alloc: Global,
     accounts: &[Account],
     who: Endpoint,
 ) -> Result<Sentence, AllocError> {
-    let probing = probing_of(alloc, accounts, last_suspicion(accounts))?;
-    Ok(Sentence {
-        who,
-        case: last_suspicion(accounts),
-        probing,
-    })
+    let case = last_suspicion(accounts);
+    let probing = probing_of(alloc, accounts, &case)?;
+    Ok(Sentence { who, case, probing })
 }
 
 impl Display for Sentence {

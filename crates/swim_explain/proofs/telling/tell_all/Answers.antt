@@ -1,6 +1,5 @@
 use Rattle.std.proofs.Common.{◌+◌, ◌∷◌, List, drop, take, ◌∙◌, subst}
 use Rattle.swim_node.specs.declared.entry.Entry.{Entry}
-use Rattle.swim_member.specs.Events.{Step, state_of}
 use Rattle.swim_node.specs.History.{steps}
 use Rattle.swim_explain.specs.Machinery.Covering.{AreCovered}
 use Rattle.swim_explain.specs.Story.{story}
