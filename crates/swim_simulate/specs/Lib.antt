@@ -3,3 +3,4 @@ pub mod Detection
 pub mod Laws
 pub mod Running
 pub mod Joining
+pub mod Measuring

@@ -1,9 +1,11 @@
 //! What is measured.
 
 ghost use Rattle.std.specs.Prelude.{◌≡◌, ◌+◌, ◌-◌, ◌^◌, min};
+ghost use Rattle.swim_simulate.specs.Measuring.{confirms, first_time, killed, seen, suspects};
 
 use crate::views::View;
 use std::alloc::{AllocError, Global};
+use swim_charts::Tally;
 
 /// A member that was killed, and when the others noticed it, each in ticks from the begin.
 #[derive(Clone, Copy, Debug, PartialEq, Eq)]
@@ -12,9 +14,9 @@ pub struct Kill {
     pub who: usize,
     /// When it was killed.
     pub tick: u64,
-    /// When the first member suspected it.
+    /// When the first member suspected it or held it for failed; when it was killed, if one did so already.
     pub suspected: Option<u64>,
-    /// When the first member held it for failed.
+    /// When the first member held it for failed; when it was killed, if one did so already.
     pub confirmed: Option<u64>,
     /// When all others that ran agreed that it failed: none held it for alive or suspected.
     pub known: Option<u64>,
@@ -22,6 +24,66 @@ pub struct Kill {
     pub back: Option<u64>,
     /// When all others that ran agreed after that: each held it for alive.
     pub alive: Option<u64>,
+}
+
+/// When something was first, if it is now, and was then before.
+fn first_time(before: Option<u64>, is_now: bool, tick: u64) -> Option<u64>
+    ensures { result ≡ first_time before is_now tick }
+{
+    match before {
+        None if is_now => Some(tick),
+        _ => before,
+    }
+}
+
+/// Whether who holds this of a member suspects it: who holds it for failed does too.
+fn suspects(view: View) -> bool
+    ensures { result ≡ suspects view }
+{
+    match view {
+        View::Suspect | View::Confirm => true,
+        View::Unknown | View::Alive => false,
+    }
+}
+
+/// Whether who holds this of a member holds it for failed.
+fn confirms(view: View) -> bool
+    ensures { result ≡ confirms view }
+{
+    match view {
+        View::Confirm => true,
+        View::Unknown | View::Alive | View::Suspect => false,
+    }
+}
+
+impl Kill {
+    /// A member is killed now of which the others that run hold this.
+    fn new(who: usize, tick: u64, held: &Tally) -> Kill
+        ensures { result ≡ killed who tick held.now }
+    {
+        let is_failed = held.failed > 0;
+        let is_suspected = is_failed || held.suspected > 0;
+        Kill {
+            who,
+            tick,
+            suspected: first_time(None, is_suspected, tick),
+            confirmed: first_time(None, is_failed, tick),
+            known: None,
+            back: None,
+            alive: None,
+        }
+    }
+
+    /// A member that runs holds this of it from now on, until it is opened again.
+    fn see(&mut self, view: View, tick: u64)
+        ensures { self.new ≡ seen view tick self.old }
+    {
+        if self.back.is_some() {
+            return;
+        }
+        self.suspected = first_time(self.suspected, suspects(view), tick);
+        self.confirmed = first_time(self.confirmed, confirms(view), tick);
+    }
 }
 
 /// What the others do not agree on yet, of a member.
@@ -150,18 +212,9 @@ impl Measures {
         }
     }
 
-    /// A member is killed.
-    pub(crate) fn kill(&mut self, who: usize, tick: u64) -> Result<(), AllocError> {
-        let kill = Kill {
-            who,
-            tick,
-            suspected: None,
-            confirmed: None,
-            known: None,
-            back: None,
-            alive: None,
-        };
-        self.kills.push(kill)?;
+    /// A member is killed of which the others that run hold this.
+    pub(crate) fn kill(&mut self, who: usize, tick: u64, held: &Tally) -> Result<(), AllocError> {
+        self.kills.push(Kill::new(who, tick, held))?;
         Ok(())
     }
 
@@ -197,11 +250,8 @@ impl Measures {
             }
             return;
         }
-        match (self.last_kill(who), view) {
-            (Some(kill), _) if kill.back.is_some() => {}
-            (Some(kill), View::Suspect) => kill.suspected = kill.suspected.or(Some(tick)),
-            (Some(kill), View::Confirm) => kill.confirmed = kill.confirmed.or(Some(tick)),
-            _ => {}
+        if let Some(kill) = self.last_kill(who) {
+            kill.see(view, tick);
         }
     }
 

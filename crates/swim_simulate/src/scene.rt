@@ -466,7 +466,8 @@ impl Scene {
                 _ => Some(now.saturating_add(after)),
             };
         }
-        self.measures.kill(who, now)?;
+        let held = self.tally(who);
+        self.measures.kill(who, now, &held)?;
         self.compare_all(now);
         Ok(())
     }
