@@ -1,8 +1,7 @@
 -- What a joiner asked, put together.
-use Rattle.std.proofs.Common.{◌≡◌, ◌≢◌, ◌⊎◌, inl, inr, ℕ, ◌+◌, List, [], ◌∷◌, ◌++◌, length, refl, ap, sym, subst, ◌∙◌, slice_index_or, zero, suc, ◌<◌, Bool, true, false, IsTrue, IsFalse, take, arith, rules, tests, length-append, ◌↔◌, ◌≤◌, ◌-◌, ◌==◌}
+use Rattle.std.proofs.Common.{◌≡◌, ◌⊎◌, inl, inr, ℕ, ◌+◌, List, [], ◌∷◌, ◌++◌, length, refl, ap, sym, subst, ◌∙◌, slice_index_or, zero, suc, ◌<◌, Bool, true, false, IsTrue, IsFalse, take, arith, rules, tests, length-append, ◌↔◌, ◌≤◌, ◌-◌, ◌==◌}
 use Rattle.std.proofs.lemmas.List.{append-nil}
 use Rattle.swim_wire.specs.declared.update.Update.{Update}
-use Rattle.swim_wire.specs.declared.update.UpdateKind.TheVariants.{Confirm}
 use Rattle.std.specs.Prelude.{Some, None, Result, Ok, Err, IfOk, IfErr, OnOk}
 use Rattle.swim_member.specs.declared.event.Event.{Event}
 use Rattle.swim_member.specs.declared.event.Event.TheVariants.{Join, Members}
@@ -15,7 +14,7 @@ use Rattle.swim_node.specs.declared.entry.Entry.{Entry}
 use Rattle.swim_node.specs.declared.entry.Reply.{Reply}
 use Rattle.swim_shell.specs.declared.caller.Refusal.{Refusal}
 use Rattle.swim_shell.specs.Calls.{CallerView, events_of, NewCall, Refuses}
-use Rattle.swim_join.specs.Joins.{JoinerView, IsNext, IsPeer, IsEligibleIn, IsDrawnFrom, IsAsked, AreAsked, Asks, AsksInVain, pages_of, AreWhole, AreFull, AreConsecutive, AreAllPages, AreLooks, Looks, LooksAll, LooksInVain, ReadsPage, place_after}
+use Rattle.swim_join.specs.Joins.{JoinerView, IsNext, IsPeer, IsEligibleIn, IsShownAs, IsDrawnFrom, IsFailedFrom, IsFindable, is_held, IsAsked, AreAsked, Asks, AsksInVain, pages_of, AreWhole, AreFull, AreConsecutive, AreAllPages, AreLooks, Looks, LooksAll, LooksInVain, ReadsPage, place_after}
 use Rattle.swim_join.specs.declared.intervals.Moment.{Moment}
 use Rattle.swim_join.specs.Turns.{JoinsIf, JoinsPeer, LooksRound, TellsDue, after_look, joined_drawn, joined_drawn_by}
 use Rattle.swim_shell.proofs.News.{events_of-append, no_gain, more_gains}
@@ -24,29 +23,29 @@ use Rattle.std.proofs.lemmas.List.{append_assoc}
 
 -- Rows.
 
-pub eligible-left : (rows more : List Update) (x : ℕ) → IsEligibleIn rows x → IsEligibleIn (rows ++ more) x
-eligible-left [] more x is = absurd is
-eligible-left (r ∷ rows) more x (inl is) = inl is
-eligible-left (r ∷ rows) more x (inr is) = inr (eligible-left rows more x is)
+pub shown-left : (held : Bool) (rows more : List Update) (x : ℕ) → IsShownAs held rows x → IsShownAs held (rows ++ more) x
+shown-left held [] more x is = absurd is
+shown-left held (r ∷ rows) more x (inl is) = inl is
+shown-left held (r ∷ rows) more x (inr is) = inr (shown-left held rows more x is)
 
-pub eligible-right : (rows more : List Update) (x : ℕ) → IsEligibleIn more x → IsEligibleIn (rows ++ more) x
-eligible-right [] more x is = is
-eligible-right (r ∷ rows) more x is = inr (eligible-right rows more x is)
+pub shown-right : (held : Bool) (rows more : List Update) (x : ℕ) → IsShownAs held more x → IsShownAs held (rows ++ more) x
+shown-right held [] more x is = is
+shown-right held (r ∷ rows) more x is = inr (shown-right held rows more x is)
 
-pub eligible-append : (rows more : List Update) (x : ℕ) → IsEligibleIn (rows ++ more) x → IsEligibleIn rows x ⊎ IsEligibleIn more x
-eligible-append [] more x is = inr is
-eligible-append (r ∷ rows) more x (inl is) = inl (inl is)
-eligible-append (r ∷ rows) more x (inr is) = elim (eligible-append rows more x is) [ inl a ↦ inl (inr a) | inr b ↦ inr b ]
+pub shown-append : (held : Bool) (rows more : List Update) (x : ℕ) → IsShownAs held (rows ++ more) x → IsShownAs held rows x ⊎ IsShownAs held more x
+shown-append held [] more x is = inr is
+shown-append held (r ∷ rows) more x (inl is) = inl (inl is)
+shown-append held (r ∷ rows) more x (inr is) = elim (shown-append held rows more x is) [ inl a ↦ inl (inr a) | inr b ↦ inr b ]
 
-pub eligible_at : (rows : List Update) (i : ℕ) (row : Update) → i < length rows → row ≡ slice_index_or rows i row → row.kind ≢ Confirm → IsEligibleIn rows row.who
+pub eligible_at : (rows : List Update) (i : ℕ) (row : Update) → i < length rows → row ≡ slice_index_or rows i row → is_held row.kind ≡ true → IsEligibleIn rows row.who
 eligible_at [] i row less is kind = absurd omega (arith, less)
-eligible_at (r ∷ rows) zero row less is kind = inl (ap (λ u. u.who) (sym is), subst (λ u. u.kind ≢ Confirm) is kind)
+eligible_at (r ∷ rows) zero row less is kind = inl (ap (λ u. u.who) (sym is), subst (λ u. is_held u.kind ≡ true) is kind)
 eligible_at (r ∷ rows) (suc i) row less is kind = inr (eligible_at rows i row (omega (arith, less)) is kind)
 
 -- a row of a page was added or left out
-pub eligible_added : (old rows new page : List Update) (i : ℕ) (row : Update) (added : Bool) → ((x : ℕ) → IsEligibleIn rows x → IsEligibleIn old x ⊎ IsEligibleIn (take i page) x) → (IsTrue added → new ≡ rows ++ row ∷ []) → (IsFalse added → new ≡ rows) → take (i + 1) page ≡ take i page ++ row ∷ [] → (x : ℕ) → IsEligibleIn new x → IsEligibleIn old x ⊎ IsEligibleIn (take (i + 1) page) x
-eligible_added old rows new page i row true so_far more same next x is = elim (eligible-append rows (row ∷ []) x (subst (λ w. IsEligibleIn w x) (more refl) is)) [ inl before ↦ elim (so_far x before) [ inl a ↦ inl a | inr b ↦ inr (subst (λ w. IsEligibleIn w x) (sym next) (eligible-left (take i page) (row ∷ []) x b)) ] | inr now ↦ inr (subst (λ w. IsEligibleIn w x) (sym next) (eligible-right (take i page) (row ∷ []) x now)) ]
-eligible_added old rows new page i row false so_far more same next x is = elim (so_far x (subst (λ w. IsEligibleIn w x) (same refl) is)) [ inl a ↦ inl a | inr b ↦ inr (subst (λ w. IsEligibleIn w x) (sym next) (eligible-left (take i page) (row ∷ []) x b)) ]
+pub shown_added : (old rows new page : List Update) (i : ℕ) (row : Update) (added : Bool) → ((held : Bool) (x : ℕ) → IsShownAs held rows x → IsShownAs held old x ⊎ IsShownAs held (take i page) x) → (IsTrue added → new ≡ rows ++ row ∷ []) → (IsFalse added → new ≡ rows) → take (i + 1) page ≡ take i page ++ row ∷ [] → (held : Bool) (x : ℕ) → IsShownAs held new x → IsShownAs held old x ⊎ IsShownAs held (take (i + 1) page) x
+shown_added old rows new page i row true so_far more same next held x is = elim (shown-append held rows (row ∷ []) x (subst (λ w. IsShownAs held w x) (more refl) is)) [ inl before ↦ elim (so_far held x before) [ inl a ↦ inl a | inr b ↦ inr (subst (λ w. IsShownAs held w x) (sym next) (shown-left held (take i page) (row ∷ []) x b)) ] | inr now ↦ inr (subst (λ w. IsShownAs held w x) (sym next) (shown-right held (take i page) (row ∷ []) x now)) ]
+shown_added old rows new page i row false so_far more same next held x is = elim (so_far held x (subst (λ w. IsShownAs held w x) (same refl) is)) [ inl a ↦ inl a | inr b ↦ inr (subst (λ w. IsShownAs held w x) (sym next) (shown-left held (take i page) (row ∷ []) x b)) ]
 
 -- Calls.
 
@@ -74,17 +73,17 @@ one_in_vain limit why j p q x known refused = let asks = asks_nothing j p in rec
 
 -- the peer that comes next
 pub asks_next : (j : JoinerView) (p q : CallerView) (x : ℕ) (reply : Reply) → IsNext j.peers x → NewCall p q (Join x) reply → Asks j p q
-asks_next j p q x reply is n = asks_one j p q x reply (inl (j.peers.next, is)) n
+asks_next j p q x reply is n = asks_one j p q x reply (inl (inl (j.peers.next, is))) n
 
 pub asks_next_in_vain : (limit : ℕ) (why : Refusal) (j : JoinerView) (p q : CallerView) (x : ℕ) → IsNext j.peers x → Refuses limit why p q (Join x) → AsksInVain limit why j p q
-asks_next_in_vain limit why j p q x is refused = one_in_vain limit why j p q x (λ rows. inl (j.peers.next, is)) refused
+asks_next_in_vain limit why j p q x is refused = one_in_vain limit why j p q x (λ rows. inl (inl (j.peers.next, is))) refused
 
 -- the drawn member whose join is due
 pub asks_drawn : (j : JoinerView) (p q : CallerView) (x : ℕ) (reply : Reply) → j.drawn ≡ Some x → NewCall p q (Join x) reply → Asks j p q
-asks_drawn j p q x reply is n = asks_one j p q x reply (inr (inr is)) n
+asks_drawn j p q x reply is n = asks_one j p q x reply (inr is) n
 
 pub asks_drawn_in_vain : (limit : ℕ) (why : Refusal) (j : JoinerView) (p q : CallerView) (x : ℕ) → j.drawn ≡ Some x → Refuses limit why p q (Join x) → AsksInVain limit why j p q
-asks_drawn_in_vain limit why j p q x is refused = one_in_vain limit why j p q x (λ rows. inr (inr is)) refused
+asks_drawn_in_vain limit why j p q x is refused = one_in_vain limit why j p q x (λ rows. inr is) refused
 
 -- a look
 pub asks_looks : (j : JoinerView) (p q : CallerView) (rows : List Update) → Looks j.looked p q rows → Asks j p q
@@ -93,17 +92,18 @@ asks_looks j p q rows l = record { entries = l.entries; gains = l.gains; asked =
 pub looks_in_vain : (limit : ℕ) (why : Refusal) (j : JoinerView) (p q : CallerView) (rows : List Update) → LooksInVain limit why j.looked p q rows → AsksInVain limit why j p q
 looks_in_vain limit why j p q rows l = record { between = l.between; asks = asks_looks j p l.between rows l.looks; last = Members (place_after rows); is_asked = tt; refused = l.refused }
 
--- who may be joined after a look: the drawn member whose join is due, the peer that comes next, or another member of the rows
+-- who may be joined after a look: the drawn member whose join is due, or one that was found
 abbrev pub IsKnown : JoinerView → List Update → ℕ → Type 0
-IsKnown j rows x = (j.drawn ≡ Some x) ⊎ (IsNext j.peers x ⊎ IsDrawnFrom j.me rows x)
+IsKnown j rows x = (j.drawn ≡ Some x) ⊎ IsFindable j rows x
 
-seen_or_read : (j : JoinerView) (p q : CallerView) (rows : List Update) (x : ℕ) → (l : Looks j.looked p q rows) → IsEligibleIn rows x → IsEligibleIn (j.looked ++ pages_of l.entries) x
-seen_or_read j p q rows x l is = elim (l.read x is) [ inl a ↦ eligible-left j.looked (pages_of l.entries) x a | inr b ↦ eligible-right j.looked (pages_of l.entries) x b ]
+seen_or_read : (held : Bool) (j : JoinerView) (p q : CallerView) (rows : List Update) (x : ℕ) → (l : Looks j.looked p q rows) → IsShownAs held rows x → IsShownAs held (j.looked ++ pages_of l.entries) x
+seen_or_read held j p q rows x l is = elim (l.read held x is) [ inl a ↦ shown-left held j.looked (pages_of l.entries) x a | inr b ↦ shown-right held j.looked (pages_of l.entries) x b ]
 
 shown : (j : JoinerView) (p q : CallerView) (rows : List Update) (x : ℕ) → (l : Looks j.looked p q rows) → IsKnown j rows x → IsAsked j (j.looked ++ pages_of l.entries) (Join x)
-shown j p q rows x l (inl due) = inr (inr due)
-shown j p q rows x l (inr (inl next)) = inl (j.peers.next, next)
-shown j p q rows x l (inr (inr drawn)) = inr (inl (seen_or_read j p q rows x l drawn.0, drawn.1))
+shown j p q rows x l (inl due) = inr due
+shown j p q rows x l (inr (inl listed)) = inl (inl listed)
+shown j p q rows x l (inr (inr (inl drawn))) = inl (inr (inl (seen_or_read true j p q rows x l drawn.0, drawn.1)))
+shown j p q rows x l (inr (inr (inr failed))) = inl (inr (inr (seen_or_read false j p q rows x l failed.0, failed.1)))
 
 -- a look, and a join that was answered or refused
 look_joins : (j : JoinerView) (p q r : CallerView) (rows : List Update) (x : ℕ) (reply : Reply) → Looks j.looked p q rows → IsKnown j rows x → NewCall q r (Join x) reply → Asks j p r
@@ -148,9 +148,10 @@ pub record IsAlike (j k : JoinerView) : Type 0 where
 
 is_asked_same : (j k : JoinerView) (rows : List Update) (e : Event) → IsAlike j k → IsAsked k rows e → IsAsked j rows e
 is_asked_same j k rows (Members after) s is = tt
-is_asked_same j k rows (Join x) s (inl is) = inl (subst (λ peers. IsPeer peers x) s.list is)
-is_asked_same j k rows (Join x) s (inr (inl is)) = inr (inl (subst (λ me. IsDrawnFrom me rows x) s.me is))
-is_asked_same j k rows (Join x) s (inr (inr is)) = inr (inr (sym s.drawn ∙ is))
+is_asked_same j k rows (Join x) s (inl (inl is)) = inl (inl (subst (λ peers. IsPeer peers x) s.list is))
+is_asked_same j k rows (Join x) s (inl (inr (inl is))) = inl (inr (inl (subst (λ me. IsDrawnFrom me rows x) s.me is)))
+is_asked_same j k rows (Join x) s (inl (inr (inr is))) = inl (inr (inr (subst (λ me. IsFailedFrom me rows x) s.me is)))
+is_asked_same j k rows (Join x) s (inr is) = inr (sym s.drawn ∙ is)
 is_asked_same j k rows _ s is = absurd is
 
 are_asked_same : (j k : JoinerView) (rows : List Update) (es : List Entry) → IsAlike j k → AreAsked k rows es → AreAsked j rows es
@@ -198,7 +199,7 @@ pub record LooksSoFar (seen : List Update) (p q : CallerView) (rows : List Updat
 
 pub looks_none : (seen : List Update) (p : CallerView) → LooksSoFar seen p p seen 0
 looks_none seen p = record {
-  looks = record { entries = []; gains = no_gain p; asked = sym (append-nil p.asked); looks = tt; read = λ x is. inl is; all = λ _. (sym (append-nil seen), tt) };
+  looks = record { entries = []; gains = no_gain p; asked = sym (append-nil p.asked); looks = tt; read = λ held x is. inl is; all = λ _. (sym (append-nil seen), tt) };
   full = tt;
   count = refl;
 }
@@ -235,13 +236,13 @@ all_more seen es e rows new so_far is add whole =
     (add now ∙ (ap (λ w. w ++ e.reply.page.items) same ∙ sym (pages_after seen es e)), turn_append seen es e before.1 (is ∙ ap (λ w. Members (place_after w)) same))
 
 -- a row of one page more was seen, or stands in a page
-read_more : (seen : List Update) (p q r : CallerView) (rows more : List Update) (full : Bool) (l : Looks seen p q rows) (n : ReadsPage q r rows more full) (x : ℕ) → IsEligibleIn more x → IsEligibleIn seen x ⊎ IsEligibleIn (pages_of (l.entries ++ n.call.entry ∷ [])) x
-read_more seen p q r rows more full l n x is =
+read_more : (seen : List Update) (p q r : CallerView) (rows more : List Update) (full : Bool) (l : Looks seen p q rows) (n : ReadsPage q r rows more full) (held : Bool) (x : ℕ) → IsShownAs held more x → IsShownAs held seen x ⊎ IsShownAs held (pages_of (l.entries ++ n.call.entry ∷ [])) x
+read_more seen p q r rows more full l n held x is =
     let page = n.call.entry.reply.page.items in
     let grown = sym (pages_append l.entries n.call.entry) in
-    elim (n.shown x is) [
-      | inl a ↦ elim (l.read x a) [ inl s ↦ inl s | inr t ↦ inr (subst (λ w. IsEligibleIn w x) grown (eligible-left (pages_of l.entries) page x t)) ]
-      | inr b ↦ inr (subst (λ w. IsEligibleIn w x) grown (eligible-right (pages_of l.entries) page x (subst (λ w. IsEligibleIn w.page.items x) (sym n.call.reply_is) b)))
+    elim (n.shown held x is) [
+      | inl a ↦ elim (l.read held x a) [ inl s ↦ inl s | inr t ↦ inr (subst (λ w. IsShownAs held w x) grown (shown-left held (pages_of l.entries) page x t)) ]
+      | inr b ↦ inr (subst (λ w. IsShownAs held w x) grown (shown-right held (pages_of l.entries) page x (subst (λ w. IsShownAs held w.page.items x) (sym n.call.reply_is) b)))
     ]
 
 abbrev looks_more : (seen : List Update) (p q r : CallerView) (rows more : List Update) (full : Bool) → Looks seen p q rows → ReadsPage q r rows more full → Looks seen p r more

@@ -1,2 +1,4 @@
 pub mod Asking
 mod Examples
+mod Pace
+pub mod Searching

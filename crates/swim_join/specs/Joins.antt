@@ -20,11 +20,13 @@ use Rattle.swim_node.specs.declared.entry.Entry.{Entry}
 use Rattle.swim_node.specs.declared.entry.Reply.{Reply}
 use Rattle.swim_shell.specs.declared.caller.Refusal.{Refusal}
 use Rattle.std.specs.Duration.{as_nanos, max_nanos}
+use Rattle.std.specs.declared.time.Duration.{Duration}
 use Rattle.rand_chacha.specs.ChaCha.{ChaCha, next_word}
 use Rattle.std.specs.declared.time.Instant.{Instant}
 use Rattle.swim_join.specs.declared.intervals.Intervals.{Intervals}
 use Rattle.swim_join.specs.declared.intervals.TheConstants.{ALONE_PERIODS, EARLY_JOINS}
 use Rattle.swim_join.specs.declared.intervals.TheConstants.{INTRODUCTIONS_AN_ANSWER, QUICK_JOINS}
+use Rattle.swim_join.specs.declared.intervals.TheConstants.{SEARCH_PERIODS}
 use Rattle.swim_join.specs.declared.introductions.Introductions.{Introductions}
 use Rattle.swim_join.specs.declared.silence.Silence.{Silence}
 use Rattle.swim_join.specs.Moments.{NewsView, has_passed}
@@ -52,6 +54,10 @@ stepped p =
 abbrev pub begun_again : PeersView → PeersView
 begun_again p = record p { next = 0; were_all = length p.list == 0 }
 
+-- how many of them the rows did not show when they were read last
+abbrev pub missing : PeersView → ℕ
+missing p = length p.list - length p.shown
+
 -- it is the peer that comes next
 abbrev pub IsNext : PeersView → ℕ → Type 0
 IsNext p x = slice_get p.list p.next ≡ Some x
@@ -59,8 +65,8 @@ IsNext p x = slice_get p.list p.next ≡ Some x
 -- what a contract sees of a joiner: whose it is, by which rules that one lives, and its intervals;
 -- its peers, and what draws others; how many peers were joined, how many of them since somebody was
 -- known last, and when the last join was; the rows of a look that was cut off, and the drawn member
--- whose join is still due; of which peer it said that it is not known; its introductions; how often
--- the list was asked in vain; and its news
+-- whose join is still due; whom it looks for; of which peer it said that it is not known; its
+-- introductions; how often the list was asked in vain; and its news
 pub record JoinerView : Type 0 where
   pub me : ℕ
   pub rules : Rules
@@ -72,6 +78,7 @@ pub record JoinerView : Type 0 where
   pub joined : Option Instant
   pub looked : List Update
   pub drawn : Option ℕ
+  pub sought : List ℕ
   pub missing : List ℕ
   pub introductions : Introductions
   pub silence : Silence
@@ -108,6 +115,14 @@ rest_after intervals joins true true =
     Some (min (as_nanos intervals.period * ALONE_PERIODS) max_nanos))
 rest_after intervals joins true false = None
 
+-- how long after its last join a member joins the next one that it looks for, if it does, by
+-- whether one is back
+abbrev pub search_rest : Intervals → Bool → Option ℕ
+search_rest intervals is_back =
+    let rest = if is_back then as_nanos intervals.answer
+    else min (as_nanos intervals.period * SEARCH_PERIODS) max_nanos in
+    option_map (λ (rejoin : Duration). min (as_nanos rejoin) rest) intervals.rejoin
+
 -- how long after its last join a member introduces itself to the next
 abbrev pub introduction_rest : Intervals → ℕ
 introduction_rest intervals = as_nanos intervals.answer / INTRODUCTIONS_AN_ANSWER
@@ -125,15 +140,19 @@ chosen _ peer _ = peer
 abbrev pub IsPeer : List ℕ → ℕ → Type 0
 IsPeer peers x = (i : ℕ) × (slice_get peers i ≡ Some x)
 
--- a row shows the member as Alive or Suspect
-abbrev pub IsEligibleIn : List Update → ℕ → Type 0
-IsEligibleIn [] x = ⊥
-IsEligibleIn (r ∷ rows) x = ((r.who ≡ x) × (r.kind ≢ Confirm)) ⊎ IsEligibleIn rows x
-
 -- the kind is Alive or Suspect
 abbrev pub is_held : UpdateKind → Bool
 is_held Confirm = false
 is_held _ = true
+
+-- a row shows the member as one that is held for Alive or Suspect, or as one that is not
+abbrev pub IsShownAs : (held : Bool) → List Update → ℕ → Type 0
+IsShownAs held [] x = ⊥
+IsShownAs held (r ∷ rows) x = ((r.who ≡ x) × (is_held r.kind ≡ held)) ⊎ IsShownAs held rows x
+
+-- a row shows the member as Alive or Suspect
+abbrev pub IsEligibleIn : List Update → ℕ → Type 0
+IsEligibleIn rows x = IsShownAs true rows x
 
 -- the row shows another member as Alive or Suspect
 abbrev pub may_be_drawn : ℕ → Update → Bool
@@ -154,6 +173,10 @@ drawn_by me rows word = nth_eligible me rows (word % length (eligible_in me rows
 -- another member that the rows show as Alive or Suspect
 abbrev pub IsDrawnFrom : ℕ → List Update → ℕ → Type 0
 IsDrawnFrom me rows x = IsEligibleIn rows x × (x ≢ me)
+
+-- another member that the rows show as failed
+abbrev pub IsFailedFrom : ℕ → List Update → ℕ → Type 0
+IsFailedFrom me rows x = IsShownAs false rows x × (x ≢ me)
 
 -- a row shows the member
 abbrev pub has_row : List Update → ℕ → Bool
@@ -186,12 +209,17 @@ due_by me rows (Some peer) word turn may =
     if has_row rows peer then Some (chosen (drawn_by me rows word) peer (not turn))
     else (if may then Some peer else drawn_by me rows word)
 
--- a call asks for members, or it joins a peer of the list, or another member that is eligible by
--- these rows, or the drawn member whose join is still due
+-- a member that is found in these rows or on the list: a peer of the list, or another member that
+-- the rows show as eligible, or as failed
+abbrev pub IsFindable : JoinerView → List Update → ℕ → Type 0
+IsFindable j rows x =
+    IsPeer j.peers.list x ⊎ (IsDrawnFrom j.me rows x ⊎ IsFailedFrom j.me rows x)
+
+-- a call asks for members, or it joins one that is found in these rows or on the list, or the drawn
+-- member whose join is still due
 abbrev pub IsAsked : JoinerView → List Update → Event → Type 0
 IsAsked j rows (Members after) = Unit {0}
-IsAsked j rows (Join x) =
-    IsPeer j.peers.list x ⊎ (IsDrawnFrom j.me rows x ⊎ (j.drawn ≡ Some x))
+IsAsked j rows (Join x) = IsFindable j rows x ⊎ (j.drawn ≡ Some x)
 IsAsked j rows _ = ⊥
 
 -- each call is such by the rows of the pages that were read before it
@@ -255,21 +283,22 @@ AreAllPages most (e ∷ es) =
 pub record ReadsPage (p q : CallerView) (old new : List Update) (full : Bool) : Type 0 where
   pub reply : Reply
   pub call : NewCall p q (Members (place_after old)) reply
-  pub shown : (x : ℕ) → IsEligibleIn new x → IsEligibleIn old x ⊎ IsEligibleIn reply.page.items x
+  pub shown : (held : Bool) (x : ℕ) → IsShownAs held new x
+      → IsShownAs held old x ⊎ IsShownAs held reply.page.items x
   pub all : AreWhole (old ++ reply.page.items) → new ≡ old ++ reply.page.items
   pub most : length reply.page.items ≤ UPDATES_MAX
   pub full_is : full ≡ (length reply.page.items == UPDATES_MAX)
 
 -- the new calls ask for members, and go on after the rows that were seen; the rows show no member
--- as eligible that those or a page did not, and are those of the pages after them where these are
--- in order, each asked for after the one before
+-- as eligible, or as failed, that those or a page did not show so, and are those of the pages after
+-- them where these are in order, each asked for after the one before
 pub record Looks (seen : List Update) (p q : CallerView) (rows : List Update) : Type 0 where
   pub entries : List Entry
   pub gains : Gains p q entries
   pub asked : q.asked ≡ p.asked ++ events_of entries
   pub looks : AreLooks entries
-  pub read : (x : ℕ) → IsEligibleIn rows x
-      → IsEligibleIn seen x ⊎ IsEligibleIn (pages_of entries) x
+  pub read : (held : Bool) (x : ℕ) → IsShownAs held rows x
+      → IsShownAs held seen x ⊎ IsShownAs held (pages_of entries) x
   pub all : AreWhole (seen ++ pages_of entries)
       → (rows ≡ seen ++ pages_of entries) × AreConsecutive seen entries
 

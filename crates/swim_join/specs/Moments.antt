@@ -4,8 +4,14 @@ use Rattle.std.specs.Prelude.{Option, Some, None}
 use Rattle.std.specs.Time.{instant_nanos}
 use Rattle.std.specs.declared.time.Instant.{Instant}
 use Rattle.swim_wire.specs.declared.update.Update.{Update}
+use Rattle.swim_node.specs.declared.entry.Status.{Status}
 use Rattle.swim_news.specs.declared.change.Change.{Change}
 use Rattle.swim_news.specs.News.{AreNews}
+
+-- how many others the status shows as failed
+abbrev pub failed_shown : Option Status → ℕ
+failed_shown None = 0
+failed_shown (Some s) = s.confirmed
 
 -- so long has passed since then, if that is known; a clock that was not read says no
 abbrev pub has_passed : Option Instant → Option Instant → ℕ → Bool

@@ -21,9 +21,11 @@ use Rattle.swim_join.specs.Moments.{NewsView, TellsNews, has_passed}
 use Rattle.swim_join.specs.Joins.{JoinerView, stepped, begun_again, watched, may_ask}
 use Rattle.swim_join.specs.Silences.{heard_nobody, with_ask}
 use Rattle.swim_join.specs.Joins.{next_draw, rest_after, introduction_rest, has_row, due_by}
-use Rattle.swim_join.specs.Joins.{LooksAll, LooksInVain}
+use Rattle.swim_join.specs.Joins.{LooksAll, LooksInVain, missing, search_rest}
 use Rattle.swim_join.specs.Introductions.{introductions_of, go_on, first_word}
 use Rattle.swim_join.specs.Introductions.{next_among, with_next}
+use Rattle.swim_join.specs.Searches.{drawn_back, sought_by, wanted_by, but_for}
+use Rattle.swim_join.specs.declared.sought.TheConstants.{SEARCHES}
 
 -- ---- what is due
 
@@ -41,12 +43,31 @@ due_peer j at = due_after (rest_after j.intervals j.joins j.peers.were_all at.is
 abbrev pub is_introducing : JoinerView → Moment → Bool
 is_introducing j at = if at.is_alone then false else nat_lt 0 j.introductions.left
 
--- how long after the last join a member is to be drawn: soon, while it introduces itself, and else
--- now and then
+-- one of those that were looked for is back: fewer are held for failed or not known
+abbrev pub is_one_back : JoinerView → Moment → Bool
+is_one_back j at = nat_lt (min (at.failed + missing j.peers) (2 ^ 64 - 1)) (length j.sought)
+
+-- a lone member joins those of its list
+abbrev pub joins_listed : JoinerView → Moment → Bool
+joins_listed j at = if at.is_alone then nat_lt 0 (length j.peers.list) else false
+
+-- others are looked for: by rules 2 alone, since by rules 1 who holds this member for failed yet
+-- expels it
+abbrev pub is_searching_by : Rules → JoinerView → Moment → Bool
+is_searching_by One j at = false
+is_searching_by Two j at =
+    if joins_listed j at then false else nat_lt 0 at.failed || nat_lt 0 (length j.sought)
+
+abbrev pub is_searching : JoinerView → Moment → Bool
+is_searching j at = is_searching_by j.rules j at
+
+-- how long after the last join a member is to be drawn: soon, while it introduces itself or one is
+-- back that was sought; later, while it looks for others; and else now and then
 abbrev pub draw_rest : JoinerView → Moment → Option ℕ
 draw_rest j at =
     if is_introducing j at then Some (introduction_rest j.intervals)
-    else option_map as_nanos j.intervals.rejoin
+    else (if is_searching j at then search_rest j.intervals (is_one_back j at)
+    else option_map as_nanos j.intervals.rejoin)
 
 -- one of the first joins was not answered yet, and introductions are left to be made then
 abbrev pub awaits_answer : JoinerView → Bool
@@ -123,26 +144,77 @@ with_introduction j rows = record j {
   introductions = with_next (introduced j rows) (introducing j).0 j.introductions;
 }
 
+-- the word by which others are looked for, and the generator then
+abbrev pub searching : JoinerView → ℕ × ChaCha
+searching j = next_draw j.rng
+
+-- one time in so many a member is drawn as always
+abbrev pub is_draws_turn : JoinerView → Bool
+is_draws_turn j = (searching j).0 % SEARCHES == 0
+
+-- who is joined where others are looked for: one that is back; else one that is held for failed or
+-- is missing from the rows, or whoever is drawn as always
+abbrev pub drawn_sought_after : Option ℕ → Bool → JoinerView → List Update → Option Instant
+    → Option ℕ
+drawn_sought_after (Some back) turn j rows now = Some back
+drawn_sought_after None true j rows now = drawn_for (record j { rng = (searching j).1 }) rows now
+drawn_sought_after None false j rows now = wanted_by j.me rows j.peers.list (searching j).0
+
+abbrev pub drawn_sought : JoinerView → List Update → Option Instant → Option ℕ
+drawn_sought j rows now =
+    drawn_sought_after (drawn_back j.me rows j.sought (searching j).0) (is_draws_turn j) j rows now
+
+-- after that: one that is back is sought no more
+abbrev pub with_search_after : Option ℕ → Bool → JoinerView → List Update → Option Instant
+    → JoinerView
+with_search_after (Some back) turn j rows now =
+    record j { rng = (searching j).1; sought = but_for back j.sought }
+with_search_after None true j rows now = with_draw (record j { rng = (searching j).1 }) rows now
+with_search_after None false j rows now = record j { rng = (searching j).1 }
+
+abbrev pub with_search : JoinerView → List Update → Option Instant → JoinerView
+with_search j rows now =
+    with_search_after (drawn_back j.me rows j.sought (searching j).0) (is_draws_turn j) j rows now
+
 -- the join of the member that was drawn is due; if nobody was, the time runs to the next draw
 abbrev pub with_drawn : Option ℕ → Option Instant → JoinerView → JoinerView
 with_drawn None now j = record j { drawn = None; joined = now }
 with_drawn (Some x) now j = record j { drawn = Some x }
 
--- a member was drawn: one to whom the member introduces itself, or one that it joins now and then
-abbrev pub after_one : Bool → JoinerView → Moment → List Update → JoinerView
-after_one true j at rows = with_drawn (introduced j rows) at.now (with_introduction j rows)
-after_one false j at rows = with_drawn (drawn_for j rows at.now) at.now (with_draw j rows at.now)
+-- who is drawn: one to whom the member introduces itself, one that it looks for, or one that it
+-- joins now and then
+abbrev pub drawn_by_turn : (introduces searches : Bool) → JoinerView → Moment → List Update
+    → Option ℕ
+drawn_by_turn true searches j at rows = introduced j rows
+drawn_by_turn false true j at rows = drawn_sought j rows at.now
+drawn_by_turn false false j at rows = drawn_for j rows at.now
 
--- the same, if that was due
+abbrev pub drawn_now : JoinerView → Moment → List Update → Option ℕ
+drawn_now j at rows = drawn_by_turn (is_introducing j at) (is_searching j at) j at rows
+
+-- after that
+abbrev pub with_one_by_turn : (introduces searches : Bool) → JoinerView → Moment → List Update
+    → JoinerView
+with_one_by_turn true searches j at rows = with_introduction j rows
+with_one_by_turn false true j at rows = with_search j rows at.now
+with_one_by_turn false false j at rows = with_draw j rows at.now
+
+abbrev pub with_one : JoinerView → Moment → List Update → JoinerView
+with_one j at rows = with_one_by_turn (is_introducing j at) (is_searching j at) j at rows
+
+-- a member was drawn, if that was due
 abbrev pub after_draw : JoinerView → Moment → List Update → JoinerView
 after_draw j at rows =
     if is_draw_due (draw_rest j at) j.joined at.now
-    then after_one (is_introducing j at) j at rows else j
+    then with_drawn (drawn_now j at rows) at.now (with_one j at rows) else j
 
 -- the look that read these rows is over
 abbrev pub after_look : JoinerView → Moment → List Update → JoinerView
-after_look j at rows =
-    after_draw (record j { looked = []; peers = watched rows at.now j.peers }) at rows
+after_look j at rows = after_draw (record j {
+  looked = [];
+  peers = watched rows at.now j.peers;
+  sought = sought_by j.me rows j.peers.list j.sought;
+}) at rows
 
 -- the drawn member was joined, if there was one: from now on the time runs to the next draw
 abbrev pub joined_drawn_by : Option ℕ → Option Instant → JoinerView → JoinerView

@@ -1,8 +1,7 @@
 //! Which member is drawn.
 
-ghost use Rattle.std.specs.Prelude.{◌≡◌, IfSome, IsTrue, ◌≢◌, length};
-ghost use Rattle.swim_wire.specs.declared.update.UpdateKind.TheVariants.{Confirm};
-ghost use Rattle.swim_join.specs.Joins.{IsDrawnFrom, drawn_by, eligible_in, may_be_drawn, next_draw, nth_eligible};
+ghost use Rattle.std.specs.Prelude.{◌≡◌, IfSome, IsTrue, true, ◌≢◌, length};
+ghost use Rattle.swim_join.specs.Joins.{IsDrawnFrom, drawn_by, eligible_in, is_held, may_be_drawn, next_draw, nth_eligible};
 
 use rand_chacha::ChaCha20Rng;
 use rand_core::utils::NextWord;
@@ -19,7 +18,7 @@ pub(crate) fn next_draw(rng: &mut ChaCha20Rng) -> u32
 /// Whether the row shows another member as Alive or Suspect.
 fn is_eligible(row: &Update, me: Endpoint) -> bool
     ensures value { result ≡ may_be_drawn me row.now }
-    ensures kind { IsTrue result → row.now.kind ≢ Confirm }
+    ensures kind { IsTrue result → is_held row.now.kind ≡ true }
     ensures other { IsTrue result → row.now.who ≢ me }
 {
     row.kind != UpdateKind::Confirm && row.who != me

@@ -5,11 +5,12 @@ ghost use Rattle.std.specs.Duration.{as_nanos};
 ghost use Rattle.std.specs.Option.{option_map};
 ghost use Rattle.std.specs.Time.{instant_nanos};
 ghost use Rattle.swim_member.specs.Checks.{AreSound};
-ghost use Rattle.swim_join.specs.Joins.{introduction_rest, lasting, quick_rest, rest_after};
-ghost use Rattle.swim_join.specs.Moments.{has_passed};
+ghost use Rattle.swim_join.specs.Joins.{introduction_rest, lasting, quick_rest, rest_after, search_rest};
+ghost use Rattle.swim_join.specs.Moments.{failed_shown, has_passed};
 
 use std::time::{Duration, Instant};
 use swim_member::Settings;
+use swim_node::Status;
 
 /// How many protocol periods a member that has been alone for long waits before it joins the next peer.
 const ALONE_PERIODS: u32 = 3;
@@ -23,6 +24,9 @@ pub(crate) const QUICK_JOINS: u32 = 3;
 /// How many introductions a member makes in the time that an answer takes at most. Each join ends the pages of the one before, which have
 /// come by then in a network that is as fast as the settings take it for.
 const INTRODUCTIONS_AN_ANSWER: u32 = 16;
+
+/// How many protocol periods pass from one join of a member that is held for failed to the next.
+const SEARCH_PERIODS: u32 = 2;
 
 /// How often a joiner does what.
 #[derive(Clone, Copy, Debug, PartialEq, Eq)]
@@ -94,6 +98,22 @@ impl Intervals {
         self.answer / INTRODUCTIONS_AN_ANSWER
     }
 
+    /// How long after its last join a member joins the next one that it looks for, by whether one is back; none if it never rejoins. One
+    /// that is back is joined once the pages of the join before it have come.
+    pub(crate) fn until_search(&self, is_back: bool) -> Option<Duration>
+        ensures { option_map as_nanos result ≡ search_rest self.now is_back }
+    {
+        let rest = if is_back {
+            self.answer
+        } else {
+            self.period.saturating_mul(SEARCH_PERIODS)
+        };
+        match self.rejoin {
+            Some(rejoin) => Some(rejoin.min(rest)),
+            None => None,
+        }
+    }
+
     /// How long after its last join a member joins the next peer of its list, after so many joins; none if it does not. At
     /// first each peer is joined once: soon, while nobody has answered, and else after the time in which the pages of rows
     /// come, since a join ends the paging of the one before. Then only a lone member joins them again: quickly at first, each period
@@ -119,8 +139,20 @@ pub struct Moment {
     pub now: Option<Instant>,
     /// Whether the member takes part, and holds nobody for alive or suspected.
     pub is_alone: bool,
+    /// How many others the member holds for failed.
+    pub failed: usize,
     /// Whether lines at level info are shown.
     pub is_shown: bool,
+}
+
+/// How many others a member with this status holds for failed. One whose status is not shown does not say so.
+pub(crate) fn failed_shown(status: Option<Status>) -> usize
+    ensures { result ≡ failed_shown status }
+{
+    match status {
+        Some(status) => status.confirmed,
+        None => 0,
+    }
 }
 
 /// Whether it is so long from the one time to the other.

@@ -7,18 +7,19 @@ ghost use Rattle.std.specs.Option.{option_map};
 ghost use Rattle.swim_member.specs.declared.event.Event.TheVariants.{Join};
 ghost use Rattle.swim_shell.specs.Calls.{Refuses};
 ghost use Rattle.swim_join.specs.Introductions.{introductions_of};
-ghost use Rattle.swim_join.specs.Joins.{Asks, AsksInVain, IsDrawnFrom, IsNext, IsRelisted, LooksAll, LooksInVain, chosen, may_ask, next_draw};
+ghost use Rattle.swim_join.specs.Joins.{Asks, AsksInVain, IsDrawnFrom, IsFindable, IsNext, IsRelisted, LooksAll, LooksInVain, chosen, may_ask, next_draw};
 ghost use Rattle.swim_join.specs.Silences.{heard_nobody};
-ghost use Rattle.swim_join.specs.Turns.{DoesTurn, DoesTurnInVain, JoinsPeer, LooksRound, LooksRoundInVain, TellsDue, Turned, TurnedInVain, after_draw, after_look, are_news_due, awaits_answer, draw_rest, drawn_for, due_in, due_peer, due_rest, idle_rest, introduced, is_draw_due, is_introducing, is_look_due, joined_drawn, joined_listed, list_turn, told_missing, turning, with_answer, with_draw, with_introduction, with_start};
+ghost use Rattle.swim_join.specs.Turns.{DoesTurn, DoesTurnInVain, JoinsPeer, LooksRound, LooksRoundInVain, TellsDue, Turned, TurnedInVain, after_draw, after_look, are_news_due, awaits_answer, draw_rest, drawn_for, drawn_now, drawn_sought, due_in, due_peer, due_rest, idle_rest, introduced, is_draw_due, is_introducing, is_look_due, is_one_back, is_searching, joined_drawn, joined_listed, list_turn, told_missing, turning, with_answer, with_draw, with_introduction, with_one, with_search, with_start};
 ghost use Rattle.swim_join.specs.declared.joiner.Due.TheVariants.{Listed, Drawn};
 
 use crate::draw::{draw, next_draw};
-use crate::intervals::{EARLY_JOINS, Intervals, Moment, has_passed};
+use crate::intervals::{EARLY_JOINS, Intervals, Moment, failed_shown, has_passed};
 use crate::introductions::Introductions;
 use crate::look::look;
 use crate::news_log::{News, are_shown};
 use crate::peers::{LIST_MAX, Peers, has_row};
 use crate::silence::Silence;
+use crate::sought::{SEARCHES, Sought, wanted};
 use arrayvec::ArrayVec;
 use log::{Log, error};
 use rand_chacha::ChaCha20Rng;
@@ -46,8 +47,9 @@ pub enum Due {
 
 /// Whom a member joins, and when: all peers of its list in order, one after the other; one of them every few periods while
 /// it holds nobody for alive or suspected, since a lost join would leave it alone for ever; those to whom it introduces itself, once
-/// somebody has answered; and now and then a member that it draws, since gossip or a page that was lost leaves a hole for ever. What a full era cuts off goes on in the next one, so that an
-/// era of any size ends. Contracts see it as `JoinerView`.
+/// somebody has answered; those that it looks for, since what two parts of a group hold of each other reaches nobody once it was told
+/// often enough; and now and then a member that it draws, since gossip or a page that was lost leaves a hole for ever. What a full era
+/// cuts off goes on in the next one, so that an era of any size ends. Contracts see it as `JoinerView`.
 #[derive(Drop)]
 pub struct Joiner {
     me: Endpoint,
@@ -66,6 +68,8 @@ pub struct Joiner {
     looked: Rows,
     /// The drawn member whose join is due.
     drawn: Option<Endpoint>,
+    /// Those that it looks for.
+    sought: Sought,
     news: News,
     /// Whether it was said that a listed member is not known.
     has_told: bool,
@@ -93,6 +97,7 @@ impl Model for Joiner {
       joined = j.joined;
       looked = j.looked;
       drawn = j.drawn;
+      sought = j.sought;
       missing = j.missing;
       introductions = j.introductions;
       silence = j.silence;
@@ -136,7 +141,7 @@ impl Joiner {
         ensures by { (result.rules ≡ rules) × (result.intervals ≡ intervals) × (result.rng ≡ rng) }
         ensures first { (result.joins ≡ 0) × (result.joined ≡ None) × (result.missing ≡ [])
             × (result.unanswered ≡ 0) × (result.silence ≡ heard_nobody) }
-        ensures nothing { (result.looked ≡ []) × (result.drawn ≡ None) }
+        ensures nothing { (result.looked ≡ []) × (result.drawn ≡ None) × (result.sought ≡ []) }
         ensures introductions { result.introductions ≡ introductions_of intervals.introduce }
         ensures shown { (result.peers.shown ≡ []) × (result.peers.gone ≡ None) }
         ensures news { (result.news.rows ≡ []) × (result.news.compared ≡ None) }
@@ -154,6 +159,7 @@ impl Joiner {
             joined: None,
             looked: Rows::new(),
             drawn: None,
+            sought: Sought::new(),
             news: News::new(),
             has_told: false,
             missing: Trace::new(),
@@ -256,12 +262,34 @@ impl Joiner {
         !at.is_alone && self.introductions.are_left()
     }
 
+    /// Whether one of those that were looked for is back: there are fewer that are held for failed or not known.
+    fn is_one_back(&self, at: Moment) -> bool
+        ensures { result ≡ is_one_back self.now at }
+    {
+        at.failed.saturating_add(self.peers.missing()) < self.sought.count()
+    }
+
+    /// Whether the member looks for others. A lone one joins those of its list instead. By rules 1 nobody is looked for: who holds
+    /// this member for failed yet would expel it.
+    fn is_searching(&self, at: Moment) -> bool
+        ensures { result ≡ is_searching self.now at }
+    {
+        let joins_listed = at.is_alone && self.peers.listed() > 0;
+        match self.rules {
+            Rules::One => false,
+            Rules::Two => !joins_listed && (at.failed > 0 || self.sought.count() > 0),
+        }
+    }
+
     /// How long after the last join a member is to be drawn.
     fn draw_rest(&self, at: Moment) -> Option<Duration>
         ensures { option_map as_nanos result ≡ draw_rest self.now at }
     {
         if self.is_introducing(at) {
             return Some(self.intervals.until_introduction());
+        }
+        if self.is_searching(at) {
+            return self.intervals.until_search(self.is_one_back(at));
         }
         self.intervals.rejoin
     }
@@ -345,22 +373,55 @@ impl Joiner {
             .next(rows.as_slice(), self.me, &mut self.rng)
     }
 
+    /// The member to join where others are looked for: one that is back, and else one that is held for failed or is missing from the
+    /// rows. Now and then one is drawn as always.
+    fn search<W: Log>(&mut self, rt: &W, rows: &Rows, now: Option<Instant>) -> Option<Endpoint>
+        ensures value { result ≡ drawn_sought self.old rows.now now }
+        ensures then { self.new ≡ with_search self.old rows.now now }
+        ensures known { IfSome result (λ peer. IsFindable self.old rows.now peer) }
+        ensures me { self.new.me ≡ self.old.me }
+        ensures list { self.new.peers.list ≡ self.old.peers.list }
+    {
+        let word = next_draw(&mut self.rng);
+        let back = self.sought.take_back(rows.as_slice(), self.me, word);
+        if back.is_some() {
+            return back;
+        }
+        if word % SEARCHES == 0 {
+            return self.draw(rt, rows, now);
+        }
+        wanted(rows.as_slice(), self.me, self.peers.list(), word)
+    }
+
+    /// The member that is drawn now: one to whom this one introduces itself, one that it looks for, or one that it joins now and then.
+    fn draw_one<W: Log>(&mut self, rt: &W, at: Moment, rows: &Rows) -> Option<Endpoint>
+        ensures value { result ≡ drawn_now self.old at rows.now }
+        ensures then { self.new ≡ with_one self.old at rows.now }
+        ensures known { IfSome result (λ peer. IsFindable self.old rows.now peer) }
+        ensures me { self.new.me ≡ self.old.me }
+        ensures list { self.new.peers.list ≡ self.old.peers.list }
+    {
+        if self.is_introducing(at) {
+            return self.introduce(rows);
+        }
+        if self.is_searching(at) {
+            return self.search(rt, rows, at.now);
+        }
+        self.draw(rt, rows, at.now)
+    }
+
     /// A member that the rows show is drawn, if it is time, and its join is due then.
     fn draw_due<W: Log>(&mut self, rt: &W, at: Moment, rows: &Rows)
         ensures then { self.new ≡ after_draw self.old at rows.now }
         ensures known { IfSome self.new.drawn (λ peer. (self.old.drawn ≡ Some peer)
-            ⊎ (IsNext self.old.peers peer ⊎ IsDrawnFrom self.old.me rows.now peer)) }
+            ⊎ IsFindable self.old rows.now peer) }
         ensures me { self.new.me ≡ self.old.me }
         ensures list { self.new.peers.list ≡ self.old.peers.list }
     {
         if !self.is_draw_due(at) {
             return;
         }
-        self.drawn = if self.is_introducing(at) {
-            self.introduce(rows)
-        } else {
-            self.draw(rt, rows, at.now)
-        };
+        self.drawn = self.draw_one(rt, at, rows);
         if self.drawn.is_none() {
             self.joined = at.now;
         }
@@ -454,12 +515,14 @@ impl Joiner {
         ensures told { TellsDue (after_look self.old at self.old.looked) at self.old.looked
             self.new }
         ensures known { IfSome self.new.drawn (λ peer. (self.old.drawn ≡ Some peer)
-            ⊎ (IsNext self.old.peers peer ⊎ IsDrawnFrom self.old.me self.old.looked peer)) }
+            ⊎ IsFindable self.old self.old.looked peer) }
         ensures me { self.new.me ≡ self.old.me }
         ensures list { self.new.peers.list ≡ self.old.peers.list }
     {
         let rows = mem::replace(&mut self.looked, Rows::new());
         self.peers.watch(rows.as_slice(), at.now);
+        self.sought
+            .watch(rows.as_slice(), self.me, self.peers.list());
         self.draw_due(rt, at, &rows);
         self.tell_due(rt, at, rows);
     }
@@ -594,9 +657,11 @@ impl Joiner {
         ensures refused { IfErr result (λ why. TurnedInVain C.limit why self.old
             (C.known caller.old) self.new (C.known caller.new)) }
     {
+        let status = caller.status();
         let at = Moment {
             now: Instant::now(rt).ok(),
-            is_alone: is_alone(caller.status()),
+            is_alone: is_alone(status),
+            failed: failed_shown(status),
             is_shown: are_shown(rt),
         };
         self.turn_at(rt, caller, at)

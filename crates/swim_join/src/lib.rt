@@ -1,5 +1,6 @@
 //! The joiner: whom a member joins, and when. It asks those of a list while it is alone, introduces itself to those that it is shown,
-//! looks at its rows now and then, and rejoins one of them. It logs what of them changed, and that nobody answers.
+//! looks for those that it holds for failed, looks at its rows now and then, and rejoins one of them. It logs what of them changed, and
+//! that nobody answers.
 #![tactic(auto)]
 
 mod draw;
@@ -10,6 +11,7 @@ mod look;
 mod news_log;
 mod peers;
 mod silence;
+mod sought;
 
 pub use intervals::{Intervals, Moment};
 pub use joiner::{Due, Joiner};

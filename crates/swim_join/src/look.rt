@@ -1,9 +1,9 @@
 //! All rows, page by page.
 
-ghost use Rattle.std.specs.Prelude.{◌≡◌, ◌⊎◌, ◌++◌, ℕ, IfOk, IfErr, OnErr};
+ghost use Rattle.std.specs.Prelude.{◌≡◌, ◌⊎◌, ◌++◌, Bool, ℕ, IfOk, IfErr, OnErr};
 ghost use Rattle.swim_member.specs.declared.event.Event.TheVariants.{Members};
 ghost use Rattle.swim_shell.specs.Calls.{Refuses};
-ghost use Rattle.swim_join.specs.Joins.{AreWhole, IsEligibleIn, LooksAll, LooksInVain, ReadsPage, place_after};
+ghost use Rattle.swim_join.specs.Joins.{AreWhole, IsShownAs, LooksAll, LooksInVain, ReadsPage, place_after};
 
 use swim_member::Event;
 use swim_news::{PAGES_MAX, Rows};
@@ -12,8 +12,8 @@ use swim_wire::{Cursor, UPDATES_MAX, Update};
 
 /// Adds the rows of a page. A row that is not in order is left out, which does not come.
 fn add_page(rows: &mut Rows, page: &[Update])
-    ensures shown { (x : ℕ) → IsEligibleIn rows.new x
-        → IsEligibleIn rows.old x ⊎ IsEligibleIn page.now x }
+    ensures shown { (held : Bool) (x : ℕ) → IsShownAs held rows.new x
+        → IsShownAs held rows.old x ⊎ IsShownAs held page.now x }
     ensures all { AreWhole (rows.old ++ page.now) → rows.new ≡ rows.old ++ page.now }
 {
     for row in page {

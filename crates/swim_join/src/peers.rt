@@ -2,7 +2,7 @@
 
 ghost use Rattle.std.specs.Prelude.{◌≡◌, ◌≤◌, ◌↔◌, [], None, IfSome, IsTrue, length, slice_get};
 ghost use Rattle.std.specs.List.{filter};
-ghost use Rattle.swim_join.specs.Joins.{IsNext, begun_again, has_gone, has_row, stepped, watched};
+ghost use Rattle.swim_join.specs.Joins.{IsNext, begun_again, has_gone, has_row, missing, stepped, watched};
 
 use arrayvec::ArrayVec;
 use std::marker::Model;
@@ -130,6 +130,13 @@ impl Peers {
         ensures most { length result.now ≤ LIST_MAX }
     {
         self.list.as_slice()
+    }
+
+    /// How many of them the rows did not show when they were read last.
+    pub(crate) fn missing(&self) -> usize
+        ensures { result ≡ missing self.now }
+    {
+        self.list.len().saturating_sub(self.shown.len())
     }
 
     /// Whether each was joined once.

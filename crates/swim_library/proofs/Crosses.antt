@@ -16,6 +16,8 @@ use Rattle.swim_join.specs.contracts.news_log.News as News
 use Rattle.swim_join.specs.contracts.news_log.News.TheInside as NewsInside
 use Rattle.swim_join.specs.contracts.peers.Peers as Peers
 use Rattle.swim_join.specs.contracts.peers.Peers.TheInside as PeersInside
+use Rattle.swim_join.specs.contracts.sought.Sought as Sought
+use Rattle.swim_join.specs.contracts.sought.Sought.TheInside as SoughtInside
 use Rattle.swim_library.specs.contracts.running.Running as Running
 
 pub Call-send : IsSend Call.the_row
@@ -67,8 +69,11 @@ Peers-send = view_send PeersInside.the_row _ _ _ _ (recorded_send PeersInside.th
 pub News-send : IsSend News.the_row
 News-send = view_send NewsInside.the_row _ _ _ _ (recorded_send NewsInside.the_field.row _ _ NewsInside.the_type.to_one (struct_send (shape NewsInside.the_type) (search (sendable, crosses, Trace-send) depth 60 fits 20000, (search (sendable, crosses, Trace-send) depth 60 fits 20000, (search (sendable, crosses, Trace-send) depth 60 fits 20000, tt)))))
 
+pub Sought-send : IsSend Sought.the_row
+Sought-send = view_send SoughtInside.the_row _ _ _ _ (recorded_send SoughtInside.the_field.row _ _ SoughtInside.the_type.to_one (struct_send (shape SoughtInside.the_type) (search (sendable, crosses) depth 60 fits 20000, tt)))
+
 pub Joiner-send : IsSend Joiner.the_row
-Joiner-send = view_send JoinerInside.the_row _ _ _ _ (recorded_send JoinerInside.the_field.row _ _ JoinerInside.the_type.to_one (struct_send (shape JoinerInside.the_type) (search (sendable, crosses, Trace-send) depth 60 fits 20000, (search (sendable, crosses, Trace-send) depth 60 fits 20000, (search (sendable, Peers-send), (search (sendable, crosses, Trace-send) depth 60 fits 20000, (search (sendable, crosses, Trace-send) depth 60 fits 20000, (search (sendable, crosses, Trace-send) depth 60 fits 20000, (search (sendable, crosses, Trace-send) depth 60 fits 20000, (search (sendable, crosses, Trace-send) depth 60 fits 20000, (search (sendable, crosses, Trace-send) depth 60 fits 20000, (search (sendable, crosses, Trace-send) depth 60 fits 20000, (search (sendable, News-send), (search (sendable, crosses, Trace-send) depth 60 fits 20000, (search (sendable, crosses, Trace-send) depth 60 fits 20000, (search (sendable, crosses, Trace-send) depth 60 fits 20000, (search (sendable, crosses, Trace-send) depth 60 fits 20000, tt)))))))))))))))))
+Joiner-send = view_send JoinerInside.the_row _ _ _ _ (recorded_send JoinerInside.the_field.row _ _ JoinerInside.the_type.to_one (struct_send (shape JoinerInside.the_type) (search (sendable, crosses, Trace-send) depth 60 fits 20000, (search (sendable, crosses, Trace-send) depth 60 fits 20000, (search (sendable, Peers-send), (search (sendable, crosses, Trace-send) depth 60 fits 20000, (search (sendable, crosses, Trace-send) depth 60 fits 20000, (search (sendable, crosses, Trace-send) depth 60 fits 20000, (search (sendable, crosses, Trace-send) depth 60 fits 20000, (search (sendable, crosses, Trace-send) depth 60 fits 20000, (search (sendable, crosses, Trace-send) depth 60 fits 20000, (search (sendable, crosses, Trace-send) depth 60 fits 20000, (search (sendable, Sought-send), (search (sendable, News-send), (search (sendable, crosses, Trace-send) depth 60 fits 20000, (search (sendable, crosses, Trace-send) depth 60 fits 20000, (search (sendable, crosses, Trace-send) depth 60 fits 20000, (search (sendable, crosses, Trace-send) depth 60 fits 20000, tt))))))))))))))))))
 
 pub Running-send : IsSend Running.the_row
 Running-send = search (sendable, crosses, Trace-send, Node-send, FileDisk-send, Joiner-send) depth 60 fits 20000

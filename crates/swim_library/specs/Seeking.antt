@@ -102,11 +102,12 @@ pub record TakesSeeds (seeds : List SwimEndpoint) (random : ℕ) (old new : Runn
 
 -- ---- a turn
 
--- what a turn goes by: what the program's clock says, and whether the member is alone; its joiner
--- logs nothing
+-- what a turn goes by: what the program's clock says, whether the member is alone, and how many it
+-- holds for failed; its joiner logs nothing
 pub record IsMoment (running : Running) (now : ℕ) (at : Moment) : Type 0 where
   pub clock : IsTimeAfter running.seeking.began now at.now
   pub alone : at.is_alone ≡ is_alone (Some (status_of running.node.base running.node.entries))
+  pub failed : at.failed ≡ (status_of running.node.base running.node.entries).confirmed
   pub shown : at.is_shown ≡ false
 
 -- the joiner is this one now, and nothing else changed

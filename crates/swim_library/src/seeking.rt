@@ -206,6 +206,7 @@ impl Running {
         Moment {
             now: time_after(self.seeking.began, now),
             is_alone: is_alone(Some(self.node.status())),
+            failed: self.node.status().confirmed,
             is_shown: false,
         }
     }

@@ -95,7 +95,7 @@ fn pings_over_three_eras(rt: HostRuntime) -> Result<(), Fail> {
 
 /// The peer of the list is joined first. Then all members are read for their news: 10.0.0.1:7000 and 10.0.0.3:7000. Where it
 /// is time for a join, the second is drawn if the next of the list is known. Else it's the list's turn, and by rules 2, where
-/// the generator's first word is an odd one.
+/// the generator's first word is an odd one. But by rules 2 one of the list that no row shows is looked for first.
 #[test]
 fn joins_listed_and_drawn(rt: HostRuntime) -> Result<(), Fail> {
     let me = endpoint(1).expect(&rt, "an endpoint");
@@ -103,9 +103,11 @@ fn joins_listed_and_drawn(rt: HostRuntime) -> Result<(), Fail> {
         (Rules::One, None, [2, 2], 3, None),
         (Rules::One, Some(Duration::ZERO), [2, 1], 4, endpoint(3)),
         (Rules::One, Some(Duration::ZERO), [2, 4], 4, endpoint(4)),
-        (Rules::Two, Some(Duration::ZERO), [2, 1], 4, endpoint(1)),
+        (Rules::Two, Some(Duration::ZERO), [3, 1], 4, endpoint(1)),
+        (Rules::Two, Some(Duration::ZERO), [2, 1], 4, endpoint(2)),
     ] {
-        let peer = endpoint(2).expect(&rt, "an endpoint");
+        let [first_listed, _] = list;
+        let peer = endpoint(first_listed).expect(&rt, "an endpoint");
         let mut caller = Direct::<8>::new(rt.alloc())?;
         let mut peers = ArrayVec::new();
         for last in list {
