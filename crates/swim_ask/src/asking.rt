@@ -184,7 +184,7 @@ pub struct Answered {
 
 /// The exit where a line has an end within: what follows that would be another line, whose answer nobody reads.
 fn refuse_lines(alloc: Global, line: &str) -> Result<(), Failure>
-    ensures one { IsOk result ↔ Lacks 10 line.now }
+    ensures { IsOk result → Lacks 10 line.now }
 {
     match split_at_byte(line.as_bytes(), b'\n') {
         None => Ok(()),
