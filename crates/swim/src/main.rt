@@ -469,6 +469,9 @@ fn simulate_group(rt: &HostRuntime, asked: &Asked<'_>) -> Result<ExitCode, Failu
         Err(fault) => fault,
     };
     let _ = eprintln!(rt; "swim: {fault}");
+    if let Some(allowed) = fault.allowed() {
+        let _ = eprintln!(rt; "  {allowed}");
+    }
     Ok(match fault {
         AskedFault::Plan(_) | AskedFault::Sweep(_) => ExitCode::from(REFUSED),
         _ => ExitCode::FAILURE,

@@ -3,6 +3,7 @@
 //! broken.
 #![tactic(auto)]
 
+mod allowed;
 mod asking;
 mod broken;
 mod fault;
@@ -20,6 +21,7 @@ mod sweep;
 mod sweeping;
 mod table;
 
+pub use allowed::Allowed;
 pub use asking::{Asked, answer};
 pub use broken::told;
 pub use fault::AskedFault;
