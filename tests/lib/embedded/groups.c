@@ -5,8 +5,9 @@
  *
  *     groups pause      one rests for 300 ticks, and goes on as the page says: nobody else is confirmed by anybody
  *     groups made-up    the same, but for making up for its ticks by swim_tick: others are confirmed, so the trial before sees it
- *     groups cut        the group is cut in halves for 300 ticks: a minute later it is one
- *     groups alone      the same without seeds, so that nobody joins again: it stays in two, so the trial before sees it
+ *     groups cut        the group is cut in halves for 300 ticks: fifteen seconds later it is one
+ *     groups one        one member is cut off for 300 ticks: the same
+ *     groups alone      as cut, without seeds, so that nobody joins again: a minute later it is two, so the trials before see it
  */
 #include "swim.h"
 
@@ -21,6 +22,7 @@
 #define MINUTE 600 /* ticks */
 #define TICK_MS 100
 #define SECONDS_30 300
+#define SECONDS_15 150
 
 struct datagram {
     struct swim_endpoint from;
@@ -36,6 +38,7 @@ static struct one {
 } group[MEMBERS];
 
 static int is_cut, wrong;
+static size_t cut_at = MEMBERS / 2; /* those before this place are one part */
 static uint64_t state = 1;
 
 static uint64_t draw(void) {
@@ -58,7 +61,7 @@ static struct swim_endpoint at(size_t place) {
 }
 
 /* Whether nothing goes from one to another. */
-static int is_parted(size_t from, size_t to) { return is_cut && (from < MEMBERS / 2) != (to < MEMBERS / 2); }
+static int is_parted(size_t from, size_t to) { return is_cut && (from < cut_at) != (to < cut_at); }
 
 static void send_all(size_t place) {
     struct datagram sent = {.from = at(place)};
@@ -174,15 +177,15 @@ static int rest(int makes_up) {
     return most;
 }
 
-/* The group is cut and whole again. Gives how many members then hold all for alive, after a minute. */
-static int cut(void) {
+/* The group is cut and whole again. Gives how many members then hold all for alive, after so many ticks. */
+static int cut(int ticks) {
     int whole = 0;
     is_cut = 1;
     live(SECONDS_30, MEMBERS);
     is_cut = 0;
-    if (alive_at(0) != MEMBERS / 2 - 1)
+    if (alive_at(0) != (int)cut_at - 1)
         wrong++, printf("the cut was none: member 0 holds %d others for alive\n", alive_at(0));
-    live(MINUTE, MEMBERS);
+    live(ticks, MEMBERS);
     for (size_t place = 0; place < MEMBERS; place++)
         whole += alive_at(place) == MEMBERS - 1;
     return whole;
@@ -202,9 +205,11 @@ int main(int argc, char **argv) {
     else if (strcmp(trial, "made-up") == 0)
         found = rest(1), want(found > 0, "confirms of others after ticks that were made up", found);
     else if (strcmp(trial, "cut") == 0)
-        found = cut(), want(found == MEMBERS, "members that know all a minute after a cut", found);
+        found = cut(SECONDS_15), want(found == MEMBERS, "members that know all 15 seconds after a cut", found);
+    else if (strcmp(trial, "one") == 0)
+        cut_at = 1, found = cut(SECONDS_15), want(found == MEMBERS, "members that know all 15 seconds after one was cut off", found);
     else if (strcmp(trial, "alone") == 0)
-        found = cut(), want(found == 0, "members that know all a minute after a cut, without a join", found);
+        found = cut(MINUTE), want(found == 0, "members that know all a minute after a cut, without a join", found);
     else
         return 2;
     for (size_t place = 0; place < MEMBERS; place++)
