@@ -20,14 +20,20 @@ impl fmt::Display for Allowed {
     fn fmt<W: fmt::Write>(&self, f: &mut fmt::Formatter<W>) -> fmt::Result {
         match self {
             Allowed::Number(PlanKey::Direct) => {
-                write!(f, "`direct` takes a whole number of ticks, from 1 and less than `period`")
+                write!(
+                    f,
+                    "`direct` takes a whole number of ticks, from 1 and less than `period`"
+                )
             }
             Allowed::Number(key) => {
                 let range = key.range();
                 let (least, most) = (range.least, range.most);
                 write!(f, "`{key}` takes a whole number, {least} to {most}")
             }
-            Allowed::Key => write!(f, "no plan has such a key: SIMULATE.md has those that there are"),
+            Allowed::Key => write!(
+                f,
+                "no plan has such a key: SIMULATE.md has those that there are"
+            ),
             Allowed::Toml => write!(f, "it is no TOML, whose lines are `key = number` here"),
         }
     }
