@@ -29,20 +29,20 @@ fn without_datagrams(alloc: Global, me: Endpoint, error: &io::Error) -> Failure 
 }
 
 /// The exit where the system refuses the control socket.
-fn without_doors(alloc: Global, control: ControlPlace, error: &io::Error) -> Failure {
+fn without_doors(alloc: Global, control: &ControlPlace, error: &io::Error) -> Failure {
     let exit = Exit::of(error, Exit::Socket);
-    let control = NamedControl(control);
+    let control = NamedControl(*control);
     Failure::about(alloc, exit, format_args!("{control}: {error}"))
 }
 
 /// The system's error where it binds no control socket at this place now, as one that is taken. What is bound is let go.
-fn try_control<R>(rt: &R, control: ControlPlace) -> io::Result<()>
+fn try_control<R>(rt: &R, control: &ControlPlace) -> io::Result<()>
 where
     R: Net<Listener = TcpListener, Stream = TcpStream> + Files<File = File>,
 {
     match control {
         ControlPlace::Tcp(endpoint) => {
-            TcpListener::bind(rt, address_of(endpoint))?;
+            TcpListener::bind(rt, address_of(*endpoint))?;
             Ok(())
         }
         ControlPlace::Unix(path) => refuse_taken(rt, path.as_str()),
@@ -59,17 +59,17 @@ pub(crate) struct HeldControl {
 
 impl HeldControl {
     /// The control socket at this place, and what holds it.
-    fn bind<R>(rt: &R, control: ControlPlace) -> io::Result<(ControlListener, HeldControl)>
+    fn bind<R>(rt: &R, control: &ControlPlace) -> io::Result<(ControlListener, HeldControl)>
     where
         R: Net<Listener = TcpListener, Stream = TcpStream> + Files<File = File> + AllocGlobal,
     {
         let (listener, file) = match control {
             ControlPlace::Tcp(endpoint) => {
-                let listener = TcpListener::bind(rt, address_of(endpoint))?;
+                let listener = TcpListener::bind(rt, address_of(*endpoint))?;
                 (ControlListener::Tcp(listener), None)
             }
             ControlPlace::Unix(path) => {
-                let (listener, file) = SocketFile::bind(rt, path)?;
+                let (listener, file) = SocketFile::bind(rt, *path)?;
                 (ControlListener::Unix(listener), Some(file))
             }
         };
@@ -93,13 +93,13 @@ pub fn try_addresses<R>(rt: &R, told: &RunSettings) -> Result<(), Failure>
 where
     R: Net<Listener = TcpListener, Stream = TcpStream> + Files<File = File> + AllocGlobal,
 {
-    let (me, control, alloc) = (told.settings.me, told.control, rt.alloc());
+    let (me, alloc) = (told.settings.me, rt.alloc());
     let at = own_address(alloc, me)?;
     if let Err(error) = UdpSocket::bind(rt, at) {
         return Err(without_datagrams(alloc, me, &error));
     }
-    if let Err(error) = try_control(rt, control) {
-        return Err(without_doors(alloc, control, &error));
+    if let Err(error) = try_control(rt, &told.control) {
+        return Err(without_doors(alloc, &told.control, &error));
     }
     Ok(())
 }
@@ -125,13 +125,13 @@ pub(crate) fn bind<'a, R, C: Clock + Log>(
 where
     R: Net<Listener = TcpListener, Stream = TcpStream> + Files<File = File> + AllocGlobal,
 {
-    let (me, control) = (told.settings.me, told.control);
+    let me = told.settings.me;
     let (wait, alloc) = (wait_of(told.tick_ms), rt.alloc());
     let at = own_address(alloc, me)?;
     let datagrams = bind_datagrams(rt, clock, alloc, at, wait);
     let datagrams = datagrams.map_err(|error: io::Error| without_datagrams(alloc, me, &error))?;
-    let refused = |error: io::Error| without_doors(alloc, control, &error);
-    let (listener, held) = HeldControl::bind(rt, control).map_err(&refused)?;
+    let refused = |error: io::Error| without_doors(alloc, &told.control, &error);
+    let (listener, held) = HeldControl::bind(rt, &told.control).map_err(&refused)?;
     let sockets = Sockets::new(datagrams, listener, clock, waits, connections, wait);
     Ok((sockets.map_err(&refused)?, held))
 }

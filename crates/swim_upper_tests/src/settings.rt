@@ -4,7 +4,8 @@ use crate::same::{given, holds, same, same_at};
 use std::alloc::{AllocError, Global};
 use std::test::Fail;
 use swim_settings::{
-    DefaultTimes, Key, Level, Place, RunSettings, read_settings, restart_keys, show_settings,
+    ControlPlace, DefaultTimes, Key, Level, Place, RunSettings, read_settings, restart_keys,
+    show_settings,
 };
 use swim_wire::Endpoint;
 use swim_words::Word;
@@ -19,6 +20,8 @@ control = '127.0.0.1:8000'
 /// Lines that are taken, each after its key. Two lines of a file are parted by a semicolon.
 const TAKEN: &str = "group: group = 0
 group: group = 9223372036854775807
+control: control = './c'
+control: control = '/run/swim/control'
 preset: preset = 'local'
 preset: preset = 'lan'
 preset: preset = 'wan'
@@ -66,6 +69,7 @@ me: me = '[::1]:7000'
 control
 control: control = 8000
 control: control = 'localhost:8000'
+control: control = 'control'
 preset: preset = ''
 preset: preset = 'Lan'
 preset: preset = 'lan '
@@ -196,7 +200,11 @@ fn defaults(rt: HostRuntime) -> Result<(), Fail> {
     same(&rt, file.as_str(), "s");
     same(&rt, settings.group, 7);
     same(&rt, Some(settings.me), Endpoint::new(0x0a00_0001, 7000));
-    same(&rt, Some(control), Endpoint::new(0x7f00_0001, 8000));
+    let local = Endpoint::new(0x7f00_0001, 8000);
+    holds(
+        &rt,
+        matches!(control, ControlPlace::Tcp(at) if local == Some(at)),
+    );
     holds(&rt, preset.is_none());
     same(&rt, tick_ms, 100);
     same(&rt, settings.lambda, 3);
