@@ -183,8 +183,8 @@ static int cut(int ticks) {
     is_cut = 1;
     live(SECONDS_30, MEMBERS);
     is_cut = 0;
-    if (alive_at(0) != (int)cut_at - 1)
-        wrong++, printf("the cut was none: member 0 holds %d others for alive\n", alive_at(0));
+    if (alive_at(MEMBERS - 1) != MEMBERS - (int)cut_at - 1)
+        wrong++, printf("the cut was none: the last member holds %d others for alive\n", alive_at(MEMBERS - 1));
     live(ticks, MEMBERS);
     for (size_t place = 0; place < MEMBERS; place++)
         whole += alive_at(place) == MEMBERS - 1;
